@@ -1,0 +1,4 @@
+pub mod Bench
+pub mod Files
+pub mod Opened
+pub mod Overload

@@ -1,0 +1,4 @@
+pub mod BodyLaws
+pub mod Ends
+pub mod Held
+pub mod Instructions

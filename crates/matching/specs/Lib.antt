@@ -1,0 +1,2 @@
+pub mod ConversionEntries
+pub mod Conversions

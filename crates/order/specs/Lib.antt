@@ -1,0 +1,4 @@
+pub mod Orders
+pub mod Replay
+pub mod Snapshots
+pub mod States

@@ -1,0 +1,84 @@
+-- The table's own judgement, numbers 7 to 9, whatever the table came from. Document 01, "Numbers by who causes them":
+-- "Then 6, 7, 8, 9, 10, 11, each over the whole table."
+-- A fault stands at a site of the table; who read the table says which record that is.
+-- Assumes nothing.
+use Prim.Native.Nat.{ℕ, suc, _+_, _-_}
+use mathlib.Core.Bool.{Bool, false, not, _&&_, _||_}
+use mathlib.Core.List.{List, [], _∷_, map}
+use lib.ListN.{length, getD}
+use lib.Dec.{leb, ltb, eqb}
+use Rattle.taskfile.specs.declared.Instruction.{Instruction}
+use Rattle.taskfile.specs.declared.Table.{Table}
+use Rattle.taskfile.specs.declared.Task.{Task}
+use Rattle.taskfile.specs.declared.TaskEntry.{TaskEntry}
+use Rattle.taskfile.specs.Chains.{Chains}
+use Rattle.taskfile.specs.Checked.{Checked, noneOf, _>>_}
+use Rattle.taskfile.specs.Lists.{from, upTo, each}
+use Rattle.taskfile.specs.Tables.{tasksOf, taskOf, bodyOf, ceilingsOf, endInstruction}
+
+-- a site of a table: its header, a task, or the instruction at a position of a task's body
+pub data Site : Type 0 where
+  header : Site
+  task : Task → Site
+  instruction : Task → ℕ → Site
+
+unfoldable pub taskNumbers : Table → List Task
+taskNumbers t = map (λ i. record { 0 = i }) (upTo (length (tasksOf t)))
+
+-- the instruction at position p of task i
+unfoldable pub instructionOf : Table → Task → ℕ → Instruction
+instructionOf t i p = getD (bodyOf (taskOf t i)) p endInstruction
+
+-- all instructions in chain order, task by task
+unfoldable pub instructionSites : Table → List Site
+instructionSites t =
+    each (taskNumbers t) (λ i. map (λ p. instruction i p) (upTo (length (bodyOf (taskOf t i)))))
+
+-- operations by number, of those that a judgement asks for
+unfoldable pub isEnd : Instruction → Bool
+isEnd i = eqb (i .operation) 0
+
+unfoldable pub isSkip : Instruction → Bool
+isSkip i = eqb (i .operation) 6 || eqb (i .operation) 7
+
+unfoldable pub isAcquire : Instruction → Bool
+isAcquire i = eqb (i .operation) 9
+
+unfoldable pub isRelease : Instruction → Bool
+isRelease i = eqb (i .operation) 10
+
+-- a fault of instructions, or of tasks, as a fault of sites
+unfoldable pub atInstruction : (Task → ℕ → Bool) → Site → Bool
+atInstruction fault header = false
+atInstruction fault (task i) = false
+atInstruction fault (instruction i p) = fault i p
+
+unfoldable pub atTask : (Task → Bool) → Site → Bool
+atTask fault header = false
+atTask fault (task i) = fault i
+atTask fault (instruction i p) = false
+
+-- "7 BODY: last instruction not End (place: it), or a skip beyond it (place: the skip)"
+unfoldable pub bodyFault : Table → Task → ℕ → Bool
+bodyFault t i p =
+    let last = length (bodyOf (taskOf t i)) - 1 in
+    let here = instructionOf t i p in
+    eqb p last && not (isEnd here) || isSkip here && ltb last (p + 1 + here .c)
+
+-- "8 RATE: a period above the previous task's"
+unfoldable pub rateFault : Table → Task → Bool
+rateFault t i = ltb 0 (i .0) && ltb (taskOf t (record { 0 = i .0 - 1 }) .period) (taskOf t i .period)
+
+-- "9 CEILING: Acquire or Release of a lock not in the table, or Acquire of one with a ceiling below the task's base"
+unfoldable pub ceilingFault : Table → Task → ℕ → Bool
+ceilingFault t i p =
+    let here = instructionOf t i p in
+    (isAcquire here || isRelease here) && leb (length (ceilingsOf t)) (here .a)
+    || isAcquire here && ltb (getD (ceilingsOf t) (here .a) 0) (i .0)
+
+-- 7, 8 and 9, each over the whole table, at the first such site
+unfoldable pub judged : Table → Checked Site (Unit {0})
+judged t = do
+  noneOf 7 (atInstruction (bodyFault t)) (instructionSites t)
+  noneOf 8 (atTask (rateFault t)) (map (λ i. task i) (taskNumbers t))
+  noneOf 9 (atInstruction (ceilingFault t)) (instructionSites t)

@@ -1,0 +1,13 @@
+pub mod Chains
+pub mod Checked
+pub mod CheckedLaws
+pub mod File
+pub mod Judgement
+pub mod JudgementLaws
+pub mod ListLaws
+pub mod Lists
+pub mod Pairs
+pub mod Records
+pub mod TableLaws
+pub mod Tables
+pub mod Tests

@@ -1,0 +1,77 @@
+-- Short words for lists and choices that the definitions of every section use.
+-- The tests are the library's: `leb a b` says that a is at most b, `ltb` below, `eqb` equal.
+-- Assumes nothing.
+use Prim.Native.Nat.{ℕ, zero, suc, _+_, _≤_}
+use mathlib.Core.Bool.{Bool, true, false, _&&_, _||_}
+use mathlib.Core.List.{List, [], _∷_, _++_}
+use mathlib.Core.Option.{Option, none, some}
+use lib.ListN.{length, take, replicate}
+use lib.Dec.{eqb}
+
+unfoldable pub if_then_else_ : {A : Type 0} → Bool → A → A → A
+if_then_else_ true x y = x
+if_then_else_ false x y = y
+
+infix 5 if_then_else_
+-- n numbers from `start` on
+unfoldable pub from : ℕ → ℕ → List ℕ
+from start zero = []
+from start (suc n) = start ∷ from (suc start) n
+
+-- 0 to n - 1
+unfoldable pub upTo : ℕ → List ℕ
+upTo n = from 0 n
+
+-- is the number in the list?
+unfoldable pub member : ℕ → List ℕ → Bool
+member x [] = false
+member x (y ∷ ys) = eqb x y || member x ys
+
+-- does the test hold of every element?
+unfoldable pub all : {A : Type 0} → (A → Bool) → List A → Bool
+all test [] = true
+all test (x ∷ xs) = test x && all test xs
+
+-- does it hold of some element?
+unfoldable pub any : {A : Type 0} → (A → Bool) → List A → Bool
+any test [] = false
+any test (x ∷ xs) = test x || any test xs
+
+-- the elements of which the test holds
+unfoldable pub only : {A : Type 0} → (A → Bool) → List A → List A
+only test [] = []
+only test (x ∷ xs) = if test x then x ∷ only test xs else only test xs
+
+-- the first element of which the test holds
+unfoldable pub firstWith : {A : Type 0} → (A → Bool) → List A → Option A
+firstWith test [] = none
+firstWith test (x ∷ xs) = if test x then some x else firstWith test xs
+
+-- one list for each element, joined
+unfoldable pub each : {A B : Type 0} → List A → (A → List B) → List B
+each [] f = []
+each (x ∷ xs) f = f x ++ each xs f
+
+-- are the two lists the same, element by element?
+unfoldable pub same : List ℕ → List ℕ → Bool
+same [] [] = true
+same [] (y ∷ ys) = false
+same (x ∷ xs) [] = false
+same (x ∷ xs) (y ∷ ys) = eqb x y && same xs ys
+
+-- the first and the last element, or d where there is none
+unfoldable pub firstOr : {A : Type 0} → A → List A → A
+firstOr d [] = d
+firstOr d (x ∷ xs) = x
+
+unfoldable pub lastOr : {A : Type 0} → A → List A → A
+lastOr d [] = d
+lastOr d (x ∷ xs) = lastOr x xs
+
+unfoldable pub sum : List ℕ → ℕ
+sum [] = 0
+sum (x ∷ xs) = x + sum xs
+
+-- the list as an array of n elements: filled up with x, cut if it is longer
+unfoldable pub padded : {A : Type 0} → ℕ → A → List A → List A
+padded n x xs = take n (xs ++ replicate n x)

@@ -1,0 +1,57 @@
+-- What a table holds, and the table that a file's chains spell. Document 01, "The task file".
+-- The arrays of a `Table` are longer than what they hold; `tasksOf`, `bodyOf` and `ceilingsOf` are what they hold, and
+-- the sections above read a table by these alone.
+-- Assumes nothing.
+use Prim.Native.Nat.{ℕ}
+use mathlib.Core.List.{List, [], map}
+use lib.ListN.{length, getD, take, drop}
+use Rattle.taskfile.specs.declared.Instruction.{Instruction}
+use Rattle.taskfile.specs.declared.Table.{Table}
+use Rattle.taskfile.specs.declared.Task.{Task}
+use Rattle.taskfile.specs.declared.TaskEntry.{TaskEntry}
+use Rattle.taskfile.specs.Chains.{Chains, TaskChain, mostInstructions, mostTasks, mostLocks}
+use Rattle.taskfile.specs.Lists.{padded}
+use Rattle.taskfile.specs.Records.{File, byteAt, wideAt, instructionAt}
+
+-- the instruction End, and a task with no body: what fills the arrays up
+abbrev pub endInstruction : Instruction
+endInstruction = record { operation = 0; a = 0; b = 0; c = 0 }
+
+unfoldable pub noTask : TaskEntry
+noTask = record { execution = 0; period = 0; arrival = 0; length = 0; body = padded mostInstructions endInstruction [] }
+
+-- "Tasks and locks are numbered from 0 in chain order."
+unfoldable pub tasksOf : Table → List TaskEntry
+tasksOf t = take (t .tasks) (t .entries)
+
+unfoldable pub taskOf : Table → Task → TaskEntry
+taskOf t i = getD (tasksOf t) (i .0) noTask
+
+unfoldable pub bodyOf : TaskEntry → List Instruction
+bodyOf e = take (e .length) (e .body)
+
+unfoldable pub ceilingsOf : Table → List ℕ
+ceilingsOf t = take (t .locks) (t .ceilings)
+
+-- "Kind 2, task: .. 4-7 execution time C, 8-11 period P, 12-15 first arrival A."
+unfoldable pub entryAt : File → TaskChain → TaskEntry
+entryAt f c =
+    record {
+      execution = wideAt f (c .taskRecord) 4;
+      period = wideAt f (c .taskRecord) 8;
+      arrival = wideAt f (c .taskRecord) 12;
+      length = length (c .body);
+      body = padded mostInstructions endInstruction (map (instructionAt f) (c .body));
+    }
+
+-- "Kind 1, header: .. 4-7 window W, 8-15 the initial values of shared variables 0 to 7. .. Kind 3, lock: byte 2 ceiling"
+unfoldable pub tableAt : File → Chains → Table
+tableAt f c =
+    record {
+      window = wideAt f 0 4;
+      store = take 8 (drop 8 f);
+      tasks = length (c .tasks);
+      entries = padded mostTasks noTask (map (entryAt f) (c .tasks));
+      locks = length (c .locks);
+      ceilings = padded mostLocks 0 (map (λ r. byteAt f r 2) (c .locks));
+    }

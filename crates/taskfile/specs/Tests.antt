@@ -1,0 +1,34 @@
+-- Laws of tests joined by `&&` and `||`: what a test that holds says of its parts, and the other way round.
+-- Assumes nothing.
+use mathlib.Core.Path.{_≡_, refl}
+use mathlib.Core.Logic.{_⊎_, inl, inr}
+use mathlib.Core.Bool.{Bool, true, false, not, _&&_, _||_, true≢false, false≢true}
+
+pub both : (p q : Bool) → (p && q) ≡ true → (p ≡ true) × (q ≡ true)
+both true q h = (refl, h)
+both false q h = absurd (false≢true h)
+
+pub and-holds : (p q : Bool) → p ≡ true → q ≡ true → (p && q) ≡ true
+and-holds true q h k = k
+and-holds false q h k = h
+
+pub either : (p q : Bool) → (p || q) ≡ true → (p ≡ true) ⊎ (q ≡ true)
+either true q h = inl refl
+either false q h = inr h
+
+pub or-left : (p q : Bool) → p ≡ true → (p || q) ≡ true
+or-left true q h = refl
+or-left false q h = absurd (false≢true h)
+
+pub or-right : (p q : Bool) → q ≡ true → (p || q) ≡ true
+or-right true q h = refl
+or-right false q h = h
+
+-- a test holds or it does not
+pub decided : (p : Bool) → (p ≡ true) ⊎ (p ≡ false)
+decided true = inl refl
+decided false = inr refl
+
+pub not-both : (p : Bool) → p ≡ true → p ≡ false → ⊥
+not-both true h k = true≢false k
+not-both false h k = false≢true h

@@ -1,0 +1,9 @@
+pub mod Accepted
+pub mod AcceptedLaws
+pub mod JobLaws
+pub mod Jobs
+pub mod ReadEntries
+pub mod RelationLaws
+pub mod Relations
+pub mod Response
+pub mod ResponseLaws

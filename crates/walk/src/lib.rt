@@ -1,0 +1,20 @@
+// The walk: what its entry answers. Document 01, "Orders of steps" and "Numbers by who causes them".
+
+// Whether some complete order fails. A walk that was refused has no verdict.
+pub enum Verdict {
+    None,
+    Holds,
+    Fails,
+}
+
+// What the walk's entry answers: number and place, the verdict and the count of moves; of a walk that fails
+// also the first failing order's length, end store and failed jobs.
+pub struct WalkAnswer {
+    pub number: u8,
+    pub place: u32,
+    pub verdict: Verdict,
+    pub count: u64,
+    pub length: u32,
+    pub store: [u8; 8],
+    pub failed: [bool; 32],
+}
