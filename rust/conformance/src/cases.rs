@@ -1,0 +1,59 @@
+//! Tables and bytes that document 01 gives.
+
+use generator::{code, InstructionDescription, TableDescription, TaskDescription};
+use interpreter::timing::{accept, Accepted};
+
+/// The order in the sheet of table X.
+pub const ORDER_OF_X: [u8; 8] = [0, 16, 16, 16, 0, 0, 0, 0];
+
+/// Table X of document 01, in walk order: record 1 is task 0, 7 is task 1.
+pub fn table_x() -> TableDescription {
+    let reader = [code::load(0, 0), code::load(1, 0), code::skip_if_equal(0, 1, 1), code::assert(2)];
+    let writer = [code::set(0, 1), code::store(0, 0), code::end()];
+    TableDescription::new(
+        5,
+        vec![
+            TaskDescription::new([2, 8, 0], &[&reader[..], &[code::end()]].concat()),
+            TaskDescription::new([1, 4, 1], &writer),
+        ],
+    )
+}
+
+/// The plan of case P10.
+pub fn plan_of_x() -> Vec<u8> {
+    plan(&[[0; 8], [1, 0, 0, 0, 0, 0, 0, 0]], &[&[0, 1, 1, 1, 1], &[0, 0, 0]])
+}
+
+/// A plan's bytes from its guesses and each job's rounds; all values 0.
+pub fn plan(guesses: &[[u8; 8]], rounds: &[&[u8]]) -> Vec<u8> {
+    let mut bytes = vec![guesses.len() as u8];
+    bytes.extend(guesses.concat());
+    bytes.extend(rounds.concat().iter().flat_map(|round| [*round, 0]));
+    bytes
+}
+
+/// A table of tasks given by C, P and A, lowest first, each with the same body.
+pub fn tasks(window: u32, times: &[[u32; 3]], body: &[InstructionDescription]) -> TableDescription {
+    let tasks = times.iter().map(|times| TaskDescription::new(*times, body)).collect();
+    TableDescription::new(window, tasks)
+}
+
+/// A table of tasks given by C and P, all A 0, each with the body End, in a window of 1.
+pub fn rates(times: &[(u32, u32)]) -> TableDescription {
+    let times: Vec<[u32; 3]> = times.iter().map(|(c, p)| [*c, *p, 0]).collect();
+    tasks(1, &times, &[code::end()])
+}
+
+/// A file with some of its bytes replaced.
+pub fn edited(file: &[u8], edits: &[(usize, u8)]) -> Vec<u8> {
+    let mut bytes = file.to_vec();
+    for (at, byte) in edits {
+        bytes[*at] = *byte;
+    }
+    bytes
+}
+
+/// The accepted table of a file known to be accepted.
+pub fn accepted(file: &[u8]) -> Accepted {
+    accept(file).expect("the file is accepted")
+}

@@ -1,0 +1,12 @@
+//! Deterministic generators of task files for tests: tables with their own description and writer,
+//! damaged files, random bytes and hostile files. Nothing here depends on an interpreter.
+
+pub mod description;
+pub mod files;
+pub mod hostile;
+pub mod random;
+pub mod tables;
+
+pub use description::{code, InstructionDescription, TableDescription, TaskDescription};
+pub use random::Random;
+pub use tables::{random_nest, random_race, random_table, Sizes};

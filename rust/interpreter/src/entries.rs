@@ -1,0 +1,180 @@
+//! The entries and their answers: the section "Numbers by who causes them".
+
+use crate::numbers::{refuse, Refusal};
+use crate::order::Ending;
+use crate::timing::{accept, Accepted, JobRecord, MOST_JOBS};
+use crate::walk::Outcome;
+use crate::{conversion, order, plan};
+
+/// Number 20: "order buffer below 512 bytes, plan buffer below 1,281, job list below 32".
+pub const ORDER_ROOM: usize = 512;
+pub const PLAN_ROOM: usize = 1281;
+
+/// "the reader its response times (0 past the last task) and job count"
+#[derive(Debug, Clone, PartialEq, Eq, Default)]
+pub struct ReadAnswer {
+    pub number: u8,
+    pub place: usize,
+    pub response_times: [u64; 8],
+    pub jobs: usize,
+}
+
+/// The answer of the job list: how many records were written.
+#[derive(Debug, Clone, PartialEq, Eq, Default)]
+pub struct JobListAnswer {
+    pub number: u8,
+    pub place: usize,
+    pub jobs: usize,
+}
+
+/// The answer of a replay or a plan check: "its end store, the set of failed jobs". Bit j of the
+/// set is job j.
+#[derive(Debug, Clone, PartialEq, Eq, Default)]
+pub struct RunAnswer {
+    pub number: u8,
+    pub place: usize,
+    pub end_store: [u8; 8],
+    pub failed_jobs: u32,
+}
+
+/// The answer of a conversion: the same "and any length written".
+#[derive(Debug, Clone, PartialEq, Eq, Default)]
+pub struct ConversionAnswer {
+    pub number: u8,
+    pub place: usize,
+    pub length: usize,
+    pub end_store: [u8; 8],
+    pub failed_jobs: u32,
+}
+
+/// A walk's verdict; `None` is the zero of a refusal.
+#[derive(Debug, Clone, Copy, PartialEq, Eq, Default)]
+pub enum Verdict {
+    #[default]
+    None,
+    Holds,
+    Fails,
+}
+
+/// "a walk its verdict and count (only these if it holds)"
+#[derive(Debug, Clone, PartialEq, Eq, Default)]
+pub struct WalkAnswer {
+    pub number: u8,
+    pub place: usize,
+    pub verdict: Verdict,
+    pub count: u64,
+    pub length: usize,
+    pub end_store: [u8; 8],
+    pub failed_jobs: u32,
+}
+
+/// "A refusal returns its number and place, every other field zero."
+macro_rules! refusal_becomes {
+    ($($answer:ident),*) => {$(
+        impl From<Refusal> for $answer {
+            fn from(refusal: Refusal) -> $answer {
+                let Refusal { number, place } = refusal;
+                $answer { number, place, ..$answer::default() }
+            }
+        }
+    )*};
+}
+refusal_becomes!(ReadAnswer, JobListAnswer, RunAnswer, ConversionAnswer, WalkAnswer);
+
+/// The answer, or the answer that a refusal becomes.
+fn settle<A: From<Refusal>>(result: Result<A, Refusal>) -> A {
+    result.unwrap_or_else(A::from)
+}
+
+/// The file's numbers first, "Then 20": "place 0, buffer untouched."
+fn accept_with_room(file: &[u8], room: usize, needed: usize) -> Result<Accepted, Refusal> {
+    let accepted = accept(file)?;
+    if room < needed { refuse(20, 0) } else { Ok(accepted) }
+}
+
+/// "An accepted conversion or failing walk zero-fills to 512 or 1,281; bytes beyond never change."
+fn write_filled(buffer: &mut [u8], room: usize, bytes: &[u8]) {
+    buffer[..room].fill(0);
+    buffer[..bytes.len()].copy_from_slice(bytes);
+}
+
+/// Reads a task file: numbers 1 to 11.
+pub fn read(file: &[u8]) -> ReadAnswer {
+    settle(accept(file).map(|accepted| {
+        let mut answer = ReadAnswer { jobs: accepted.jobs.len(), ..ReadAnswer::default() };
+        let times = &accepted.response_times;
+        answer.response_times[..times.len()].copy_from_slice(times);
+        answer
+    }))
+}
+
+/// "The job list goes into a lent list, one record a job ... Records past the last job keep their
+/// contents."
+pub fn job_list(file: &[u8], list: &mut [JobRecord]) -> JobListAnswer {
+    settle(accept_with_room(file, list.len(), MOST_JOBS).map(|accepted| {
+        let jobs = accepted.jobs.len();
+        list[..jobs].copy_from_slice(&accepted.jobs);
+        JobListAnswer { jobs, ..JobListAnswer::default() }
+    }))
+}
+
+/// An accepted order's or plan's answer.
+fn run_answer(ending: Ending) -> RunAnswer {
+    let Ending { store: end_store, failed_jobs } = ending;
+    RunAnswer { end_store, failed_jobs, ..RunAnswer::default() }
+}
+
+/// Replays an order: numbers 30 to 32 after the file's.
+pub fn replay(file: &[u8], order: &[u8]) -> RunAnswer {
+    settle(accept(file).and_then(|accepted| order::replay(&accepted, order)).map(run_answer))
+}
+
+/// Checks a round plan: numbers 40 to 45 after the file's.
+pub fn check_plan(file: &[u8], plan: &[u8]) -> RunAnswer {
+    let checked = accept(file).and_then(|accepted| plan::check(&accepted, plan));
+    settle(checked.map(|(_, ending)| run_answer(ending)))
+}
+
+/// Walks all orders of a table. The buffer takes the failing order; it is zeroed up to 512 if the
+/// walk holds or is undecided.
+pub fn walk(file: &[u8], allowance: u64, order_buffer: &mut [u8]) -> WalkAnswer {
+    let accepted = match accept_with_room(file, order_buffer.len(), ORDER_ROOM) {
+        Ok(accepted) => accepted,
+        Err(refusal) => return WalkAnswer::from(refusal),
+    };
+    let (answer, order) = match crate::walk::walk(&accepted, allowance) {
+        Outcome::Undecided => (WalkAnswer::from(Refusal { number: 21, place: 0 }), Vec::new()),
+        Outcome::Holds { count } => {
+            (WalkAnswer { verdict: Verdict::Holds, count, ..WalkAnswer::default() }, Vec::new())
+        }
+        Outcome::Fails { count, order, ending } => {
+            let Ending { store: end_store, failed_jobs } = ending;
+            let (verdict, length) = (Verdict::Fails, order.len());
+            let (number, place) = (0, 0);
+            (WalkAnswer { number, place, verdict, count, length, end_store, failed_jobs }, order)
+        }
+    };
+    write_filled(order_buffer, ORDER_ROOM, &order);
+    answer
+}
+
+/// Writes a conversion's bytes and answers with their length and what they end with.
+fn deliver(buffer: &mut [u8], room: usize, written: (Vec<u8>, Ending)) -> ConversionAnswer {
+    let (bytes, Ending { store: end_store, failed_jobs }) = written;
+    write_filled(buffer, room, &bytes);
+    ConversionAnswer { number: 0, place: 0, length: bytes.len(), end_store, failed_jobs }
+}
+
+/// Converts an order to its plan. "Conversions refuse by 30-45 and leave their buffer untouched."
+pub fn order_to_plan(file: &[u8], order: &[u8], plan_buffer: &mut [u8]) -> ConversionAnswer {
+    let converted = accept_with_room(file, plan_buffer.len(), PLAN_ROOM)
+        .and_then(|accepted| conversion::order_to_plan(&accepted, order));
+    settle(converted.map(|written| deliver(plan_buffer, PLAN_ROOM, written)))
+}
+
+/// Converts a plan to its order, with the same rules.
+pub fn plan_to_order(file: &[u8], plan: &[u8], order_buffer: &mut [u8]) -> ConversionAnswer {
+    let converted = accept_with_room(file, order_buffer.len(), ORDER_ROOM)
+        .and_then(|accepted| conversion::plan_to_order(&accepted, plan));
+    settle(converted.map(|written| deliver(order_buffer, ORDER_ROOM, written)))
+}

@@ -1,0 +1,24 @@
+//! An interpreter of document 01, written from its text alone and used as a second opinion in tests.
+//!
+//! One module renders one section of document 01. The entries, one for each thing a caller may ask,
+//! are in [`entries`] and re-exported here. Inside the modules nothing is checked twice: a value of
+//! type [`Accepted`] exists only for a file that earned no number.
+
+pub mod conversion;
+pub mod entries;
+pub mod file;
+pub mod machine;
+pub mod numbers;
+pub mod order;
+pub mod plan;
+pub mod sheet;
+pub mod timing;
+pub mod walk;
+
+pub use entries::{
+    check_plan, job_list, order_to_plan, plan_to_order, read, replay, walk, ConversionAnswer,
+    JobListAnswer, ReadAnswer, RunAnswer, Verdict, WalkAnswer,
+};
+pub use numbers::{JobNumber, Refusal, RoundNumber, TaskNumber};
+pub use sheet::sheet;
+pub use timing::{Accepted, JobRecord};

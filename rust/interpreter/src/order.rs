@@ -1,0 +1,134 @@
+//! The section "Orders of steps" up to the walk, with numbers 30 to 32.
+
+use crate::machine::{largest_value, perform, priority, Instruction, Local, Store};
+use crate::numbers::{refuse, JobNumber, Refusal, TaskNumber};
+use crate::timing::Accepted;
+
+/// What a complete order or a legal plan ends with: "the store left and the failed jobs".
+#[derive(Debug, Clone, Copy, PartialEq, Eq, Default)]
+pub struct Ending {
+    pub store: Store,
+    /// Bit j is set if job j has a failed assertion noted.
+    pub failed_jobs: u32,
+}
+
+/// The state between two steps of an order.
+#[derive(Debug, Clone, PartialEq, Eq)]
+pub struct State {
+    pub store: Store,
+    /// One for each job: None until it has begun.
+    pub locals: Vec<Option<Local>>,
+    /// The active jobs, the one started last at the end. "A job is active from its first
+    /// instruction until its End is done."
+    pub active: Vec<JobNumber>,
+}
+
+impl State {
+    /// "An order starts from the initial store with no job begun".
+    pub fn first(accepted: &Accepted) -> State {
+        let store = accepted.table.initial_store;
+        State { store, locals: vec![None; accepted.jobs.len()], active: Vec::new() }
+    }
+
+    /// Whether a job's End is done.
+    pub fn has_ended(&self, job: JobNumber) -> bool {
+        self.locals[job.0].is_some_and(|local| local.ended)
+    }
+
+    /// Whether "all jobs have ended".
+    pub fn all_ended(&self) -> bool {
+        self.locals.iter().all(|local| local.is_some_and(|local| local.ended))
+    }
+
+    /// "the store left and the failed jobs, those with a failed assertion noted."
+    pub fn ending(&self) -> Ending {
+        let noted = |(job, local): (usize, &Option<Local>)| {
+            u32::from(local.is_some_and(|local| local.failed)) << job
+        };
+        Ending { store: self.store, failed_jobs: self.locals.iter().enumerate().map(noted).sum() }
+    }
+
+    /// The present priority of a job that has begun.
+    pub fn present_priority(&self, accepted: &Accepted, job: JobNumber) -> u8 {
+        let held = self.locals[job.0].unwrap_or_default().held;
+        priority(accepted.base(job), &held, &accepted.table.ceilings)
+    }
+
+    /// "A job not yet begun may start when each job that comes before it has ended, it may preempt
+    /// every active job, and its base is above every active job's present priority."
+    pub fn may_start(&self, accepted: &Accepted, job: JobNumber) -> bool {
+        let base = accepted.base(job).0;
+        let mut earlier = accepted.job_numbers().filter(|x| accepted.comes_before(*x, job));
+        self.locals[job.0].is_none()
+            && earlier.all(|x| self.has_ended(x))
+            && self.active.iter().all(|x| {
+                accepted.may_preempt(job, *x) && base > self.present_priority(accepted, *x)
+            })
+    }
+
+    /// The job that a byte with this task would step: the running job ("only the active job started
+    /// last may step") or a job of the task that may start. There is at most one: an earlier job of
+    /// a task comes before a later one.
+    pub fn turn(&self, accepted: &Accepted, task: TaskNumber) -> Option<JobNumber> {
+        let running = self.active.last().copied();
+        running.filter(|job| accepted.base(*job) == task).or_else(|| {
+            let mut of_task = accepted.job_numbers().filter(|job| accepted.base(*job) == task);
+            of_task.find(|job| self.may_start(accepted, *job))
+        })
+    }
+
+    /// The instruction a job performs next; a job not yet begun its first.
+    pub fn next_instruction(&self, accepted: &Accepted, job: JobNumber) -> Instruction {
+        let position = self.locals[job.0].unwrap_or_default().position;
+        accepted.task(job).body[position].instruction
+    }
+
+    /// One step by an order byte, "16 × task + value, the value being the Pick's choice, else 0".
+    /// None, with the state as it was, if the byte is not an allowed step.
+    pub fn step(&mut self, accepted: &Accepted, byte: u8) -> Option<JobNumber> {
+        let (task, value) = (TaskNumber(byte / 16), byte % 16);
+        let job = self.turn(accepted, task)?;
+        let instruction = self.next_instruction(accepted, job);
+        if value > largest_value(instruction) {
+            return None;
+        }
+        // "Starting performs its first instruction."
+        if self.locals[job.0].is_none() {
+            self.active.push(job);
+        }
+        let local = self.locals[job.0].get_or_insert_with(Local::default);
+        perform(local, &mut self.store, instruction, value);
+        if local.ended {
+            self.active.pop();
+        }
+        Some(job)
+    }
+}
+
+/// "A replay checks 32, 30 at each byte, 31 at the end." What is done after each step, with the
+/// step's job and value, is the caller's.
+pub fn replay_with(
+    accepted: &Accepted,
+    order: &[u8],
+    mut after: impl FnMut(&State, JobNumber, u8),
+) -> Result<Ending, Refusal> {
+    let mut state = State::first(accepted);
+    for (place, byte) in order.iter().enumerate() {
+        if state.all_ended() {
+            return refuse(32, place);
+        }
+        match state.step(accepted, *byte) {
+            Some(job) => after(&state, job, byte % 16),
+            None => return refuse(30, place),
+        }
+    }
+    if !state.all_ended() {
+        return refuse(31, order.len());
+    }
+    Ok(state.ending())
+}
+
+/// The replay of an order: what it ends with, if it is complete.
+pub fn replay(accepted: &Accepted, order: &[u8]) -> Result<Ending, Refusal> {
+    replay_with(accepted, order, |_, _, _| {})
+}
