@@ -43,7 +43,7 @@ unfolding File.sized File.recordAt File.load
 fileOpened = tt
 
 unfoldable pub judgementOpened : Unit {0}
-unfolding Judgement.taskNumbers Judgement.instructionOf Judgement.instructionSites Judgement.isEnd Judgement.isSkip Judgement.isAcquire Judgement.isRelease Judgement.atInstruction Judgement.atTask Judgement.bodyFault Judgement.rateFault Judgement.ceilingFault Judgement.judged
+unfolding Judgement.taskNumbers Judgement.instructionOf Judgement.instructionSites Judgement.isEnd Judgement.isSkip Judgement.isAcquire Judgement.isRelease Judgement.ofInstruction Judgement.ofTask Judgement.bodyFault Judgement.rateFault Judgement.ceilingFault Judgement.judged
 judgementOpened = tt
 
 unfoldable pub listsOpened : Unit {0}
@@ -55,7 +55,7 @@ unfolding Records.records Records.byteAt Records.wideAt Records.next Records.kin
 recordsOpened = tt
 
 unfoldable pub tablesOpened : Unit {0}
-unfolding Tables.noTask Tables.tasksOf Tables.taskOf Tables.bodyOf Tables.ceilingsOf Tables.entryAt Tables.tableAt
+unfolding Tables.noTask Tables.emptyTable Tables.tasksOf Tables.taskOf Tables.bodyOf Tables.ceilingsOf Tables.entryAt Tables.tableAt
 tablesOpened = tt
 
 unfoldable pub acceptedOpened : Unit {0}

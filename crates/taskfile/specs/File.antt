@@ -6,10 +6,12 @@ use mathlib.Core.Bool.{Bool, _&&_}
 use mathlib.Core.List.{List, [], _∷_}
 use lib.ListN.{length, getD}
 use lib.Dec.{leb, eqb}
+use Rattle.taskfile.specs.declared.Site.{Site}
+use Rattle.taskfile.specs.declared.Site.the-variants.{AtHeader, AtTask, AtInstruction}
 use Rattle.taskfile.specs.declared.Table.{Table}
 use Rattle.taskfile.specs.Chains.{Chains, TaskChain, chainsOf}
 use Rattle.taskfile.specs.Checked.{Checked, passed, require, placedBy, _>>=_, _>>_}
-use Rattle.taskfile.specs.Judgement.{Site, header, task, instruction, judged}
+use Rattle.taskfile.specs.Judgement.{judged}
 use Rattle.taskfile.specs.Records.{File}
 use Rattle.taskfile.specs.Tables.{tableAt}
 
@@ -24,9 +26,9 @@ pub record Loaded : Type 0 where
 
 -- the record at a site of the table
 unfoldable pub recordAt : Chains → Site → ℕ
-recordAt c header = 0
-recordAt c (task i) = getD (c .tasks) (i .0) (record { taskRecord = 0; body = [] }) .taskRecord
-recordAt c (instruction i p) = getD (getD (c .tasks) (i .0) (record { taskRecord = 0; body = [] }) .body) p 0
+recordAt c AtHeader = 0
+recordAt c (AtTask i) = getD (c .tasks) (i .0) (record { taskRecord = 0; body = [] }) .taskRecord
+recordAt c (AtInstruction i p) = getD (getD (c .tasks) (i .0) (record { taskRecord = 0; body = [] }) .body) p 0
 
 unfoldable pub load : File → Checked ℕ Loaded
 load f = do

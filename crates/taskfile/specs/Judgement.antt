@@ -8,6 +8,8 @@ use mathlib.Core.List.{List, [], _∷_, map}
 use lib.ListN.{length, getD}
 use lib.Dec.{leb, ltb, eqb}
 use Rattle.taskfile.specs.declared.Instruction.{Instruction}
+use Rattle.taskfile.specs.declared.Site.{Site}
+use Rattle.taskfile.specs.declared.Site.the-variants.{AtHeader, AtTask, AtInstruction}
 use Rattle.taskfile.specs.declared.Table.{Table}
 use Rattle.taskfile.specs.declared.Task.{Task}
 use Rattle.taskfile.specs.declared.TaskEntry.{TaskEntry}
@@ -15,12 +17,6 @@ use Rattle.taskfile.specs.Chains.{Chains}
 use Rattle.taskfile.specs.Checked.{Checked, noneOf, _>>_}
 use Rattle.taskfile.specs.Lists.{from, upTo, each}
 use Rattle.taskfile.specs.Tables.{tasksOf, taskOf, bodyOf, ceilingsOf, endInstruction}
-
--- a site of a table: its header, a task, or the instruction at a position of a task's body
-pub data Site : Type 0 where
-  header : Site
-  task : Task → Site
-  instruction : Task → ℕ → Site
 
 unfoldable pub taskNumbers : Table → List Task
 taskNumbers t = map (λ i. record { 0 = i }) (upTo (length (tasksOf t)))
@@ -32,7 +28,7 @@ instructionOf t i p = getD (bodyOf (taskOf t i)) p endInstruction
 -- all instructions in chain order, task by task
 unfoldable pub instructionSites : Table → List Site
 instructionSites t =
-    each (taskNumbers t) (λ i. map (λ p. instruction i p) (upTo (length (bodyOf (taskOf t i)))))
+    each (taskNumbers t) (λ i. map (λ p. AtInstruction i p) (upTo (length (bodyOf (taskOf t i)))))
 
 -- operations by number, of those that a judgement asks for
 unfoldable pub isEnd : Instruction → Bool
@@ -48,15 +44,15 @@ unfoldable pub isRelease : Instruction → Bool
 isRelease i = eqb (i .operation) 10
 
 -- a fault of instructions, or of tasks, as a fault of sites
-unfoldable pub atInstruction : (Task → ℕ → Bool) → Site → Bool
-atInstruction fault header = false
-atInstruction fault (task i) = false
-atInstruction fault (instruction i p) = fault i p
+unfoldable pub ofInstruction : (Task → ℕ → Bool) → Site → Bool
+ofInstruction fault AtHeader = false
+ofInstruction fault (AtTask i) = false
+ofInstruction fault (AtInstruction i p) = fault i p
 
-unfoldable pub atTask : (Task → Bool) → Site → Bool
-atTask fault header = false
-atTask fault (task i) = fault i
-atTask fault (instruction i p) = false
+unfoldable pub ofTask : (Task → Bool) → Site → Bool
+ofTask fault AtHeader = false
+ofTask fault (AtTask i) = fault i
+ofTask fault (AtInstruction i p) = false
 
 -- "7 BODY: last instruction not End (place: it), or a skip beyond it (place: the skip)"
 unfoldable pub bodyFault : Table → Task → ℕ → Bool
@@ -79,6 +75,6 @@ ceilingFault t i p =
 -- 7, 8 and 9, each over the whole table, at the first such site
 unfoldable pub judged : Table → Checked Site (Unit {0})
 judged t = do
-  noneOf 7 (atInstruction (bodyFault t)) (instructionSites t)
-  noneOf 8 (atTask (rateFault t)) (map (λ i. task i) (taskNumbers t))
-  noneOf 9 (atInstruction (ceilingFault t)) (instructionSites t)
+  noneOf 7 (ofInstruction (bodyFault t)) (instructionSites t)
+  noneOf 8 (ofTask (rateFault t)) (map (λ i. AtTask i) (taskNumbers t))
+  noneOf 9 (ofInstruction (ceilingFault t)) (instructionSites t)

@@ -5,8 +5,8 @@ use Prim.Native.Nat.{ℕ, zero, suc, _+_, _≤_, _<_}
 use native.Mathlib.Omega.{arith}
 use native.Mathlib.Decide.{decLe}
 use mathlib.Core.Logic.{_↔_, inl, inr}
-use mathlib.Core.Path.{_≡_, refl, ap, _∙_}
-use mathlib.Core.List.{List, [], _∷_, List·Memᴰ, List·Memᴰ·head, List·Memᴰ·tail, List·Memᴰ·not-nil, List·Memᴰ·cases-cons, List·Memᴰ·append-cases, Memᴰ·append-left, Memᴰ·append-right}
+use mathlib.Core.Path.{_≡_, sym, refl, ap, _∙_}
+use mathlib.Core.List.{List, [], _∷_, append-assoc, List·Memᴰ, List·Memᴰ·head, List·Memᴰ·tail, List·Memᴰ·not-nil, List·Memᴰ·cases-cons, List·Memᴰ·append-cases, Memᴰ·append-left, Memᴰ·append-right, _++_, map}
 use lib.ListN.{length, getD}
 use Rattle.taskfile.specs.Lists.{from, upTo, each}
 
@@ -81,3 +81,21 @@ member-each (x ∷ xs) f m =
       | inl here ↦ (x, List·Memᴰ·head refl, here)
       | inr later ↦ let r = member-each xs f later in (r .0, List·Memᴰ·tail (r .1), r .2)
     ]
+
+-- ---- one element more at the end
+
+-- the first k + 1 numbers from `start` on are the first k and then the next
+pub from-snoc : (start k : ℕ) → from start (suc k) ≡ from start k ++ ((start + k) ∷ [])
+unfolding from
+from-snoc start zero = ap (λ (n : ℕ). n ∷ []) (omega arith)
+from-snoc start (suc k) =
+    ap (λ (l : List ℕ). start ∷ l) (from-snoc (suc start) k ∙ ap (λ (n : ℕ). from (suc start) k ++ (n ∷ [])) (omega arith))
+
+pub map-snoc : {A B : Type 0} (f : A → B) (xs : List A) (y : A) → map f (xs ++ (y ∷ [])) ≡ map f xs ++ (f y ∷ [])
+map-snoc f [] y = refl
+map-snoc f (x ∷ xs) y = ap (λ (l : List _). f x ∷ l) (map-snoc f xs y)
+
+pub each-append : {A B : Type 0} (f : A → List B) (xs ys : List A) → each (xs ++ ys) f ≡ each xs f ++ each ys f
+unfolding each
+each-append f [] ys = refl
+each-append f (x ∷ xs) ys = ap (λ (l : List _). f x ++ l) (each-append f xs ys) ∙ sym (append-assoc (f x) (each xs f) (each ys f))

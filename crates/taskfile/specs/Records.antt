@@ -8,6 +8,8 @@ use mathlib.Core.List.{List, [], _∷_, map}
 use lib.ListN.{length, getD}
 use lib.Dec.{leb, ltb, eqb}
 use Rattle.taskfile.specs.declared.Instruction.{Instruction}
+use Rattle.taskfile.specs.declared.Kind.{Kind}
+use Rattle.taskfile.specs.declared.Kind.the-variants.{Header, TaskRecord, LockRecord, InstructionRecord}
 use Rattle.taskfile.specs.Lists.{from, all}
 
 -- a task file is any bytes
@@ -31,14 +33,11 @@ unfoldable pub next : File → ℕ → ℕ
 next f r = byteAt f r 1
 
 -- "Byte 0 is the kind": 1 header, 2 task, 3 lock, 4 instruction
-pub data Kind : Type 0 where
-  header task lock instruction : Kind
-
 unfoldable pub kindNumber : Kind → ℕ
-kindNumber header = 1
-kindNumber task = 2
-kindNumber lock = 3
-kindNumber instruction = 4
+kindNumber Header = 1
+kindNumber TaskRecord = 2
+kindNumber LockRecord = 3
+kindNumber InstructionRecord = 4
 
 -- How an operation uses one of its fields a, b, c. "lock numbers are left to 9"
 pub data Use : Type 0 where
@@ -118,14 +117,14 @@ zeroFrom f r k n = all (λ j. eqb (byteAt f r j) 0) (from k n)
 
 -- "an unused byte not zero": no unused byte of the record is other than zero
 unfoldable pub tidy : File → ℕ → Kind → Bool
-tidy f r header = eqb (byteAt f r 1) 0
-tidy f r task = eqb (byteAt f r 3) 0
-tidy f r lock = zeroFrom f r 3 13
-tidy f r instruction = tidyInstruction (instructionAt f r) && zeroFrom f r 6 10
+tidy f r Header = eqb (byteAt f r 1) 0
+tidy f r TaskRecord = eqb (byteAt f r 3) 0
+tidy f r LockRecord = zeroFrom f r 3 13
+tidy f r InstructionRecord = tidyInstruction (instructionAt f r) && zeroFrom f r 6 10
 
 -- "a value out of range": W at least 1; 1 ≤ C ≤ P; a ceiling 0 to 7; an operation and its fields
 unfoldable pub inRange : File → ℕ → Kind → Bool
-inRange f r header = leb 1 (wideAt f r 4)
-inRange f r task = leb 1 (wideAt f r 4) && leb (wideAt f r 4) (wideAt f r 8)
-inRange f r lock = leb (byteAt f r 2) 7
-inRange f r instruction = instructionInRange (instructionAt f r)
+inRange f r Header = leb 1 (wideAt f r 4)
+inRange f r TaskRecord = leb 1 (wideAt f r 4) && leb (wideAt f r 4) (wideAt f r 8)
+inRange f r LockRecord = leb (byteAt f r 2) 7
+inRange f r InstructionRecord = instructionInRange (instructionAt f r)

@@ -4,7 +4,7 @@
 -- Assumes nothing.
 use Prim.Native.Nat.{ℕ}
 use mathlib.Core.List.{List, [], map}
-use lib.ListN.{length, getD, take, drop}
+use lib.ListN.{length, getD, take, drop, replicate}
 use Rattle.taskfile.specs.declared.Instruction.{Instruction}
 use Rattle.taskfile.specs.declared.Table.{Table}
 use Rattle.taskfile.specs.declared.Task.{Task}
@@ -19,6 +19,10 @@ endInstruction = record { operation = 0; a = 0; b = 0; c = 0 }
 
 unfoldable pub noTask : TaskEntry
 noTask = record { execution = 0; period = 0; arrival = 0; length = 0; body = padded mostInstructions endInstruction [] }
+
+unfoldable pub emptyTable : Table
+emptyTable =
+    record { window = 0; store = replicate 8 0; tasks = 0; entries = replicate 8 noTask; locks = 0; ceilings = replicate 8 0 }
 
 -- "Tasks and locks are numbered from 0 in chain order."
 unfoldable pub tasksOf : Table → List TaskEntry

@@ -32,3 +32,26 @@ decided false = inr refl
 pub not-both : (p : Bool) → p ≡ true → p ≡ false → ⊥
 not-both true h k = true≢false k
 not-both false h k = false≢true h
+
+-- where neither of two tests joined by `||` holds
+pub neither : (p q : Bool) → (p || q) ≡ false → (p ≡ false) × (q ≡ false)
+neither true q h = absurd (true≢false h)
+neither false q h = (refl, h)
+
+-- where one of two tests joined by `&&` holds and not both, the other does not
+pub other-fails : (p q : Bool) → (p && q) ≡ false → p ≡ true → q ≡ false
+other-fails true q h k = h
+other-fails false q h k = absurd (false≢true k)
+
+-- a test behind one that holds, or does not, is decided by the other, or by the first
+pub and-second : (p q : Bool) → p ≡ true → (p && q) ≡ q
+and-second true q h = refl
+and-second false q h = absurd (false≢true h)
+
+pub and-first : (p q : Bool) → p ≡ false → (p && q) ≡ false
+and-first true q h = absurd (true≢false h)
+and-first false q h = refl
+
+pub or-second : (p q : Bool) → p ≡ false → (p || q) ≡ q
+or-second true q h = absurd (true≢false h)
+or-second false q h = refl

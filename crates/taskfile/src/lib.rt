@@ -1,4 +1,4 @@
-// The task file: what a table is. Document 01, "The task file".
+// The task file: what a table is, and the reader up to number 9. Document 01, "The task file".
 
 // A task's number, from 0 in chain order. It is also the task's base priority.
 pub struct Task(pub u8);
@@ -30,4 +30,70 @@ pub struct Table {
     pub entries: [TaskEntry; 8],
     pub locks: u8,
     pub ceilings: [u8; 8],
+}
+
+// The kind of a record: "Byte 0 is the kind".
+pub enum Kind {
+    Header,
+    TaskRecord,
+    LockRecord,
+    InstructionRecord,
+}
+
+// What a check of the file comes to: passed, or refused with a number of document 01 and the record that is
+// its place.
+pub enum Check {
+    Passed,
+    Refused(u8, u8),
+}
+
+// A site of a table: its header, a task, or the instruction at a position of a task's body.
+pub enum Site {
+    AtHeader,
+    AtTask(Task),
+    AtInstruction(Task, u8),
+}
+
+// What the judgement of a table comes to: passed, or refused with a number of document 01 at a site.
+pub enum Judged {
+    Sound,
+    Faulty(u8, Site),
+}
+
+// What reading a chain comes to: its check and, if it passed, how many records it has and a mark for each record
+// of the file that was reached by then.
+pub struct Chained {
+    pub check: Check,
+    pub count: u8,
+    pub seen: [bool; 256],
+}
+
+// The instructions of a body, how many there are, and the array that holds them.
+pub struct Body {
+    pub length: u8,
+    pub body: [Instruction; 16],
+}
+
+// The tasks' entries, how many there are, and the array that holds them.
+pub struct Entries {
+    pub count: u8,
+    pub entries: [TaskEntry; 8],
+}
+
+// The locks' ceilings, how many there are, and the array that holds them.
+pub struct Ceilings {
+    pub count: u8,
+    pub ceilings: [u8; 8],
+}
+
+// What loading a file comes to: its check and, if it passed, its table.
+pub struct LoadAnswer {
+    pub check: Check,
+    pub table: Table,
+}
+
+// A position that was looked for.
+pub enum Found {
+    At(u8),
+    Nothing,
 }

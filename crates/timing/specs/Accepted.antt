@@ -6,11 +6,13 @@ use mathlib.Core.List.{List, [], _∷_}
 use mathlib.Core.Option.{Option, none, some}
 use lib.ListN.{length, getD}
 use lib.Dec.{leb}
+use Rattle.taskfile.specs.declared.Site.{Site}
+use Rattle.taskfile.specs.declared.Site.the-variants.{AtHeader, AtTask}
 use Rattle.taskfile.specs.declared.Table.{Table}
 use Rattle.taskfile.specs.declared.Task.{Task}
 use Rattle.taskfile.specs.Checked.{Checked, refused, passed, require, placedBy, _>>=_, _>>_}
 use Rattle.taskfile.specs.File.{load, recordAt}
-use Rattle.taskfile.specs.Judgement.{Site, header, task, taskNumbers}
+use Rattle.taskfile.specs.Judgement.{taskNumbers}
 use Rattle.taskfile.specs.Records.{File}
 use Rattle.timing.specs.declared.JobRecord.{JobRecord}
 use Rattle.timing.specs.Jobs.{jobCount, jobsOf}
@@ -22,7 +24,7 @@ mostJobs = 32
 
 -- "10 OVERLOAD: no R ≤ P; the lowest such task's record."
 unfoldable pub bounded : Task → Option ℕ → Checked Site ℕ
-bounded i none = refused 10 (task i)
+bounded i none = refused 10 (AtTask i)
 bounded i (some R) = passed R
 
 unfoldable pub responsesOf : Table → List Task → Checked Site (List ℕ)
@@ -42,7 +44,7 @@ pub record Accepted : Type 0 where
 unfoldable pub timed : Table → Checked Site Accepted
 timed t = do
   responses ← responsesOf t (taskNumbers t)
-  require (leb (jobCount t) mostJobs) 11 header
+  require (leb (jobCount t) mostJobs) 11 AtHeader
   passed (record { table = t; responses = responses; jobs = jobsOf t responses })
 
 -- what every entry does first: the file's table, or the first number that the file earns

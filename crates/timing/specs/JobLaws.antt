@@ -9,12 +9,14 @@ use mathlib.Core.List.{List, [], _∷_, map}
 use mathlib.Core.Option.{Option, none, some}
 use lib.ListN.{length, getD}
 use lib.Dec.{leb, leb→le}
+use Rattle.taskfile.specs.declared.Site.{Site}
+use Rattle.taskfile.specs.declared.Site.the-variants.{AtHeader}
 use Rattle.taskfile.specs.declared.Table.{Table}
 use Rattle.taskfile.specs.declared.Task.{Task}
 use Rattle.taskfile.specs.declared.TaskEntry.{TaskEntry}
 use Rattle.taskfile.specs.Checked.{Checked, refused, passed, require, _>>=_, _>>_}
 use Rattle.taskfile.specs.CheckedLaws.{refused-passed, passed-same, bind-passed, then-passed, require-passed}
-use Rattle.taskfile.specs.Judgement.{Site, header, taskNumbers}
+use Rattle.taskfile.specs.Judgement.{taskNumbers}
 use Rattle.taskfile.specs.Lists.{from, upTo, each}
 use Rattle.taskfile.specs.Pairs.{Every, Ordered, every-at, ordered-at, every-of, every-imp, every-map, ordered-map, ordered-imp, every-each, ordered-each, from-rises}
 use Rattle.taskfile.specs.TableLaws.{taskNumbers-length, taskNumbers-at, every-task, tasks-rise}
@@ -64,14 +66,14 @@ pub timed-passed : (t : Table) {a : Accepted} → timed t ≡ passed a → (a .t
 unfolding timed
 timed-passed t {a} e =
     let whole : List ℕ → Accepted = λ Rs. record { table = t; responses = Rs; jobs = jobsOf t Rs } in
-    let fewEnough = require (leb (jobCount t) mostJobs) 11 header in
+    let fewEnough = require (leb (jobCount t) mostJobs) 11 AtHeader in
     let responses = bind-passed (responsesOf t (taskNumbers t)) (λ Rs. _>>_ fewEnough (passed (whole Rs))) e in
     let count = then-passed fewEnough (passed (whole (responses .0))) (responses .2) in
     let parts : Timed (whole (responses .0)) =
     record {
       found = responses .1;
       listed = refl;
-      few = leb→le (jobCount t) mostJobs (require-passed (leb (jobCount t) mostJobs) 11 header (count .1));
+      few = leb→le (jobCount t) mostJobs (require-passed (leb (jobCount t) mostJobs) 11 AtHeader (count .1));
     } in
     subst (λ (x : Accepted). (x .table ≡ t) × Timed x) (passed-same (count .2)) (refl, parts)
 

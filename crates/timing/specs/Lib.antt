@@ -1,9 +1,17 @@
+pub mod AcceptLaws
+pub mod AcceptParts
 pub mod Accepted
 pub mod AcceptedLaws
+pub mod ClimbLaws
 pub mod JobLaws
+pub mod JobListLaws
+pub mod JobParts
 pub mod Jobs
 pub mod ReadEntries
 pub mod RelationLaws
 pub mod Relations
 pub mod Response
 pub mod ResponseLaws
+pub mod ResponseParts
+pub mod TableResponseLaws
+pub mod TimeableLaws

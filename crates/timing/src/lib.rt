@@ -1,5 +1,13 @@
-// Response times and jobs: what a job is, and what the reader's entry and the job list answer.
-// Document 01, "Response times and jobs" and "Numbers by who causes them".
+// Response times and jobs: what a job is, the reader's entry whole, and the job list. Document 01, "Response times
+// and jobs" and "Numbers by who causes them".
+pub mod entries;
+pub mod jobs;
+pub mod relations;
+pub mod response;
+
+use taskfile::Check;
+use taskfile::Judged;
+use taskfile::Table;
 use taskfile::Task;
 
 // A job's number, by task, then by arrival, from 0.
@@ -11,6 +19,32 @@ pub struct JobRecord {
     pub task: Task,
     pub arrival: u64,
     pub latest: u64,
+}
+
+// The jobs of a table, the first `count` of the 32.
+pub struct JobList {
+    pub count: u8,
+    pub jobs: [JobRecord; 32],
+}
+
+// A task's response time, if it is at most the task's period.
+pub enum Bound {
+    Within(u64),
+    Overload,
+}
+
+// The response times of a table, or the first task that has none.
+pub struct Responses {
+    pub check: Judged,
+    pub times: [u64; 8],
+}
+
+// What every entry has of a file: its check and, if it passed, its table, the response times and the jobs.
+pub struct AcceptAnswer {
+    pub check: Check,
+    pub table: Table,
+    pub responses: [u64; 8],
+    pub list: JobList,
 }
 
 // What the reader's entry answers: number and place, the response times (0 past the last task) and the

@@ -1,0 +1,24 @@
+-- `chains::read_body` meets its contract: an empty body is refused, and any other is its chain of instructions.
+-- Assumes nothing.
+use mathlib.Core.Path.{refl}
+use borrow.Author.Needs.{needs}
+use Rattle.taskfile.specs.ChainReading.{body-empty, body-follows}
+use Rattle.chains.proofs.read_body.Statement.{statement}
+use Rattle.chains.proofs.read_body.Tie as tie
+
+byte-at-requires : tie.Need-byte-at-requires
+byte-at-requires c κs = search needs
+
+returns : tie.Need-returns
+returns c reached marked =
+    body-empty _ _ _ (c .before .byte-at .ensures) _ reached (c .if1 .taken) refl
+
+read-chain-requires : tie.Need-read-chain-requires
+read-chain-requires c κs = search needs
+
+returns-2 : tie.Need-returns-2
+returns-2 c reached marked =
+    body-follows _ _ _ (c .before .before .byte-at .ensures) _ reached (c .before .if1 .left) (c .read-chain .ensures .1 reached marked)
+
+pub read-body-spec : {M : Type 1} → statement M
+read-body-spec = tie.close (tie.spec byte-at-requires returns read-chain-requires returns-2)

@@ -1,0 +1,87 @@
+// The reader up to number 9.
+use chains::read_chains;
+use judgement::judge;
+use tables::record_at;
+use tables::table_at;
+use taskfile::Check;
+use taskfile::Instruction;
+use taskfile::Judged;
+use taskfile::LoadAnswer;
+use taskfile::Table;
+use taskfile::TaskEntry;
+ghost use Rattle.taskfile.specs.File.{load, sized};
+ghost use Rattle.taskfile.specs.Reading.{LoadedAs};
+ghost use Rattle.taskfile.specs.Tables.{emptyTable};
+ghost use mathlib.Core.Path.{_≡_};
+
+// Is the length right: not 0, at most 4,096, a multiple of 16?
+pub fn is_sized(file: &[u8]) -> bool
+    ensures { λ b. ⌜ b ≡ sized (now (file .entry)) ⌝ }
+{
+    let n = file.len();
+    if n == 0 {
+        return false;
+    }
+    if 4096 < n {
+        return false;
+    }
+    n % 16 == 0
+}
+
+// A table with nothing in it.
+pub fn empty_table() -> Table
+    ensures { λ x. ⌜ x ≡ emptyTable ⌝ }
+{
+    let end = Instruction {
+        operation: 0,
+        a: 0,
+        b: 0,
+        c: 0,
+    };
+    let none = TaskEntry {
+        execution: 0,
+        period: 0,
+        arrival: 0,
+        length: 0,
+        body: [end; 16],
+    };
+    Table {
+        window: 0,
+        store: [0; 8],
+        tasks: 0,
+        entries: [none; 8],
+        locks: 0,
+        ceilings: [0; 8],
+    }
+}
+
+// The file's table, or the refusal that the file earns, numbers 1 to 9. On a refusal the table is empty.
+pub fn load_file(file: &[u8]) -> LoadAnswer
+    ensures { λ x. ⌜ LoadedAs x (load (now (file .entry))) ⌝ }
+{
+    if !is_sized(file) {
+        return LoadAnswer {
+            check: Check::Refused(1, 0),
+            table: empty_table(),
+        };
+    }
+    let chains = read_chains(file);
+    let Check::Passed = chains else {
+        return LoadAnswer {
+            check: chains,
+            table: empty_table(),
+        };
+    };
+    let table = table_at(file);
+    let judged = judge(table);
+    if let Judged::Faulty(number, site) = judged {
+        return LoadAnswer {
+            check: Check::Refused(number, record_at(file, site)),
+            table: empty_table(),
+        };
+    }
+    LoadAnswer {
+        check: Check::Passed,
+        table: table,
+    }
+}

@@ -1,0 +1,27 @@
+-- `instruction_at` meets its contract: each of its four bytes is the definition's.
+-- Assumes nothing.
+use borrow.Author.Needs.{needs}
+use Rattle.taskfile.specs.Records.{instructionAt}
+use Rattle.records.proofs.instruction_at.Statement.{statement}
+use Rattle.records.proofs.instruction_at.Tie as tie
+
+byte-at-requires : tie.Need-byte-at-requires
+byte-at-requires c κs = search needs
+
+byte-at-requires-2 : tie.Need-byte-at-requires-2
+byte-at-requires-2 c κs = search needs
+
+byte-at-requires-3 : tie.Need-byte-at-requires-3
+byte-at-requires-3 c κs = search needs
+
+byte-at-requires-4 : tie.Need-byte-at-requires-4
+byte-at-requires-4 c κs = search needs
+
+returns : tie.Need-returns
+unfolding instructionAt
+returns c = cc
+
+pub instruction-at-spec : {M : Type 1} → statement M
+instruction-at-spec =
+    tie.close
+    (tie.spec byte-at-requires byte-at-requires-2 byte-at-requires-3 byte-at-requires-4 returns)

@@ -1,0 +1,15 @@
+use mathlib.Core.Path.{refl}
+use Rattle.taskfile.specs.Lists.{padded}
+use Rattle.timing.specs.JobParts.{jobListOf}
+use Rattle.timing.proofs.jobs.no_jobs.Statement.{statement}
+use Rattle.timing.proofs.jobs.no_jobs.Tie as tie
+use Rattle.timing.proofs.jobs.no_jobs.Reads as reads
+use Rattle.timing.proofs.jobs.no_jobs.Lts as lts
+
+-- src/jobs.rt:47:1
+returns : tie.Need-returns
+unfolding jobListOf padded
+returns c = refl
+
+pub no-jobs-spec : {M : Type 1} → statement M
+no-jobs-spec = tie.close (tie.spec returns)

@@ -1,0 +1,122 @@
+-- Laws of a table whose times can be worked out: a task read from the array is the table's task, its times are bounded,
+-- and a sum over the tasks above one is worked out task by task.
+-- Assumes nothing.
+use mathlib.Core.Path.{_≡_, refl, sym, ap, _∙_}
+use Prim.Native.Nat.{ℕ, zero, suc, _+_, _-_, _*_, _/_, _^_, _≤_, _<_}
+use native.Mathlib.Nat.{mul-le-mul-left, mul-le-mul-right, div-le-of-le-mul}
+use native.Mathlib.Numerals.{add-one}
+use native.Mathlib.Omega.{arith}
+use mathlib.Core.List.{List, [], _∷_, map}
+use lib.ListN.{length, getD, drop, drop-of-length-le}
+use lib.Seq.{drop-cons, getD-take, length-take-le}
+use Rattle.taskfile.specs.declared.Table.{Table}
+use Rattle.taskfile.specs.declared.TaskEntry.{TaskEntry}
+use Rattle.taskfile.specs.JudgingParts.{Shaped}
+use Rattle.taskfile.specs.Lists.{sum}
+use Rattle.taskfile.specs.Tables.{tasksOf, taskOf, noTask}
+use Rattle.timing.specs.Jobs.{jobsWithin}
+use Rattle.timing.specs.Response.{roundedUp, tasksAbove, interference, demand}
+use Rattle.timing.specs.ResponseLaws.{roundedUp-tight}
+use Rattle.timing.specs.ResponseParts.{Timeable, numbered, utilisation, startOf}
+
+-- below the length, what stands at an index does not turn on the default
+pub getD-default : {A : Type 0} (xs : List A) (k : ℕ) (d e : A) → k < length xs → getD xs k d ≡ getD xs k e
+getD-default [] k d e h = absurd (omega arith)
+getD-default (x ∷ xs) zero d e h = refl
+getD-default (x ∷ xs) (suc k) d e h = getD-default xs k d e (omega arith)
+
+-- there are as many tasks as the table says
+pub tasks-length : {t : Table} → Shaped t → length (tasksOf t) ≡ t .tasks
+unfolding tasksOf
+tasks-length {t} s = length-take-le (t .tasks) (t .entries) (omega arith)
+
+-- a task read from the array is the table's task, whatever the default
+pub task-read : {t : Table} → Shaped t → (k : ℕ) (d : TaskEntry) → k < t .tasks → getD (t .entries) k d ≡ taskOf t (numbered k)
+unfolding taskOf tasksOf
+task-read {t} s k d lt =
+    getD-default (t .entries) k d noTask (omega arith) ∙ sym (getD-take (t .tasks) (t .entries) k noTask lt)
+
+-- the times of task k as a function reads them from the array
+pub record TimesRead (t : Table) (k C P : ℕ) : Type 0 where
+  pub execution : C ≡ taskOf t (numbered k) .execution
+  pub period : P ≡ taskOf t (numbered k) .period
+  pub positive : 1 ≤ C
+  pub within : C ≤ P
+
+pub times-read : {t : Table} → Timeable t → (k : ℕ) (d : TaskEntry) → k < t .tasks → {C P : ℕ}
+    → C ≡ getD (t .entries) k d .execution → P ≡ getD (t .entries) k d .period → TimesRead t k C P
+times-read timeable k d lt c p =
+    let same = task-read (timeable .shaped) k d lt in
+    let execution = c ∙ ap (λ (e : TaskEntry). e .execution) same in
+    let period = p ∙ ap (λ (e : TaskEntry). e .period) same in
+    record {
+      execution = execution;
+      period = period;
+      positive = omega (arith, timeable .positive (numbered k) lt);
+      within = omega (arith, timeable .within (numbered k) lt);
+    }
+
+-- a task read from the array has a positive period
+pub period-read : {t : Table} → Timeable t → (k : ℕ) (d : TaskEntry) → k < t .tasks → 1 ≤ getD (t .entries) k d .period
+period-read timeable k d lt = let read = times-read timeable k d lt refl refl in omega arith
+
+-- ---- sums over the tasks from task k on
+
+-- the first task's term, and the sum over the others
+pub sum-step : {t : Table} → Shaped t → (g : TaskEntry → ℕ) (k : ℕ) → k < t .tasks
+    → sum (map g (drop k (tasksOf t))) ≡ g (taskOf t (numbered k)) + sum (map g (drop (k + 1) (tasksOf t)))
+unfolding sum taskOf
+sum-step {t} s g k lt = rw (add-one, drop-cons (tasksOf t) k noTask (omega (arith, tasks-length s)))
+
+-- past the last task it is 0
+pub sum-end : {t : Table} → Shaped t → (g : TaskEntry → ℕ) (k : ℕ) → t .tasks ≤ k → sum (map g (drop k (tasksOf t))) ≡ 0
+unfolding sum
+sum-end {t} s g k le = rw (drop-of-length-le (tasksOf t) {i = k} (omega (arith, tasks-length s)))
+
+-- interference: a term fits, and the rest is what the later tasks add
+pub interference-step : {t : Table} → Timeable t → (k r : ℕ) {C P u : ℕ} → k < t .tasks → r < 2 ^ 32 → P < 2 ^ 32
+    → TimesRead t k C P → u ≡ roundedUp r P
+    → (u * C < 2 ^ 33) × (interference (drop k (tasksOf t)) r ≡ u * C + interference (drop (k + 1) (tasksOf t)) r)
+unfolding interference
+interference-step timeable k r {C} {P} {u} lt small narrow read e = (
+  omega (arith, mul-le-mul-left u (read .within), rw (← e) at (roundedUp-tight r P (omega arith))),
+  sum-step (timeable .shaped) (λ e. roundedUp r (e .period) * e .execution) k lt
+      ∙ rw (e, read .execution, read .period),
+)
+
+pub interference-end : {t : Table} → Timeable t → (k r : ℕ) → t .tasks ≤ k → interference (drop k (tasksOf t)) r ≡ 0
+unfolding interference
+interference-end timeable k r le = sum-end (timeable .shaped) (λ e. roundedUp r (e .period) * e .execution) k le
+
+-- utilisation: the same
+pub utilisation-step : {t : Table} → Timeable t → (k : ℕ) {C P : ℕ} → k < t .tasks → TimesRead t k C P
+    → (C * 2 ^ 32 / P ≤ 2 ^ 32)
+    × (utilisation (drop k (tasksOf t)) ≡ C * 2 ^ 32 / P + utilisation (drop (k + 1) (tasksOf t)))
+unfolding utilisation
+utilisation-step timeable k {C} {P} lt read = (
+  div-le-of-le-mul P (mul-le-mul-right (2 ^ 32) (read .within)),
+  sum-step (timeable .shaped) (λ e. e .execution * 2 ^ 32 / e .period) k lt
+      ∙ rw (read .execution, read .period),
+)
+
+pub utilisation-end : {t : Table} → Timeable t → (k : ℕ) → t .tasks ≤ k → utilisation (drop k (tasksOf t)) ≡ 0
+unfolding utilisation
+utilisation-end timeable k le = sum-end (timeable .shaped) (λ e. e .execution * 2 ^ 32 / e .period) k le
+
+-- the jobs of the tasks from task k on
+pub jobs-step : {t : Table} → Timeable t → (k : ℕ) (d : TaskEntry) {n : ℕ} → k < t .tasks → n ≡ jobsWithin (t .window) (getD (t .entries) k d)
+    → sum (map (jobsWithin (t .window)) (drop k (tasksOf t))) ≡ n + sum (map (jobsWithin (t .window)) (drop (k + 1) (tasksOf t)))
+jobs-step {t} timeable k d lt e =
+    sum-step (timeable .shaped) (jobsWithin (t .window)) k lt ∙ rw (e, task-read (timeable .shaped) k d lt)
+
+-- ---- demand and start of task k, with its execution time as read
+
+pub demand-read : {t : Table} {k C P : ℕ} → TimesRead t k C P → (r : ℕ) {x : ℕ} → x ≡ interference (tasksAbove t (numbered k)) r
+    → C + x ≡ demand t (numbered k) r
+unfolding demand
+demand-read read r e = rw (e, read .execution)
+
+pub start-read : {t : Table} {k C P : ℕ} → TimesRead t k C P → {U : ℕ} → U ≡ utilisation (tasksAbove t (numbered k))
+    → roundedUp (C * 2 ^ 32) (2 ^ 32 - U) ≡ startOf t (numbered k)
+unfolding startOf
+start-read read e = rw (e, read .execution)
