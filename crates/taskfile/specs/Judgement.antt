@@ -18,8 +18,12 @@ use Rattle.taskfile.specs.Checked.{Checked, noneOf, _>>_}
 use Rattle.taskfile.specs.Lists.{from, upTo, each}
 use Rattle.taskfile.specs.Tables.{tasksOf, taskOf, bodyOf, ceilingsOf, endInstruction}
 
+-- the task with a number, and all of them in chain order
+abbrev pub numbered : ℕ → Task
+numbered i = record { 0 = i }
+
 unfoldable pub taskNumbers : Table → List Task
-taskNumbers t = map (λ i. record { 0 = i }) (upTo (length (tasksOf t)))
+taskNumbers t = map numbered (upTo (length (tasksOf t)))
 
 -- the instruction at position p of task i
 unfoldable pub instructionOf : Table → Task → ℕ → Instruction
@@ -63,7 +67,7 @@ bodyFault t i p =
 
 -- "8 RATE: a period above the previous task's"
 unfoldable pub rateFault : Table → Task → Bool
-rateFault t i = ltb 0 (i .0) && ltb (taskOf t (record { 0 = i .0 - 1 }) .period) (taskOf t i .period)
+rateFault t i = ltb 0 (i .0) && ltb (taskOf t (numbered (i .0 - 1)) .period) (taskOf t i .period)
 
 -- "9 CEILING: Acquire or Release of a lock not in the table, or Acquire of one with a ceiling below the task's base"
 unfoldable pub ceilingFault : Table → Task → ℕ → Bool

@@ -4,7 +4,7 @@
 use Prim.Native.Nat.{ℕ, zero, suc, _+_, _-_, _≤_, _<_}
 use native.Mathlib.Omega.{arith}
 use mathlib.Core.Path.{_≡_, refl, sym, ap, ap₂, _∙_}
-use mathlib.Core.Bool.{Bool, true, false, not, _&&_, _||_, true≢false}
+use mathlib.Core.Bool.{Bool, true, false, not, _&&_, _||_}
 use mathlib.Core.List.{List, [], _∷_, _++_, map}
 use mathlib.Core.Option.{Option, none, some}
 use lib.ListN.{length, getD, take}
@@ -22,27 +22,14 @@ use Rattle.taskfile.specs.declared.Table.{Table}
 use Rattle.taskfile.specs.declared.Task.{Task}
 use Rattle.taskfile.specs.declared.TaskEntry.{TaskEntry}
 use Rattle.taskfile.specs.Checked.{Checked, refused, passed, noneOf, _>>_}
-use Rattle.taskfile.specs.Judgement.{taskNumbers, instructionSites, instructionOf, isEnd, isSkip, isAcquire, isRelease, ofInstruction, ofTask, bodyFault, rateFault, ceilingFault}
+use Rattle.taskfile.specs.Judgement.{numbered, taskNumbers, instructionSites, instructionOf, isEnd, isSkip, isAcquire, isRelease, ofInstruction, ofTask, bodyFault, rateFault, ceilingFault}
 use Rattle.taskfile.specs.JudgingParts.{Shaped, ShapedEntry, foundOf, bodyFaultIn, ceilingFaultIn}
+use Rattle.taskfile.specs.ListLaws.{getD-any, each-map, each-one}
 use Rattle.taskfile.specs.Lists.{upTo, firstWith, each, if_then_else_}
 use Rattle.taskfile.specs.Reading.{judgedOf}
 use Rattle.taskfile.specs.SearchLaws.{refusedAt, noneOf-map}
 use Rattle.taskfile.specs.Tables.{tasksOf, taskOf, bodyOf, ceilingsOf, endInstruction, noTask}
-use Rattle.taskfile.specs.Tests.{or-left, or-right}
-
--- a test joined to another by `&&` fails where one of the two does
-first-fails : (p q : Bool) → p ≡ false → (p && q) ≡ false
-first-fails true q h = absurd (true≢false h)
-first-fails false q h = refl
-
-second-fails : (p q : Bool) → q ≡ false → (p && q) ≡ false
-second-fails true q h = h
-second-fails false q h = refl
-
--- where one of two tests joined by `||` holds and the second does not, the first does
-first-holds : (p q : Bool) → (p || q) ≡ true → q ≡ false → p ≡ true
-first-holds true q h k = refl
-first-holds false q h k = sym k ∙ h
+use Rattle.taskfile.specs.Tests.{and-first, and-last, or-first, or-left, or-right}
 
 -- the instruction at position p of a body's array
 abbrev pub hereIn : TaskEntry → ℕ → Instruction
@@ -73,11 +60,11 @@ endsBadly e p = eqb (p + 1) (e .length) && not (isEnd (hereIn e p))
 
 pub not-last : (e : TaskEntry) (p : ℕ) → (p + 1 ≡ e .length → ⊥) → endsBadly e p ≡ false
 unfolding endsBadly
-not-last e p other = first-fails _ (not (isEnd (hereIn e p))) (ne-eqb (p + 1) (e .length) other)
+not-last e p other = and-first _ (not (isEnd (hereIn e p))) (ne-eqb (p + 1) (e .length) other)
 
 pub ends-well : (e : TaskEntry) (p : ℕ) → not (eqb (hereIn e p .operation) 0) ≡ false → endsBadly e p ≡ false
 unfolding endsBadly isEnd
-ends-well e p end = second-fails (eqb (p + 1) (e .length)) _ end
+ends-well e p end = and-last (eqb (p + 1) (e .length)) _ end
 
 -- skips by number
 pub skip-6 : (here : Instruction) → here .operation ≡ 6 → isSkip here ≡ true
@@ -157,30 +144,8 @@ module _ (locks : ℕ) (ceilings : List ℕ) (i : ℕ) (here : Instruction) (kno
         → ltb (getD ceilings (here .a) 0) i ≡ ceilingFaultIn (take locks ceilings) i here
     unfolding namesLock isRelease
     acquire-known below not10 =
-        let acquire = first-holds (isAcquire here) (isRelease here) named (ne-eqb (here .operation) 10 not10) in
+        let acquire = or-first (isAcquire here) (isRelease here) named (ne-eqb (here .operation) 10 not10) in
         sym (rw (ceilingFaultIn-is, getD-take locks ceilings (here .a) 0 below, acquire, lt-leb locks (here .a) below))
-
--- an element below the length is the same whatever stands for one beyond it
-getD-any : {A : Type 0} (xs : List A) (k : ℕ) (d d′ : A) → k < length xs → getD xs k d ≡ getD xs k d′
-getD-any [] k d d′ below = absurd (omega arith)
-getD-any (x ∷ xs) zero d d′ below = refl
-getD-any (x ∷ xs) (suc k) d d′ below = getD-any xs k d d′ (omega arith)
-
--- parts listed by an element's image
-each-map : {A B C : Type 0} (g : A → B) (xs : List A) (f : B → List C) → each (map g xs) f ≡ each xs (λ x. f (g x))
-unfolding each
-each-map g [] f = refl
-each-map g (x ∷ xs) f = ap (λ (ys : List _). f (g x) ++ ys) (each-map g xs f)
-
--- a list of images, one by one
-each-one : {A B : Type 0} (f : A → B) (xs : List A) → map f xs ≡ each xs (λ x. f x ∷ [])
-unfolding each
-each-one f [] = refl
-each-one f (x ∷ xs) = ap (λ (ys : List _). f x ∷ ys) (each-one f xs)
-
--- task k
-abbrev numbered : ℕ → Task
-numbered k = record { 0 = k }
 
 -- the sites of task k's instructions, and its own
 unfoldable pub bodySites : Table → ℕ → List Site
@@ -272,7 +237,7 @@ module _ (t : Table) (shaped : Shaped t) where
   -- no task stands before the first
   pub rate-first : (k : ℕ) → k ≤ 0 → rateFault t (numbered k) ≡ false
   unfolding rateFault
-  rate-first k first = first-fails (ltb 0 k) _ (le-ltb 0 k first)
+  rate-first k first = and-first (ltb 0 k) _ (le-ltb 0 k first)
 
   -- a later task's period is held to that of the one before
   module _ (k : ℕ) (later : 0 < k) (below : k < t .tasks) (d : TaskEntry) where

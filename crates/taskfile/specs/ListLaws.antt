@@ -16,6 +16,12 @@ getD-member [] k d h = absurd (omega arith)
 getD-member (x ∷ xs) zero d h = List·Memᴰ·head refl
 getD-member (x ∷ xs) (suc k) d h = List·Memᴰ·tail (getD-member xs k d (omega arith))
 
+-- below the length, what stands at an index does not turn on the default
+pub getD-any : {A : Type 0} (xs : List A) (k : ℕ) (d e : A) → k < length xs → getD xs k d ≡ getD xs k e
+getD-any [] k d e h = absurd (omega arith)
+getD-any (x ∷ xs) zero d e h = refl
+getD-any (x ∷ xs) (suc k) d e h = getD-any xs k d e (omega arith)
+
 -- the numbers start to start + n - 1 are elements of `from start n`
 pub from-member : (start n k : ℕ) → start ≤ k → k < start + n → List·Memᴰ k (from start n)
 unfolding from
@@ -99,3 +105,14 @@ pub each-append : {A B : Type 0} (f : A → List B) (xs ys : List A) → each (x
 unfolding each
 each-append f [] ys = refl
 each-append f (x ∷ xs) ys = ap (λ (l : List _). f x ++ l) (each-append f xs ys) ∙ sym (append-assoc (f x) (each xs f) (each ys f))
+
+-- parts listed by an element's image, and a list of images one by one
+pub each-map : {A B C : Type 0} (g : A → B) (xs : List A) (f : B → List C) → each (map g xs) f ≡ each xs (λ x. f (g x))
+unfolding each
+each-map g [] f = refl
+each-map g (x ∷ xs) f = ap (λ (ys : List _). f (g x) ++ ys) (each-map g xs f)
+
+pub each-one : {A B : Type 0} (f : A → B) (xs : List A) → map f xs ≡ each xs (λ x. f x ∷ [])
+unfolding each
+each-one f [] = refl
+each-one f (x ∷ xs) = ap (λ (ys : List _). f x ∷ ys) (each-one f xs)

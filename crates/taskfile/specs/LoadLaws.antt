@@ -24,7 +24,7 @@ use Rattle.taskfile.specs.Checked.{Checked, refused, passed, require, no
 use Rattle.taskfile.specs.CheckedLaws.{passed-same, bind-passed, then-passed, placed-passed}
 use Rattle.taskfile.specs.CheckSteps.{checkOf-passed, checkOf-refused, require-holds, require-fails, bind-refused, bind-goes, then-refused, then-goes}
 use Rattle.taskfile.specs.File.{Loaded, load, sized, recordAt}
-use Rattle.taskfile.specs.Judgement.{judged, taskNumbers, instructionSites, ofInstruction, ofTask, bodyFault, rateFault, ceilingFault}
+use Rattle.taskfile.specs.Judgement.{judged, numbered, taskNumbers, instructionSites, ofInstruction, ofTask, bodyFault, rateFault, ceilingFault}
 use Rattle.taskfile.specs.Lists.{if_then_else_, upTo}
 use Rattle.taskfile.specs.ListLaws.{member-each, upTo-member}
 use Rattle.taskfile.specs.Reading.{checkOf, judgedOf, linkedChains, LoadedAs}
@@ -65,9 +65,6 @@ then-refuses : {P A B : Type 0} (c : Checked P A) (d : Checked P B) {n : ℕ} {p
 unfolding _>>_
 then-refuses (refused number place) d e = inl cc
 then-refuses (passed x) d e = inr e
-
-abbrev numbered : ℕ → Task
-numbered k = record { 0 = k }
 
 -- a task number that is listed is one of the table's
 pub task-in : (t : Table) (i : Task) → List·Memᴰ i (taskNumbers t) → i .0 < length (tasksOf t)

@@ -7,14 +7,11 @@ use mathlib.Core.List.{List, map}
 use lib.ListN.{length, getD, length-map, List·getD-map}
 use Rattle.taskfile.specs.declared.Table.{Table}
 use Rattle.taskfile.specs.declared.Task.{Task}
-use Rattle.taskfile.specs.Judgement.{taskNumbers}
+use Rattle.taskfile.specs.Judgement.{numbered, taskNumbers}
 use Rattle.taskfile.specs.Lists.{from, upTo}
 use Rattle.taskfile.specs.ListLaws.{upTo-length, getD-upTo}
 use Rattle.taskfile.specs.Pairs.{Every, Ordered, every-imp, every-map, ordered-imp, ordered-map, from-within, from-rises}
 use Rattle.taskfile.specs.Tables.{tasksOf}
-
-abbrev numbered : ℕ → Task
-numbered k = record { 0 = k }
 
 -- there are as many task numbers as tasks, and each stands at its own place
 pub taskNumbers-length : (t : Table) → length (taskNumbers t) ≡ length (tasksOf t)

@@ -55,3 +55,12 @@ and-first false q h = refl
 pub or-second : (p q : Bool) → p ≡ false → (p || q) ≡ q
 or-second true q h = absurd (true≢false h)
 or-second false q h = refl
+
+pub and-last : (p q : Bool) → q ≡ false → (p && q) ≡ false
+and-last true q h = h
+and-last false q h = refl
+
+-- where one of two tests joined by `||` holds and the second does not, the first does
+pub or-first : (p q : Bool) → (p || q) ≡ true → q ≡ false → p ≡ true
+or-first true q h k = refl
+or-first false q h k = absurd (not-both q h k)

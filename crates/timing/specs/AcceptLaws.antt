@@ -25,7 +25,7 @@ use Rattle.taskfile.specs.Checked.{Checked, refused, passed, require, placedBy,
 use Rattle.taskfile.specs.CheckedLaws.{passed-same, bind-passed}
 use Rattle.taskfile.specs.CheckSteps.{require-holds, require-fails, bind-refused, bind-goes}
 use Rattle.taskfile.specs.File.{Loaded, load, recordAt}
-use Rattle.taskfile.specs.Judgement.{taskNumbers}
+use Rattle.taskfile.specs.Judgement.{numbered, taskNumbers}
 use Rattle.taskfile.specs.LoadLaws.{load-parts, task-in}
 use Rattle.taskfile.specs.Lists.{each, upTo, padded}
 use Rattle.taskfile.specs.PaddedLaws.{padded-at, padded-any}
@@ -48,7 +48,7 @@ use Rattle.timing.specs.Jobs.{jobCount, jobOf, jobsWithin, jobsOf, jobsO
 use Rattle.timing.specs.ReadEntries.{readAnswerOf, readAnswer}
 use Rattle.timing.specs.Response.{responseOf}
 use Rattle.timing.specs.ResponseLaws.{response-found}
-use Rattle.timing.specs.ResponseParts.{Timeable, ResponsesAs, numbered}
+use Rattle.timing.specs.ResponseParts.{Timeable, ResponsesAs}
 use Rattle.timing.specs.TimeableLaws.{tasks-length}
 
 -- ---- a file that was loaded

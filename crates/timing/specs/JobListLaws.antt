@@ -13,7 +13,7 @@ use lib.Dec.{leb, ltb, eqb}
 use Rattle.taskfile.specs.declared.Table.{Table}
 use Rattle.taskfile.specs.declared.Task.{Task}
 use Rattle.taskfile.specs.declared.TaskEntry.{TaskEntry}
-use Rattle.taskfile.specs.Judgement.{taskNumbers}
+use Rattle.taskfile.specs.Judgement.{numbered, taskNumbers}
 use Rattle.taskfile.specs.JudgingParts.{Shaped}
 use Rattle.taskfile.specs.Lists.{if_then_else_, from, upTo, each, padded}
 use Rattle.taskfile.specs.ListLaws.{from-snoc, map-snoc, each-append}
@@ -25,7 +25,7 @@ use Rattle.timing.specs.Jobs.{arrivalOf, jobsWithin, jobOf, jobsOfTask, 
 use Rattle.timing.specs.Relations.{noJob, jobAt, base, before, mayPreempt}
 use Rattle.timing.specs.Response.{roundedUp}
 use Rattle.timing.specs.ResponseLaws.{roundedUp-below}
-use Rattle.timing.specs.ResponseParts.{Timeable, numbered}
+use Rattle.timing.specs.ResponseParts.{Timeable}
 use Rattle.timing.specs.TimeableLaws.{tasks-length, task-read}
 use Rattle.timing.specs.Accepted.{Accepted}
 use Rattle.timing.specs.JobParts.{jobListOf}

@@ -7,11 +7,11 @@ use Rattle.taskfile.specs.declared.Table.{Table}
 use Rattle.taskfile.specs.declared.Task.{Task}
 use Rattle.taskfile.specs.Lists.{padded}
 use Rattle.taskfile.specs.Tables.{taskOf}
+use Rattle.taskfile.specs.Judgement.{numbered}
 use Rattle.timing.specs.declared.JobList.{JobList}
 use Rattle.timing.specs.declared.JobRecord.{JobRecord}
 use Rattle.timing.specs.Accepted.{mostJobs}
 use Rattle.timing.specs.Relations.{noJob}
-use Rattle.timing.specs.ResponseParts.{numbered}
 
 -- a list of jobs in an array of 32
 unfoldable pub jobListOf : List JobRecord → JobList

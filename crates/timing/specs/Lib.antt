@@ -13,5 +13,6 @@ pub mod Relations
 pub mod Response
 pub mod ResponseLaws
 pub mod ResponseParts
+pub mod ShareLaws
 pub mod TableResponseLaws
 pub mod TimeableLaws

@@ -1,8 +1,9 @@
--- The climb to the response time as its functions yield it: the lower bound that it starts from, and the answers as declared types.
+-- The climb to the response time as its functions yield it: the share of the processor that the tasks above need, the lower bound
+-- that it starts from, and the answers as declared types.
 -- Assumes nothing.
 use mathlib.Core.Path.{_≡_}
-use Prim.Native.Nat.{ℕ, _+_, _-_, _*_, _/_, _^_, _≤_, _<_}
-use mathlib.Core.List.{List, map}
+use Prim.Native.Nat.{ℕ, _+_, _*_, _^_, _≤_, _<_}
+use mathlib.Core.List.{List}
 use mathlib.Core.Option.{Option, none, some}
 use lib.ListN.{length}
 use Rattle.taskfile.specs.declared.Judged.the-variants.{Sound, Faulty}
@@ -12,15 +13,13 @@ use Rattle.taskfile.specs.declared.Task.{Task}
 use Rattle.taskfile.specs.declared.TaskEntry.{TaskEntry}
 use Rattle.taskfile.specs.Checked.{Checked, refused, passed}
 use Rattle.taskfile.specs.JudgingParts.{Shaped}
-use Rattle.taskfile.specs.Lists.{padded, sum}
+use Rattle.taskfile.specs.Lists.{padded}
 use Rattle.taskfile.specs.Tables.{tasksOf, taskOf}
 use Rattle.timing.specs.declared.Bound.{Bound}
 use Rattle.timing.specs.declared.Bound.the-variants.{Within, Overload}
 use Rattle.timing.specs.declared.Responses.{Responses}
-use Rattle.timing.specs.Response.{roundedUp, tasksAbove, demand}
-
-abbrev pub numbered : ℕ → Task
-numbered i = record { 0 = i }
+use Rattle.timing.specs.declared.Share.{Share}
+use Rattle.timing.specs.Response.{interference, demand}
 
 -- a table whose times can be worked out: its arrays are full, and each task has 1 ≤ C ≤ P
 pub record Timeable (t : Table) : Type 0 where
@@ -33,13 +32,25 @@ unfoldable pub boundOf : Option ℕ → Bound
 boundOf none = Overload
 boundOf (some R) = Within R
 
--- the tasks' share of the processor in parts of 2^32, each rounded down
-unfoldable pub utilisation : List TaskEntry → ℕ
-utilisation above = sum (map (λ e. e .execution * 2 ^ 32 / e .period) above)
+-- a share of less than the whole in at most cap parts, and a task that needs c of every p: their sum fits
+pub record SumFits (s : Share) (c p cap : ℕ) : Type 0 where
+  pub positive : 1 ≤ c
+  pub within : c ≤ p
+  pub below : s .part < s .whole
+  pub few : s .whole ≤ cap
+  pub room : cap < 2 ^ 63
 
--- where the climb starts
-unfoldable pub startOf : Table → Task → ℕ
-startOf t i = roundedUp (taskOf t i .execution * 2 ^ 32) (2 ^ 32 - utilisation (tasksAbove t i))
+-- a share r in at most cap parts that is no more than s and c of p together
+pub record WithTask (s : Share) (c p cap : ℕ) (r : Share) : Type 0 where
+  pub positive : 1 ≤ r .whole
+  pub few : r .whole ≤ cap
+  pub most : r .part * (s .whole * p) ≤ (s .part * p + c * s .whole) * r .whole
+
+-- a share in at most cap parts that the listed tasks need at least, in an interval of any length
+pub record ShareOf (above : List TaskEntry) (cap : ℕ) (s : Share) : Type 0 where
+  pub positive : 1 ≤ s .whole
+  pub few : s .whole ≤ cap
+  pub needed : (R : ℕ) → R * s .part ≤ interference above R * s .whole
 
 -- a positive number that no solution is below, and that the demand is not below
 pub record LowerBound (t : Table) (i : Task) (r : ℕ) : Type 0 where

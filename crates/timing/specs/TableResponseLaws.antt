@@ -12,7 +12,7 @@ use Rattle.taskfile.specs.declared.Site.{Site}
 use Rattle.taskfile.specs.declared.Site.the-variants.{AtTask}
 use Rattle.taskfile.specs.declared.Table.{Table}
 use Rattle.taskfile.specs.Checked.{Checked, refused, passed, _>>=_}
-use Rattle.taskfile.specs.Judgement.{taskNumbers}
+use Rattle.taskfile.specs.Judgement.{numbered, taskNumbers}
 use Rattle.taskfile.specs.JudgingParts.{Shaped}
 use Rattle.taskfile.specs.Lists.{padded}
 use Rattle.taskfile.specs.PaddedLaws.{padded-snoc}
@@ -20,7 +20,7 @@ use Rattle.taskfile.specs.TableLaws.{taskNumbers-length, taskNumbers-at}
 use Rattle.timing.specs.declared.Bound.the-variants.{Within, Overload}
 use Rattle.timing.specs.Accepted.{bounded, responsesOf}
 use Rattle.timing.specs.Response.{responseOf}
-use Rattle.timing.specs.ResponseParts.{numbered, boundOf}
+use Rattle.timing.specs.ResponseParts.{boundOf}
 use Rattle.timing.specs.TimeableLaws.{tasks-length}
 
 -- ---- the outcome

@@ -2,8 +2,8 @@
 -- and a sum over the tasks above one is worked out task by task.
 -- Assumes nothing.
 use mathlib.Core.Path.{_≡_, refl, sym, ap, _∙_}
-use Prim.Native.Nat.{ℕ, zero, suc, _+_, _-_, _*_, _/_, _^_, _≤_, _<_}
-use native.Mathlib.Nat.{mul-le-mul-left, mul-le-mul-right, div-le-of-le-mul}
+use Prim.Native.Nat.{ℕ, zero, suc, _+_, _-_, _*_, _^_, _≤_, _<_}
+use native.Mathlib.Nat.{mul-le-mul-left}
 use native.Mathlib.Numerals.{add-one}
 use native.Mathlib.Omega.{arith}
 use mathlib.Core.List.{List, [], _∷_, map}
@@ -14,10 +14,11 @@ use Rattle.taskfile.specs.declared.TaskEntry.{TaskEntry}
 use Rattle.taskfile.specs.JudgingParts.{Shaped}
 use Rattle.taskfile.specs.Lists.{sum}
 use Rattle.taskfile.specs.Tables.{tasksOf, taskOf, noTask}
+use Rattle.taskfile.specs.Judgement.{numbered}
 use Rattle.timing.specs.Jobs.{jobsWithin}
 use Rattle.timing.specs.Response.{roundedUp, tasksAbove, interference, demand}
 use Rattle.timing.specs.ResponseLaws.{roundedUp-tight}
-use Rattle.timing.specs.ResponseParts.{Timeable, numbered, utilisation, startOf}
+use Rattle.timing.specs.ResponseParts.{Timeable}
 
 -- below the length, what stands at an index does not turn on the default
 pub getD-default : {A : Type 0} (xs : List A) (k : ℕ) (d e : A) → k < length xs → getD xs k d ≡ getD xs k e
@@ -73,35 +74,25 @@ pub sum-end : {t : Table} → Shaped t → (g : TaskEntry → ℕ) (k : ℕ) →
 unfolding sum
 sum-end {t} s g k le = rw (drop-of-length-le (tasksOf t) {i = k} (omega (arith, tasks-length s)))
 
--- interference: a term fits, and the rest is what the later tasks add
+-- interference: the first task's term, and what the later tasks add
+pub interference-next : {t : Table} → Timeable t → (k r : ℕ) {C P : ℕ} → k < t .tasks → TimesRead t k C P
+    → interference (drop k (tasksOf t)) r ≡ roundedUp r P * C + interference (drop (k + 1) (tasksOf t)) r
+unfolding interference
+interference-next timeable k r lt read =
+    sum-step (timeable .shaped) (λ e. roundedUp r (e .period) * e .execution) k lt ∙ rw (read .execution, read .period)
+
+-- the term fits
 pub interference-step : {t : Table} → Timeable t → (k r : ℕ) {C P u : ℕ} → k < t .tasks → r < 2 ^ 32 → P < 2 ^ 32
     → TimesRead t k C P → u ≡ roundedUp r P
     → (u * C < 2 ^ 33) × (interference (drop k (tasksOf t)) r ≡ u * C + interference (drop (k + 1) (tasksOf t)) r)
-unfolding interference
 interference-step timeable k r {C} {P} {u} lt small narrow read e = (
   omega (arith, mul-le-mul-left u (read .within), rw (← e) at (roundedUp-tight r P (omega arith))),
-  sum-step (timeable .shaped) (λ e. roundedUp r (e .period) * e .execution) k lt
-      ∙ rw (e, read .execution, read .period),
+  rw e (interference-next timeable k r lt read),
 )
 
 pub interference-end : {t : Table} → Timeable t → (k r : ℕ) → t .tasks ≤ k → interference (drop k (tasksOf t)) r ≡ 0
 unfolding interference
 interference-end timeable k r le = sum-end (timeable .shaped) (λ e. roundedUp r (e .period) * e .execution) k le
-
--- utilisation: the same
-pub utilisation-step : {t : Table} → Timeable t → (k : ℕ) {C P : ℕ} → k < t .tasks → TimesRead t k C P
-    → (C * 2 ^ 32 / P ≤ 2 ^ 32)
-    × (utilisation (drop k (tasksOf t)) ≡ C * 2 ^ 32 / P + utilisation (drop (k + 1) (tasksOf t)))
-unfolding utilisation
-utilisation-step timeable k {C} {P} lt read = (
-  div-le-of-le-mul P (mul-le-mul-right (2 ^ 32) (read .within)),
-  sum-step (timeable .shaped) (λ e. e .execution * 2 ^ 32 / e .period) k lt
-      ∙ rw (read .execution, read .period),
-)
-
-pub utilisation-end : {t : Table} → Timeable t → (k : ℕ) → t .tasks ≤ k → utilisation (drop k (tasksOf t)) ≡ 0
-unfolding utilisation
-utilisation-end timeable k le = sum-end (timeable .shaped) (λ e. e .execution * 2 ^ 32 / e .period) k le
 
 -- the jobs of the tasks from task k on
 pub jobs-step : {t : Table} → Timeable t → (k : ℕ) (d : TaskEntry) {n : ℕ} → k < t .tasks → n ≡ jobsWithin (t .window) (getD (t .entries) k d)
@@ -109,14 +100,9 @@ pub jobs-step : {t : Table} → Timeable t → (k : ℕ) (d : TaskEntry) {n : �
 jobs-step {t} timeable k d lt e =
     sum-step (timeable .shaped) (jobsWithin (t .window)) k lt ∙ rw (e, task-read (timeable .shaped) k d lt)
 
--- ---- demand and start of task k, with its execution time as read
+-- ---- demand of task k, with its execution time as read
 
 pub demand-read : {t : Table} {k C P : ℕ} → TimesRead t k C P → (r : ℕ) {x : ℕ} → x ≡ interference (tasksAbove t (numbered k)) r
     → C + x ≡ demand t (numbered k) r
 unfolding demand
 demand-read read r e = rw (e, read .execution)
-
-pub start-read : {t : Table} {k C P : ℕ} → TimesRead t k C P → {U : ℕ} → U ≡ utilisation (tasksAbove t (numbered k))
-    → roundedUp (C * 2 ^ 32) (2 ^ 32 - U) ≡ startOf t (numbered k)
-unfolding startOf
-start-read read e = rw (e, read .execution)

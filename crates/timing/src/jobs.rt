@@ -12,10 +12,11 @@ ghost use Prim.Native.Nat.{ℕ, _+_, _^_, _≤_, _<_};
 ghost use lib.ListN.{length, getD};
 ghost use Rattle.taskfile.specs.Lists.{upTo};
 ghost use Rattle.taskfile.specs.Tables.{taskOf};
+ghost use Rattle.taskfile.specs.Judgement.{numbered};
 ghost use Rattle.timing.specs.declared.JobRecord.{JobRecord};
 ghost use Rattle.timing.specs.Jobs.{jobsWithin, jobCount, jobOf, jobsOf};
 ghost use Rattle.timing.specs.JobParts.{jobListOf, WithinPeriods};
-ghost use Rattle.timing.specs.ResponseParts.{Timeable, numbered};
+ghost use Rattle.timing.specs.ResponseParts.{Timeable};
 
 // How many jobs of a task arrive before the window ends.
 pub fn jobs_within(window: u32, e: TaskEntry) -> u64

@@ -33,6 +33,12 @@ pub enum Bound {
     Overload,
 }
 
+// A fraction of the processor, part of whole, that tasks need at least.
+pub struct Share {
+    pub part: u64,
+    pub whole: u64,
+}
+
 // The response times of a table, or the first task that has none.
 pub struct Responses {
     pub check: Judged,

@@ -1,6 +1,8 @@
-//! What the tests share: the paper's table X, buffers with a pattern, calls of every entry, and
-//! listings of all orders and all plans that use neither the walk nor the conversions.
+//! What the tests share: the paper's table X, buffers with a pattern, calls of every entry,
+//! listings of all orders and all plans that use neither the walk nor the conversions, and what the
+//! proved entries must answer.
 
 pub mod cases;
 pub mod entries;
 pub mod listing;
+pub mod proved;

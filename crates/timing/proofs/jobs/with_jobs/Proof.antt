@@ -4,10 +4,10 @@ use mathlib.Core.Path.{_≡_, ap, _∙_}
 use mathlib.Core.List.{List, _++_, map}
 use borrow.Author.Needs.{needs}
 use Rattle.taskfile.specs.Lists.{upTo}
+use Rattle.taskfile.specs.Judgement.{numbered}
 use Rattle.timing.specs.declared.JobRecord.{JobRecord}
 use Rattle.timing.specs.JobParts.{jobListOf}
 use Rattle.timing.specs.JobListLaws.{jobAs, none-added, one-added, all-added, product-fits}
-use Rattle.timing.specs.ResponseParts.{numbered}
 use Rattle.timing.proofs.jobs.with_jobs.Statement.{statement}
 use Rattle.timing.proofs.jobs.with_jobs.Tie as tie
 use Rattle.timing.proofs.jobs.with_jobs.Reads as reads

@@ -4,9 +4,10 @@
 use mathlib.Core.Path.{_≡_, sym, ap, _∙_}
 use Prim.Native.Nat.{suc, _+_, _-_}
 use native.Mathlib.Omega.{arith}
+use Rattle.taskfile.specs.Judgement.{numbered}
 use Rattle.timing.specs.ClimbLaws.{climb-found, climb-higher, climb-past}
 use Rattle.timing.specs.Response.{demand}
-use Rattle.timing.specs.ResponseParts.{numbered, boundOf, LowerBound}
+use Rattle.timing.specs.ResponseParts.{boundOf, LowerBound}
 use Rattle.timing.specs.TimeableLaws.{TimesRead, times-read, demand-read}
 use Rattle.timing.proofs.response.climb.Statement.{statement}
 use Rattle.timing.proofs.response.climb.Tie as tie

@@ -7,8 +7,8 @@ use native.Mathlib.Numerals.{add-one}
 use native.Mathlib.Omega.{arith}
 use lib.ListN.{drop}
 use Rattle.taskfile.specs.Tables.{tasksOf}
+use Rattle.taskfile.specs.Judgement.{numbered}
 use Rattle.timing.specs.Response.{interference, tasksAbove}
-use Rattle.timing.specs.ResponseParts.{numbered}
 use Rattle.timing.specs.TimeableLaws.{times-read, interference-step, interference-end}
 use Rattle.timing.proofs.response.interference_of.Statement.{statement}
 use Rattle.timing.proofs.response.interference_of.Tie as tie

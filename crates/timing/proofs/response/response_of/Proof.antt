@@ -1,23 +1,25 @@
--- `timing::response::response_of` meets its contract. Where the tasks above take the whole processor, no interval is a solution;
+-- `timing::response::response_of` meets its contract. Where the tasks above need the whole processor, no interval is a solution;
 -- else the start is a lower bound of the solutions, from which the climb finds the least.
 -- Assumes nothing.
-use mathlib.Core.Path.{refl, sym, ap, _∙_}
+use mathlib.Core.Path.{_≡_, refl, sym, ap}
+use Prim.Native.Nat.{_-_, _^_, _≤_}
+use native.Mathlib.Nat.{le-div-iff-mul-le, div-le-self, mul-div-le, mul-le-mul-left}
 use native.Mathlib.Omega.{arith}
 use borrow.Author.Needs.{needs}
+use Rattle.taskfile.specs.Tables.{taskOf}
+use Rattle.taskfile.specs.Judgement.{numbered}
 use Rattle.timing.specs.ClimbLaws.{overloaded, start-bound}
 use Rattle.timing.specs.ResponseParts.{boundOf}
-use Rattle.timing.specs.TimeableLaws.{times-read, start-read}
+use Rattle.timing.specs.TimeableLaws.{times-read}
 use Rattle.timing.proofs.response.response_of.Statement.{statement}
 use Rattle.timing.proofs.response.response_of.Tie as tie
 
-utilisation-of-requires : tie.Need-utilisation-of-requires
-utilisation-of-requires c κs = search needs
-
-returns : tie.Need-returns
-unfolding boundOf
-returns c =
-    let start = c .before .before in
-    sym (ap boundOf (overloaded _ _ (start .pre .0 .positive _ (start .pre .1)) (omega arith)))
+-- the execution time read is that of task i
+read : (c : tie.After-wide) → (c .wide .result ≡ taskOf (c .before .before .args .t1) (numbered (c .before .before .args .i)) .execution) × (1 ≤ c .wide .result)
+read c =
+    let given = c .before .before .pre in
+    let times = times-read (given .0) _ _ (given .1) (c .wide .ensures .0) refl in
+    (times .execution, times .positive)
 
 mul-e : tie.Need-mul-e
 mul-e c = search needs
@@ -28,8 +30,30 @@ element-copy-out-e c = search needs
 wide-requires : tie.Need-wide-requires
 wide-requires c κs = search needs
 
+div-share-above : tie.Need-div-share-above
+div-share-above c = read c .1
+
+share-above-requires : tie.Need-share-above-requires
+share-above-requires c κs =
+    let given = c .before .before .pre in (
+      given .0,
+      given .1,
+      le-div-iff-mul-le (read c .1) .1 (omega arith),
+      omega (arith, div-le-self (2 ^ 63 - 1) (c .wide .result)),
+    )
+
+returns : tie.Need-returns
+unfolding boundOf
+returns c =
+    let found = c .before .before in
+    let given = found .before .before .before .pre in
+    sym (ap boundOf (overloaded _ _ (given .0 .positive _ (given .1)) (found .share-above .ensures) (omega arith)))
+
 mul-rounded-up : tie.Need-mul-rounded-up
-mul-rounded-up c = search needs
+mul-rounded-up c =
+    let found = c .before .before .before in
+    let C = found .before .wide .result in
+    omega (arith, mul-le-mul-left C (found .share-above .ensures .few), mul-div-le (2 ^ 63 - 1) C)
 
 sub-rounded-up : tie.Need-sub-rounded-up
 sub-rounded-up c = search needs
@@ -39,14 +63,12 @@ rounded-up-requires c κs = search needs
 
 climb-requires : tie.Need-climb-requires
 climb-requires c κs =
-    let start = c .before .before .before .before .before in
-    let timeable = start .pre .0 in
-    let below = start .pre .1 in
-    let read = times-read timeable _ _ below (c .before .wide .ensures .0) refl in (
-      timeable,
-      below,
-      rw (c .rounded-up .ensures ∙ start-read read (c .before .before .before .before .utilisation-of .ensures .0))
-          (start-bound _ _ (timeable .positive _ below) (omega arith)),
+    let found = c .before .before .before .before .before in
+    let given = found .before .before .before .pre in (
+      given .0,
+      given .1,
+      rw (c .rounded-up .ensures, read (found .before) .0)
+          (start-bound _ _ (given .0 .positive _ (given .1)) (found .share-above .ensures) (omega arith)),
     )
 
 returns-2 : tie.Need-returns-2
@@ -56,11 +78,12 @@ pub response-of-spec : {M : Type 1} → statement M
 response-of-spec =
     tie.close
     (tie.spec
-    utilisation-of-requires
-    returns
     mul-e
     element-copy-out-e
     wide-requires
+    div-share-above
+    share-above-requires
+    returns
     mul-rounded-up
     sub-rounded-up
     rounded-up-requires

@@ -1,0 +1,122 @@
+//! The files whose reading is timed.
+
+use conformance::cases::table_x;
+use generator::hostile::{nearly_full, tasks_of, WIDEST};
+use generator::{code, InstructionDescription, Random, TableDescription, TaskDescription};
+
+/// A row of the benchmark: one file, or the slowest of several.
+pub struct Row {
+    pub name: String,
+    pub files: Vec<Vec<u8>>,
+    pub hostile: bool,
+}
+
+/// All rows in the order of the table. Table X comes first.
+pub fn rows() -> Vec<Row> {
+    let mut refused = full_table().write();
+    refused.resize(256 * 16, 0);
+    let plain = |name: &str, file| Row { name: name.into(), files: vec![file], hostile: false };
+    let mut rows = vec![
+        plain("table X", table_x().write()),
+        plain("145 records: 8 tasks of 16 instructions, 8 locks, 32 jobs", full_table().write()),
+        plain("256 records: the same and 111 never reached", refused),
+    ];
+    rows.extend(heavy_tables().into_iter().map(heavy_row));
+    rows.extend(random_rows());
+    rows
+}
+
+/// The largest table: each body uses locks and skips, and each task has four jobs.
+fn full_table() -> TableDescription {
+    let mut body: Vec<InstructionDescription> = Vec::new();
+    for lock in 0..5 {
+        body.extend([code::acquire(lock), code::skip_if_equal(0, 1, 0), code::release(lock)]);
+    }
+    body.push(code::end());
+    let task = |number: u32| TaskDescription::new([1, 64 - number, number], &body);
+    let mut table = TableDescription::new(200, (0..8).map(task).collect());
+    table.ceilings = vec![7; 8];
+    table
+}
+
+/// Times C and P of hostile tables, lowest task first: utilisation at, just below and above 1 above
+/// the task with the longest period.
+fn heavy_tables() -> Vec<Vec<(u32, u32)>> {
+    let lowest = (1, WIDEST);
+    let sylvester = [(1, 1807), (1, 43), (1, 7), (1, 3), (1, 2)];
+    let above = |times: &[(u32, u32)]| [&[lowest], times].concat();
+    vec![
+        above(&[]),
+        above(&[(1, 1)]),
+        above(&[(1, 6), (1, 3), (1, 2)]),
+        above(&[(1, 7), (1, 3), (1, 2)]),
+        above(&[(1, 5), (1, 3), (1, 2)]),
+        above(&[(1, 7); 7]),
+        above(&[&[(1, 8)], &[(1, 7); 6][..]].concat()),
+        above(&[&sylvester[..], &[(1, 1)]].concat()),
+        above(&[&[(1, 3_263_443)], &sylvester[..], &[(1, 1)]].concat()),
+        above(&sylvester),
+        above(&[&[(1, 3_300_000)], &sylvester[..]].concat()),
+        above(&[&[(1, 3_263_443)], &sylvester[..]].concat()),
+    ]
+}
+
+/// The row of a hostile table, named by its times.
+fn heavy_row(times: Vec<(u32, u32)>) -> Row {
+    let words: Vec<String> = times.iter().map(|(c, p)| format!("{c}/{p}")).collect();
+    Row {
+        name: format!("C/P {}", words.join(", ")),
+        files: vec![tasks_of(&times).write()],
+        hostile: true,
+    }
+}
+
+/// Families of random tables.
+fn random_rows() -> Vec<Row> {
+    let family = |name: &str, seed: u64, count: usize, make: fn(&mut Random) -> TableDescription| {
+        let mut random = Random::new(seed);
+        let files = (0..count).map(|_| make(&mut random).write()).collect();
+        Row { name: format!("slowest of {count}: {name}"), files, hostile: true }
+    };
+    vec![
+        family("8 tasks, P 500 to 1000, utilisation just below 1", 200, 200, eight_tasks),
+        family("7 such tasks above 1/4294967295", 201, 200, seven_tasks),
+        family("the same, as near to 1 as the last C/P allows", 202, 20, seven_tasks_nearest),
+        family("up to 7 tasks, P up to 2^20, nearly full", 203, 60, nearly_full),
+    ]
+}
+
+fn eight_tasks(random: &mut Random) -> TableDescription {
+    tasks_of(&just_below_full(random, 8, false))
+}
+
+fn seven_tasks(random: &mut Random) -> TableDescription {
+    tasks_of(&[vec![(1, WIDEST)], just_below_full(random, 7, false)].concat())
+}
+
+fn seven_tasks_nearest(random: &mut Random) -> TableDescription {
+    tasks_of(&[vec![(1, WIDEST)], just_below_full(random, 7, true)].concat())
+}
+
+/// Random tasks with periods 500 to 1000, lowest first. One of them takes what the others leave, as
+/// far as its C is below that; `nearest` says that its period is the one that leaves least free.
+fn just_below_full(random: &mut Random, count: u32, nearest: bool) -> Vec<(u32, u32)> {
+    let mut times: Vec<(u32, u32)> = Vec::new();
+    let mut free = 1.0;
+    for _ in 1..count {
+        let period = random.between(500, 1000) as u32;
+        let most = (2.0 * free * f64::from(period) / f64::from(count)) as u64;
+        let execution = random.between(1, most.max(1)) as u32;
+        free -= f64::from(execution) / f64::from(period);
+        times.push((execution, period));
+    }
+    let filling = |period: u32| (f64::from(period) * free * (1.0 - 1e-12)) as u32;
+    let left = |period: &u32| free - f64::from(filling(*period)) / f64::from(*period);
+    let period = match nearest {
+        true => (500..=1000).min_by(|a, b| left(a).total_cmp(&left(b))).expect("not empty"),
+        false => random.between(500, 1000) as u32,
+    };
+    times.push((filling(period).max(1), period));
+    times.sort_unstable_by_key(|(_, period)| std::cmp::Reverse(*period));
+    times
+}

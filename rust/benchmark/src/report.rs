@@ -1,0 +1,126 @@
+//! The benchmark's table as text.
+
+use crate::measure::{Time, AT_ONCE, LIMIT, MOST_SAMPLES, TURNS};
+use std::process::Command;
+
+/// A row's times.
+pub struct Timing {
+    pub name: String,
+    pub hostile: bool,
+    /// What the file earns: 0 if it is accepted.
+    pub number: u64,
+    pub proved: Time,
+    pub interpreter: Time,
+}
+
+/// Whole nanoseconds in groups of three digits.
+fn grouped(nanoseconds: f64) -> String {
+    let digits = format!("{nanoseconds:.0}");
+    let mut text = String::new();
+    for (at, digit) in digits.chars().enumerate() {
+        if at > 0 && (digits.len() - at) % 3 == 0 {
+            text.push(',');
+        }
+        text.push(digit);
+    }
+    text
+}
+
+/// A time as the table shows it.
+fn shown(time: Time) -> String {
+    match time {
+        Time::Median(time) => grouped(time),
+        Time::Once(time) => format!("{} (one run)", grouped(time)),
+        Time::Over => format!("over {} s", LIMIT.as_secs()),
+    }
+}
+
+/// One time by another. A time that was stopped makes it a bound, two make it unknown.
+fn ratio(time: Time, by: Time) -> String {
+    let ratio = time.nanoseconds() / by.nanoseconds();
+    let number = if ratio < 100.0 { format!("{ratio:.2}") } else { grouped(ratio) };
+    match (time, by) {
+        (Time::Over, Time::Over) => "unknown".into(),
+        (Time::Over, _) => format!("over {number}"),
+        (_, Time::Over) => format!("under {number}"),
+        _ => number,
+    }
+}
+
+/// The table, and below it the slowest hostile file against the first row.
+pub fn table(timings: &[Timing]) -> String {
+    let mut text = String::from("| file | number | proved entry, ns | interpreter, ns | ratio |\n");
+    text.push_str("|---|---:|---:|---:|---:|\n");
+    for Timing { name, number, proved, interpreter, .. } in timings {
+        let (time, other) = (shown(*proved), shown(*interpreter));
+        let ratio = ratio(*proved, *interpreter);
+        text.push_str(&format!("| {name} | {number} | {time} | {other} | {ratio} |\n"));
+    }
+    text.push_str(&format!("\n{}\n", slowest(timings)));
+    text
+}
+
+/// The sentence on the slowest hostile file. Of several that were stopped none is known to be it.
+fn slowest(timings: &[Timing]) -> String {
+    let hostile = || timings.iter().filter(|timing| timing.hostile);
+    let by_time = |one: &&Timing, other: &&Timing| {
+        one.proved.nanoseconds().total_cmp(&other.proved.nanoseconds())
+    };
+    let most = hostile().max_by(by_time).expect("some file is hostile");
+    let stopped = hostile().filter(|timing| timing.proved == Time::Over).count();
+    let which = match stopped {
+        0 => format!("The slowest hostile file here ({})", most.name),
+        _ => format!("The slowest hostile file here, one of {stopped} that were stopped,"),
+    };
+    let ratio = ratio(most.proved, timings[0].proved);
+    format!("{which} takes the proved entry {ratio} times as long as {}.", timings[0].name)
+}
+
+/// The whole page; `load` is the load average before the first run.
+pub fn page(timings: &[Timing], load: &str) -> String {
+    let cores = std::thread::available_parallelism().map_or(0, usize::from);
+    let (model, date, architecture) = (model(), date(), std::env::consts::ARCH);
+    let (limit, table) = (LIMIT.as_secs(), table(timings));
+    let most = u128::from(TURNS) * MOST_SAMPLES;
+    format!(
+        "# Benchmarks
+
+The time of the proved reader's entry, called through its C interface, and of the interpreter on the
+same file. The number is what the file earns, 0 if it is accepted. The ratio is the proved entry's
+time by the interpreter's. The lowest task stands first in a list of C/P. Of several random tables
+the one that is slowest by the proved entry is shown; the interpreter may be slower on another.
+
+- Machine: {cores} cores, {architecture}, {model}
+- Load: {load} on average in the minute before. Beside other programs, times differ by a factor of
+  two or more from one run of the benchmark to the next.
+- Date: {date}
+- Command: `cargo run --release --offline -p benchmark` in `rust/`
+- Measured: the median of {TURNS} to {most} samples, fewer for slower files, both readers in turn,
+  buffers warm, built for release (the workspace's release build keeps the interpreter's overflow
+  checks). A sample is one call, or the mean of {AT_ONCE} short ones. A first run in a child process
+  comes before; if it takes over 2 s it is the only run, and at {limit} s it is stopped.
+
+{table}"
+    )
+}
+
+/// The system's load average over the last minute.
+pub fn load() -> String {
+    let text = std::fs::read_to_string("/proc/loadavg").unwrap_or_default();
+    text.split(' ').next().filter(|load| !load.is_empty()).unwrap_or("unknown").into()
+}
+
+/// The processor's name as the system gives it.
+fn model() -> String {
+    let text = std::fs::read_to_string("/proc/cpuinfo").unwrap_or_default();
+    let line = text.lines().find(|line| line.starts_with("model name"));
+    let name = line.and_then(|line| line.split_once(':')).map(|(_, name)| name.trim());
+    name.unwrap_or("unknown processor").into()
+}
+
+/// Today, by the system's own program.
+fn date() -> String {
+    let output = Command::new("date").args(["-u", "+%Y-%m-%d"]).output();
+    let text = output.map(|output| String::from_utf8_lossy(&output.stdout).trim().to_string());
+    text.unwrap_or_else(|_| "unknown".into())
+}
