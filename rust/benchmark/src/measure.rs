@@ -104,8 +104,8 @@ impl Reader {
         Ok(())
     }
 
-    /// The least of some runs, which finds the slowest of several files: another program may make any
-    /// one run long. The limit if the first was stopped.
+    /// The least of some runs, which finds the slowest of several files: another program may make
+    /// any one run long. The limit if the first was stopped.
     pub fn least(self, file: &[u8]) -> Result<Duration> {
         let first = self.first_run(file)?.unwrap_or(LIMIT);
         let more = if first > ONLY_ONE { 0 } else { 7 };
