@@ -84,6 +84,11 @@ pub job-listed : (list : JobList) (l : List JobRecord) (x : ℕ) → list ≡ jo
 unfolding jobListOf
 job-listed list l x e lt = ap (λ (m : JobList). getD (m .jobs) x noJob) e ∙ padded-at 32 noJob l x lt
 
+pub record-listed : (list : JobList) (a : Accepted) (x : Job) → list ≡ jobListOf (a .jobs) → x .0 < 32
+    → getD (list .jobs) (x .0) noJob ≡ jobAt a x
+unfolding jobAt
+record-listed list a x e lt = job-listed list (a .jobs) (x .0) e lt
+
 -- the two relations, by the records of a list
 pub before-listed : (list : JobList) (a : Accepted) (x y : Job) → list ≡ jobListOf (a .jobs) → x .0 < 32 → y .0 < 32
     → before a x y

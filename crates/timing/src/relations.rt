@@ -1,11 +1,21 @@
-// Which job comes before which, and which may preempt which, as tests.
+// A job's record by number, and which job comes before which and which may preempt which, as tests.
 use crate::Job;
 use crate::JobList;
+use crate::JobRecord;
 ghost use mathlib.Core.Path.{_≡_};
 ghost use Prim.Native.Nat.{_<_};
 ghost use Rattle.timing.specs.Accepted.{Accepted};
 ghost use Rattle.timing.specs.JobParts.{jobListOf};
-ghost use Rattle.timing.specs.Relations.{before, mayPreempt};
+ghost use Rattle.timing.specs.Relations.{jobAt, before, mayPreempt};
+
+// The record of job x: its task, its arrival and its latest finish.
+pub fn job_record(list: JobList, x: Job) -> JobRecord
+    requires { ⌜ x .0 < 32 ⌝ }
+    ensures { λ r. ⌜ ((a : Accepted) → list ≡ jobListOf (a .jobs) → r ≡ jobAt a x) ⌝ }
+{
+    let at = x.0 as usize;
+    list.jobs[at]
+}
 
 // Does job x come before job y?
 pub fn comes_before(list: JobList, x: Job, y: Job) -> bool

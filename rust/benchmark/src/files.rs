@@ -58,6 +58,8 @@ fn heavy_tables() -> Vec<Vec<(u32, u32)>> {
         above(&sylvester),
         above(&[&[(1, 3_300_000)], &sylvester[..]].concat()),
         above(&[&[(1, 3_263_443)], &sylvester[..]].concat()),
+        // Ten times as long, so that the climb starts at a tenth of the response time.
+        above(&[&[(10, 33_000_000)], &sylvester.map(|(c, p)| (10 * c, 10 * p))[..]].concat()),
     ]
 }
 

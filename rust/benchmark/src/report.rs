@@ -88,7 +88,8 @@ pub fn page(timings: &[Timing], load: &str) -> String {
 The time of the proved reader's entry, called through its C interface, and of the interpreter on the
 same file. The number is what the file earns, 0 if it is accepted. The ratio is the proved entry's
 time by the interpreter's. The lowest task stands first in a list of C/P. Of several random tables
-the one that is slowest by the proved entry is shown; the interpreter may be slower on another.
+the one that is slowest by the proved entry is shown; the interpreter may be slower on another. The
+hostile files are chosen by hand or at random; none is known to be the slowest that there is.
 
 - Machine: {cores} cores, {architecture}, {model}
 - Load: {load} on average in the minute before. Beside other programs, times differ by a factor of

@@ -175,8 +175,8 @@ fn byte_of_x(_: &mut Random, round: usize) -> Vec<u8> {
     edited(&table_x().write(), &[(round / 256, (round % 256) as u8)])
 }
 
-/// The most steps of a climb to a response time that the test waits for. A hostile table may take
-/// the proved entry hundreds of millions of them.
+/// The most steps of a climb to a response time that the test waits for. From a rounded share
+/// a hostile table takes hundreds of millions of them.
 const MOST_STEPS: u64 = 5_000_000;
 
 /// Whether some task's response time is a long climb away from C / (1 − U), where U is the share of
@@ -261,9 +261,8 @@ fn long_climbs() {
     }
 }
 
-/// The climbs that the other tests leave out, hundreds of millions of steps each.
+/// The files that the other tests leave out: hundreds of millions of steps each from a rounded share, few from an exact one.
 #[test]
-#[ignore = "takes about a minute"]
 fn longest_climbs() {
     let mut files = hostile_files(&mut Random::new(113));
     let mut random = Random::new(112);
