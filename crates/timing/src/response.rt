@@ -7,11 +7,10 @@ use taskfile::Site;
 use taskfile::Table;
 use taskfile::Task;
 ghost use mathlib.Core.Path.{_≡_};
-ghost use Prim.Native.Nat.{ℕ, _*_, _^_, _≤_, _<_, _∣_};
-ghost use lib.ListN.{length};
+ghost use Prim.Native.Nat.{_^_, _≤_, _<_, _∣_};
 ghost use Rattle.taskfile.specs.Judgement.{numbered, taskNumbers};
 ghost use Rattle.timing.specs.Accepted.{responsesOf};
-ghost use Rattle.timing.specs.Response.{roundedUp, tasksAbove, interference, demand, responseOf};
+ghost use Rattle.timing.specs.Response.{roundedUp, tasksAbove, interference, responseOf};
 ghost use Rattle.timing.specs.ResponseParts.{Timeable, boundOf, SumFits, WithTask, ShareOf, LowerBound, ResponsesAs};
 
 // A number of 32 bits as one of 64.

@@ -8,111 +8,82 @@ use Rattle.adqurim.specs.WordsLaws.{read-stored, read-no-room}
 use borrow.Author.Needs.{needs}
 use Rattle.adqurim.proofs.adqurim_read.Statement.{statement}
 use Rattle.adqurim.proofs.adqurim_read.Tie as tie
-use Rattle.adqurim.proofs.adqurim_read.Reads as reads
-use Rattle.adqurim.proofs.adqurim_read.Lts as lts
-use Rattle.timing.proofs.entries.read.Reads as read-reads
 
--- src/lib.rt:18:9
 returns : tie.Need-returns
 returns c = (sym (lt-leb _ _ (c .if1 .taken)), read-no-room _ _ (c .if1 .taken))
 
--- src/lib.rt:20:9
 read-requires : tie.Need-read-requires
 read-requires c κs = search needs
 
--- src/lib.rt:22:17
 cast-answer : tie.Need-cast-answer
 cast-answer c = search needs
 
--- src/lib.rt:22:5
 slice-write-answer : tie.Need-slice-write-answer
 slice-write-answer c = search needs
 
--- src/lib.rt:23:17
 cast-answer-2 : tie.Need-cast-answer-2
 cast-answer-2 c = search needs
 
--- src/lib.rt:23:5
 slice-write-answer-2 : tie.Need-slice-write-answer-2
 slice-write-answer-2 c = simp length-set (omega arith)
 
--- src/lib.rt:24:17
 array-read-answer : tie.Need-array-read-answer
 array-read-answer c = search needs
 
--- src/lib.rt:24:5
 slice-write-answer-3 : tie.Need-slice-write-answer-3
 slice-write-answer-3 c = simp length-set (omega arith)
 
--- src/lib.rt:25:17
 array-read-answer-2 : tie.Need-array-read-answer-2
 array-read-answer-2 c = search needs
 
--- src/lib.rt:25:5
 slice-write-answer-4 : tie.Need-slice-write-answer-4
 slice-write-answer-4 c = simp length-set (omega arith)
 
--- src/lib.rt:26:17
 array-read-answer-3 : tie.Need-array-read-answer-3
 array-read-answer-3 c = search needs
 
--- src/lib.rt:26:5
 slice-write-answer-5 : tie.Need-slice-write-answer-5
 slice-write-answer-5 c = simp length-set (omega arith)
 
--- src/lib.rt:27:17
 array-read-answer-4 : tie.Need-array-read-answer-4
 array-read-answer-4 c = search needs
 
--- src/lib.rt:27:5
 slice-write-answer-6 : tie.Need-slice-write-answer-6
 slice-write-answer-6 c = simp length-set (omega arith)
 
--- src/lib.rt:28:17
 array-read-answer-5 : tie.Need-array-read-answer-5
 array-read-answer-5 c = search needs
 
--- src/lib.rt:28:5
 slice-write-answer-7 : tie.Need-slice-write-answer-7
 slice-write-answer-7 c = simp length-set (omega arith)
 
--- src/lib.rt:29:17
 array-read-answer-6 : tie.Need-array-read-answer-6
 array-read-answer-6 c = search needs
 
--- src/lib.rt:29:5
 slice-write-answer-8 : tie.Need-slice-write-answer-8
 slice-write-answer-8 c = simp length-set (omega arith)
 
--- src/lib.rt:30:17
 array-read-answer-7 : tie.Need-array-read-answer-7
 array-read-answer-7 c = search needs
 
--- src/lib.rt:30:5
 slice-write-answer-9 : tie.Need-slice-write-answer-9
 slice-write-answer-9 c = simp length-set (omega arith)
 
--- src/lib.rt:31:17
 array-read-answer-8 : tie.Need-array-read-answer-8
 array-read-answer-8 c = search needs
 
--- src/lib.rt:31:5
 slice-write-answer-10 : tie.Need-slice-write-answer-10
 slice-write-answer-10 c = simp length-set (omega arith)
 
--- src/lib.rt:32:18
 cast-answer-3 : tie.Need-cast-answer-3
 cast-answer-3 c = search needs
 
--- src/lib.rt:32:5
 slice-write-answer-11 : tie.Need-slice-write-answer-11
 slice-write-answer-11 c = simp length-set (omega arith)
 
--- src/lib.rt:12:1
 same-length : tie.Need-same-length
 same-length c = simp length-set
 
--- src/lib.rt:12:1
 returns-2 : tie.Need-returns-2
 returns-2 c = (
   sym (le-leb _ _ (c .before .before .before .before .before .if1 .left)),

@@ -1,3 +1,5 @@
+-- `reader::load_file` meets its contract: each return is one case of `load`.
+-- Assumes nothing.
 use mathlib.Core.Path.{sym, refl, _∙_}
 use borrow.Author.Tests.{not-true, not-false}
 use Rattle.taskfile.specs.ChainLaws.{table-shaped}
@@ -5,28 +7,16 @@ use Rattle.taskfile.specs.LoadLaws.{sized-within, answers-unsized, answers-unch
 use borrow.Author.Needs.{needs}
 use Rattle.reader.proofs.load_file.Statement.{statement}
 use Rattle.reader.proofs.load_file.Tie as tie
-use Rattle.reader.proofs.load_file.Reads as reads
-use Rattle.reader.proofs.load_file.Lts as lts
-use Rattle.chains.proofs.read_chains.Reads as read-chains-reads
-use Rattle.reader.proofs.empty_table.Reads as empty-table-reads
-use Rattle.reader.proofs.is_sized.Reads as is-sized-reads
-use Rattle.judgement.proofs.judge.Reads as judge-reads
-use Rattle.tables.proofs.record_at.Reads as record-at-reads
-use Rattle.tables.proofs.table_at.Reads as table-at-reads
 
--- src/file.rt:62:9
 is-sized-requires : tie.Need-is-sized-requires
 is-sized-requires c κs = search needs
 
--- src/file.rt:65:20
 empty-table-requires : tie.Need-empty-table-requires
 empty-table-requires c κs = search needs
 
--- src/file.rt:63:9
 returns : tie.Need-returns
 returns c = answers-unsized _ _ (sym (c .before .before .is-sized .ensures) ∙ not-true _ (c .before .if1 .taken)) refl
 
--- src/file.rt:68:9
 read-chains-requires : tie.Need-read-chains-requires
 read-chains-requires c κs =
     sized-within _ (sym (c .before .is-sized .ensures) ∙ not-false _ (c .if1 .left)) .1
@@ -34,46 +24,36 @@ read-chains-requires c κs =
 enum-told : tie.Need-enum-told
 enum-told c = search needs
 
--- src/file.rt:72:20
 enum-told-2 : tie.Need-enum-told-2
 enum-told-2 c = search needs
 
--- src/file.rt:72:20
 empty-table-requires-2 : tie.Need-empty-table-requires-2
 empty-table-requires-2 c κs = search needs
 
--- src/file.rt:70:9
 returns-2 : tie.Need-returns-2
 returns-2 c = answers-unchained _ _ (sym (c .before .before .before .before .before .is-sized .ensures) ∙ not-false _ (c .before .before .before .before .if1 .left)) (c .before .before .before .read-chains .ensures) (c .before .enum-told2 .given .1) refl
 
--- src/file.rt:75:9
 table-at-requires : tie.Need-table-at-requires
 table-at-requires c κs = sized-within _ (sym (c .before .before .before .before .is-sized .ensures) ∙ not-false _ (c .before .before .before .if1 .left)) .0
 
--- src/file.rt:76:9
 judge-requires : tie.Need-judge-requires
 judge-requires c κs = rw (c .table-at .ensures) (table-shaped _)
 
--- src/file.rt:77:27
 enum-known-judged : tie.Need-enum-known-judged
 enum-known-judged c = search needs
 
--- src/file.rt:79:43
 record-at-requires : tie.Need-record-at-requires
 record-at-requires c κs = search needs
 
--- src/file.rt:80:20
 empty-table-requires-3 : tie.Need-empty-table-requires-3
 empty-table-requires-3 c κs = search needs
 
--- src/file.rt:78:9
 returns-3 : tie.Need-returns-3
 returns-3 c = answers-faulty _ _ (sym (c .before .before .before .before .before .before .before .before .before .before .before .is-sized .ensures) ∙ not-false _ (c .before .before .before .before .before .before .before .before .before .before .if1 .left)) (c .before .before .before .before .before .before .before .before .before .read-chains .ensures) (c .before .before .before .before .before .before .before .enum-told .given .1) (c .before .before .before .before .before .before .table-at .ensures) (c .before .before .before .before .before .judge .ensures) (c .before .before .before .judged .given .1) (c .before .record-at .ensures) refl
 
 enum-told-3 : tie.Need-enum-told-3
 enum-told-3 c = search needs
 
--- src/file.rt:59:1
 returns-4 : tie.Need-returns-4
 returns-4 c = answers-sound _ _ (sym (c .before .before .before .before .before .before .before .before .is-sized .ensures) ∙ not-false _ (c .before .before .before .before .before .before .before .if1 .left)) (c .before .before .before .before .before .before .read-chains .ensures) (c .before .before .before .before .enum-told .given .1) (c .before .before .before .table-at .ensures) (c .before .before .judge .ensures) (c .enum-told3 .given .1) refl refl
 

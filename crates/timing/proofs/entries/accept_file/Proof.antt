@@ -6,28 +6,16 @@ use Rattle.timing.specs.AcceptLaws.{answers-refused, answers-timeable, a
 use borrow.Author.Needs.{needs}
 use Rattle.timing.proofs.entries.accept_file.Statement.{statement}
 use Rattle.timing.proofs.entries.accept_file.Tie as tie
-use Rattle.timing.proofs.entries.accept_file.Reads as reads
-use Rattle.timing.proofs.entries.accept_file.Lts as lts
-use Rattle.reader.proofs.load_file.Reads as load-file-reads
-use Rattle.tables.proofs.record_at.Reads as record-at-reads
-use Rattle.timing.proofs.entries.refused_file.Reads as refused-file-reads
-use Rattle.timing.proofs.jobs.job_total.Reads as job-total-reads
-use Rattle.timing.proofs.jobs.jobs_of.Reads as jobs-of-reads
-use Rattle.timing.proofs.response.responses_of.Reads as responses-of-reads
 
--- src/entries.rt:35:9
 load-file-requires : tie.Need-load-file-requires
 load-file-requires c κs = search needs
 
--- src/entries.rt:38:27
 enum-known-check : tie.Need-enum-known-check
 enum-known-check c = search needs
 
--- src/entries.rt:39:9
 refused-file-requires : tie.Need-refused-file-requires
 refused-file-requires c κs = search needs
 
--- src/entries.rt:39:9
 returns : tie.Need-returns
 returns c =
     answers-refused _ _ (c .before .before .before .before .before .load-file .ensures) _ (c .before .before .check .given .1) (c .refused-file .ensures)
@@ -35,23 +23,18 @@ returns c =
 enum-told : tie.Need-enum-told
 enum-told c = search needs
 
--- src/entries.rt:41:9
 responses-of-requires : tie.Need-responses-of-requires
 responses-of-requires c κs = answers-timeable _ _ (c .before .before .before .load-file .ensures) (c .enum-told .given .1)
 
--- src/entries.rt:44:27
 enum-known-timed : tie.Need-enum-known-timed
 enum-known-timed c = search needs
 
--- src/entries.rt:45:37
 record-at-requires : tie.Need-record-at-requires
 record-at-requires c κs = search needs
 
--- src/entries.rt:45:9
 refused-file-requires-2 : tie.Need-refused-file-requires-2
 refused-file-requires-2 c κs = search needs
 
--- src/entries.rt:45:9
 returns-2 : tie.Need-returns-2
 returns-2 c =
     answers-overload _ _ (c .before .before .before .before .before .before .before .before .before .before .load-file .ensures) (c .before .before .before .before .before .before .before .enum-told .given .1) _ (c .before .before .before .before .before .before .responses-of .ensures) _
@@ -60,21 +43,17 @@ returns-2 c =
 enum-told-2 : tie.Need-enum-told-2
 enum-told-2 c = search needs
 
--- src/entries.rt:47:13
 job-total-requires : tie.Need-job-total-requires
 job-total-requires c κs = answers-timeable _ _ (c .before .before .before .before .before .before .before .load-file .ensures) (c .before .before .before .before .enum-told .given .1)
 
--- src/entries.rt:48:9
 refused-file-requires-3 : tie.Need-refused-file-requires-3
 refused-file-requires-3 c κs = search needs
 
--- src/entries.rt:48:9
 returns-3 : tie.Need-returns-3
 returns-3 c =
     answers-many _ _ (c .before .before .before .before .before .before .before .before .before .before .load-file .ensures) (c .before .before .before .before .before .before .before .enum-told .given .1) _ (c .before .before .before .before .before .before .responses-of .ensures) (c .before .before .before .enum-told2 .given .1) _
     (c .before .before .job-total .ensures) (c .before .if1 .taken) (c .refused-file3 .ensures)
 
--- src/entries.rt:54:15
 jobs-of-requires : tie.Need-jobs-of-requires
 jobs-of-requires c κs = (
   answers-timeable _ _ (c .before .before .before .before .before .before .before .before .before .load-file .ensures) (c .before .before .before .before .before .before .enum-told .given .1),
@@ -82,7 +61,6 @@ jobs-of-requires c κs = (
   answers-within _ _ (c .before .before .before .before .before .before .before .before .before .load-file .ensures) (c .before .before .before .before .before .before .enum-told .given .1) _ (c .before .before .before .before .before .responses-of .ensures) (c .before .before .enum-told2 .given .1),
 )
 
--- src/entries.rt:32:1
 returns-4 : tie.Need-returns-4
 returns-4 c =
     answers-accepted _ _ (c .before .before .before .before .before .before .before .before .before .before .load-file .ensures) (c .before .before .before .before .before .before .before .enum-told .given .1) _ (c .before .before .before .before .before .before .responses-of .ensures) (c .before .before .before .enum-told2 .given .1) _

@@ -4,23 +4,16 @@ use Rattle.timing.specs.AcceptLaws.{reads-refused, reads-accepted}
 use borrow.Author.Needs.{needs}
 use Rattle.timing.proofs.entries.read.Statement.{statement}
 use Rattle.timing.proofs.entries.read.Tie as tie
-use Rattle.timing.proofs.entries.read.Reads as reads
-use Rattle.timing.proofs.entries.read.Lts as lts
-use Rattle.timing.proofs.entries.accept_file.Reads as accept-file-reads
 
--- src/entries.rt:62:9
 accept-file-requires : tie.Need-accept-file-requires
 accept-file-requires c κs = search needs
 
--- src/entries.rt:64:27
 enum-known-check : tie.Need-enum-known-check
 enum-known-check c = search needs
 
--- src/entries.rt:67:20
 cast-t7 : tie.Need-cast-t7
 cast-t7 c = search needs
 
--- src/entries.rt:65:9
 returns : tie.Need-returns
 returns c =
     reads-refused _ _ (c .before .before .before .accept-file .ensures) (c .before .check .given .1)
@@ -28,7 +21,6 @@ returns c =
 enum-told : tie.Need-enum-told
 enum-told c = search needs
 
--- src/entries.rt:59:1
 returns-2 : tie.Need-returns-2
 returns-2 c =
     reads-accepted _ _ (c .before .before .before .accept-file .ensures) (c .before .enum-told .given .1)

@@ -1,3 +1,5 @@
+-- `timing::jobs::job_total` meets its contract: the total so far and the jobs of the tasks still to come make the table's count.
+-- Assumes nothing.
 use Prim.Native.Nat.{_+_, _-_, _*_, _^_, _≤_}
 use native.Mathlib.Omega.{arith}
 use mathlib.Core.Path.{_≡_}
@@ -9,9 +11,6 @@ use Rattle.timing.specs.Jobs.{jobsWithin, jobCount}
 use Rattle.timing.specs.TimeableLaws.{period-read, jobs-step, sum-end}
 use Rattle.timing.proofs.jobs.job_total.Statement.{statement}
 use Rattle.timing.proofs.jobs.job_total.Tie as tie
-use Rattle.timing.proofs.jobs.job_total.Reads as reads
-use Rattle.timing.proofs.jobs.job_total.Lts as lts
-use Rattle.timing.proofs.jobs.jobs_within.Reads as jobs-within-reads
 
 abbrev Inv-loop : tie.InvT-loop
 Inv-loop t total₀ i₀ end total i =
@@ -20,40 +19,31 @@ Inv-loop t total₀ i₀ end total i =
 abbrev μ-loop : tie.MeasureT-loop
 μ-loop t total₀ i₀ end total i = end - i
 
--- src/jobs.rt:38:15
 cast-end : tie.Need-cast-end Inv-loop μ-loop
 cast-end c = omega (arith, c .pre .shaped .tasksWithin)
 
--- src/jobs.rt:39:5
 loop-holds : tie.Need-loop-holds Inv-loop μ-loop
 unfolding jobCount
 loop-holds c = omega arith
 
--- src/jobs.rt:40:40
 mul-jobs-within : tie.Need-mul-jobs-within Inv-loop μ-loop
 mul-jobs-within c = omega (arith, c .before .before .pre .shaped .tasksWithin)
 
--- src/jobs.rt:40:40
 element-copy-out-jobs-within : tie.Need-element-copy-out-jobs-within Inv-loop μ-loop
 element-copy-out-jobs-within c = omega (arith, c .before .before .pre .shaped .tasksWithin)
 
--- src/jobs.rt:40:18
 jobs-within-requires : tie.Need-jobs-within-requires Inv-loop μ-loop
 jobs-within-requires c κs = period-read (c .before .before .before .pre) _ _ (omega arith)
 
--- src/jobs.rt:40:9
 add-total : tie.Need-add-total Inv-loop μ-loop
 add-total c = omega (arith, c .before .before .before .before .pre .shaped .tasksWithin)
 
--- src/jobs.rt:41:9
 add-i : tie.Need-add-i Inv-loop μ-loop
 add-i c = omega (arith, c .before .before .before .before .pre .shaped .tasksWithin)
 
--- src/jobs.rt:39:5
 loop-less : tie.Need-loop-less Inv-loop μ-loop
 loop-less c = omega arith
 
--- src/jobs.rt:39:5
 loop-again : tie.Need-loop-again Inv-loop μ-loop
 loop-again c =
     let args = c .before .before .before .before .args in
@@ -63,7 +53,6 @@ loop-again c =
     jobs-step (c .before .before .before .before .pre) _ _ (omega arith) (c .jobs-within .ensures .0) in
     omega arith
 
--- src/jobs.rt:32:1
 returns : tie.Need-returns Inv-loop μ-loop
 returns c =
     omega (arith, sum-end (c .before .before .pre .shaped) (jobsWithin (c .before .before .args .t1 .window)) (c .before .loop .i) (omega arith))

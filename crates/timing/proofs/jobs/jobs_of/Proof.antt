@@ -1,3 +1,6 @@
+-- `timing::jobs::jobs_of` meets its contract: the list holds the jobs of the tasks passed, and has room for those to come, since all
+-- are at most 32.
+-- Assumes nothing.
 use Prim.Native.Nat.{_+_, _-_, _≤_}
 use native.Mathlib.Omega.{arith}
 use mathlib.Core.Path.{_≡_, ap, _∙_}
@@ -13,11 +16,6 @@ use Rattle.timing.specs.JobListLaws.{jobsBelow, none-below, task-added, 
 use Rattle.timing.specs.TimeableLaws.{period-read, jobs-step, task-read}
 use Rattle.timing.proofs.jobs.jobs_of.Statement.{statement}
 use Rattle.timing.proofs.jobs.jobs_of.Tie as tie
-use Rattle.timing.proofs.jobs.jobs_of.Reads as reads
-use Rattle.timing.proofs.jobs.jobs_of.Lts as lts
-use Rattle.timing.proofs.jobs.jobs_within.Reads as jobs-within-reads
-use Rattle.timing.proofs.jobs.no_jobs.Reads as no-jobs-reads
-use Rattle.timing.proofs.jobs.with_jobs.Reads as with-jobs-reads
 
 abbrev Inv-loop : tie.InvT-loop
 Inv-loop t times list₀ i₀ list i =
@@ -28,42 +26,33 @@ Inv-loop t times list₀ i₀ list i =
 abbrev μ-loop : tie.MeasureT-loop
 μ-loop t times list₀ i₀ list i = t .tasks - i
 
--- src/jobs.rt:90:9
 no-jobs-requires : tie.Need-no-jobs-requires Inv-loop μ-loop
 no-jobs-requires c κs = search needs
 
--- src/jobs.rt:92:5
 loop-holds : tie.Need-loop-holds Inv-loop μ-loop
 unfolding jobCount jobListOf
 loop-holds c =
     let none : c .no-jobs .result .count ≡ 0 = ap (λ (x : JobList). x .count) (c .no-jobs .ensures) in
     (omega arith, omega arith, c .no-jobs .ensures ∙ none-below _ _)
 
--- src/jobs.rt:93:18
 cast-at : tie.Need-cast-at Inv-loop μ-loop
 cast-at c = omega (arith, c .before .before .before .pre .0 .shaped .tasksWithin)
 
--- src/jobs.rt:94:17
 mul-e : tie.Need-mul-e Inv-loop μ-loop
 mul-e c = omega (arith, c .before .before .before .pre .0 .shaped .tasksWithin)
 
--- src/jobs.rt:94:17
 element-copy-out-e : tie.Need-element-copy-out-e Inv-loop μ-loop
 element-copy-out-e c = omega (arith, c .before .before .before .pre .0 .shaped .tasksWithin)
 
--- src/jobs.rt:95:38
 mul-with-jobs : tie.Need-mul-with-jobs Inv-loop μ-loop
 mul-with-jobs c = omega (arith, c .before .before .before .before .pre .0 .shaped .tasksWithin)
 
--- src/jobs.rt:95:38
 array-read-with-jobs : tie.Need-array-read-with-jobs Inv-loop μ-loop
 array-read-with-jobs c = omega (arith, c .before .before .before .before .pre .0 .shaped .tasksWithin)
 
--- src/jobs.rt:95:49
 jobs-within-requires : tie.Need-jobs-within-requires Inv-loop μ-loop
 jobs-within-requires c κs = period-read (c .before .before .before .before .pre .0) _ _ (omega arith)
 
--- src/jobs.rt:95:9
 with-jobs-requires : tie.Need-with-jobs-requires Inv-loop μ-loop
 with-jobs-requires c κs =
     let args = c .before .before .before .before .before .args in
@@ -74,15 +63,12 @@ with-jobs-requires c κs =
     jobs-step (pre .0) _ _ (omega arith) (c .jobs-within .ensures .0) in
     (omega (arith, pre .1), rw (task-read (pre .0 .shaped) i _ (omega arith)) (pre .2 i (omega arith)))
 
--- src/jobs.rt:96:9
 add-i : tie.Need-add-i Inv-loop μ-loop
 add-i c = omega (arith, c .before .before .before .before .before .before .pre .0 .shaped .tasksWithin)
 
--- src/jobs.rt:92:5
 loop-less : tie.Need-loop-less Inv-loop μ-loop
 loop-less c = omega arith
 
--- src/jobs.rt:92:5
 loop-again : tie.Need-loop-again Inv-loop μ-loop
 loop-again c =
     let args = c .before .before .before .before .before .before .args in
@@ -97,7 +83,6 @@ loop-again c =
           (c .before .before .before .before .loop .inv .2),
     )
 
--- src/jobs.rt:86:1
 returns : tie.Need-returns Inv-loop μ-loop
 returns c =
     let ended : c .before .loop .i ≡ c .before .before .before .args .t1 .tasks = omega arith in

@@ -1,3 +1,6 @@
+-- `timing::jobs::jobs_within` meets its contract: no job arrives in a window that ends before the first arrival; else it is a rounded-up
+-- quotient.
+-- Assumes nothing.
 use mathlib.Core.Path.{_≡_, ap₂, _∙_}
 use Prim.Native.Nat.{_-_}
 use native.Mathlib.Omega.{arith}
@@ -7,32 +10,22 @@ use Rattle.timing.specs.Response.{roundedUp}
 use borrow.Author.Needs.{needs}
 use Rattle.timing.proofs.jobs.jobs_within.Statement.{statement}
 use Rattle.timing.proofs.jobs.jobs_within.Tie as tie
-use Rattle.timing.proofs.jobs.jobs_within.Reads as reads
-use Rattle.timing.proofs.jobs.jobs_within.Lts as lts
-use Rattle.timing.proofs.response.rounded_up.Reads as rounded-up-reads
-use Rattle.timing.proofs.response.wide.Reads as wide-reads
 
--- src/jobs.rt:26:9
 returns : tie.Need-returns
 returns c = (none-within _ _ (c .if1 .taken), omega arith)
 
--- src/jobs.rt:28:21
 sub-wide : tie.Need-sub-wide
 sub-wide c = search needs
 
--- src/jobs.rt:28:16
 wide-requires : tie.Need-wide-requires
 wide-requires c κs = search needs
 
--- src/jobs.rt:28:42
 wide-requires-2 : tie.Need-wide-requires-2
 wide-requires-2 c κs = search needs
 
--- src/jobs.rt:28:5
 rounded-up-requires : tie.Need-rounded-up-requires
 rounded-up-requires c κs = search needs
 
--- src/jobs.rt:21:1
 returns-2 : tie.Need-returns-2
 unfolding jobsWithin
 returns-2 c =

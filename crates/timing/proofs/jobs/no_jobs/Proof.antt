@@ -1,12 +1,11 @@
+-- `timing::jobs::no_jobs` meets its contract: the empty list, filled up.
+-- Assumes nothing.
 use mathlib.Core.Path.{refl}
 use Rattle.taskfile.specs.Lists.{padded}
 use Rattle.timing.specs.JobParts.{jobListOf}
 use Rattle.timing.proofs.jobs.no_jobs.Statement.{statement}
 use Rattle.timing.proofs.jobs.no_jobs.Tie as tie
-use Rattle.timing.proofs.jobs.no_jobs.Reads as reads
-use Rattle.timing.proofs.jobs.no_jobs.Lts as lts
 
--- src/jobs.rt:47:1
 returns : tie.Need-returns
 unfolding jobListOf padded
 returns c = refl

@@ -1,3 +1,5 @@
+-- `timing::jobs::with_jobs` meets its contract: after k turns the list has the task's first k jobs at its end.
+-- Assumes nothing.
 use Prim.Native.Nat.{ℕ, _+_, _-_, _≤_}
 use native.Mathlib.Omega.{arith}
 use mathlib.Core.Path.{_≡_, ap, _∙_}
@@ -10,10 +12,6 @@ use Rattle.timing.specs.JobParts.{jobListOf}
 use Rattle.timing.specs.JobListLaws.{jobAs, none-added, one-added, all-added, product-fits}
 use Rattle.timing.proofs.jobs.with_jobs.Statement.{statement}
 use Rattle.timing.proofs.jobs.with_jobs.Tie as tie
-use Rattle.timing.proofs.jobs.with_jobs.Reads as reads
-use Rattle.timing.proofs.jobs.with_jobs.Lts as lts
-use Rattle.timing.proofs.jobs.with_job.Reads as with-job-reads
-use Rattle.timing.proofs.response.wide.Reads as wide-reads
 
 abbrev Inv-loop : tie.InvT-loop
 Inv-loop i response n first period longer₀ k₀ longer k =
@@ -24,49 +22,38 @@ Inv-loop i response n first period longer₀ k₀ longer k =
 abbrev μ-loop : tie.MeasureT-loop
 μ-loop i response n first period longer₀ k₀ longer k = n - k
 
--- src/jobs.rt:71:9
 wide-requires : tie.Need-wide-requires Inv-loop μ-loop
 wide-requires c κs = search needs
 
--- src/jobs.rt:72:9
 wide-requires-2 : tie.Need-wide-requires-2 Inv-loop μ-loop
 wide-requires-2 c κs = search needs
 
--- src/jobs.rt:75:5
 loop-holds : tie.Need-loop-holds Inv-loop μ-loop
 loop-holds c = (omega arith, omega arith, none-added _ _)
 
--- src/jobs.rt:76:31
 mul-arrival : tie.Need-mul-arrival Inv-loop μ-loop
 mul-arrival c = omega (arith, product-fits (c .before .loop .k) (c .before .before .wide2 .result) (omega arith) (omega arith))
 
--- src/jobs.rt:76:23
 add-arrival : tie.Need-add-arrival Inv-loop μ-loop
 add-arrival c = omega (arith, product-fits (c .before .loop .k) (c .before .before .wide2 .result) (omega arith) (omega arith))
 
--- src/jobs.rt:77:88
 add-t12 : tie.Need-add-t12 Inv-loop μ-loop
 add-t12 c = omega (arith, product-fits (c .before .loop .k) (c .before .before .wide2 .result) (omega arith) (omega arith))
 
--- src/jobs.rt:77:9
 with-job-requires : tie.Need-with-job-requires Inv-loop μ-loop
 with-job-requires c κs = omega arith
 
--- src/jobs.rt:78:9
 add-k : tie.Need-add-k Inv-loop μ-loop
 add-k c = omega arith
 
--- src/jobs.rt:75:5
 loop-less : tie.Need-loop-less Inv-loop μ-loop
 loop-less c = omega arith
 
--- src/jobs.rt:75:5
 loop-again : tie.Need-loop-again Inv-loop μ-loop
 loop-again c =
     let inv = c .before .before .loop .inv in
     (omega arith, omega arith, λ l e. one-added _ _ _ _ (c .with-job .ensures .1) l (inv .2 l e))
 
--- src/jobs.rt:66:1
 returns : tie.Need-returns Inv-loop μ-loop
 returns c =
     let inv = c .before .loop .inv in
