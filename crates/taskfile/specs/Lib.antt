@@ -14,9 +14,11 @@ pub mod LinkedLaws
 pub mod ListLaws
 pub mod Lists
 pub mod LoadLaws
+pub mod LoadedLaws
 pub mod MarksLaws
 pub mod PaddedLaws
 pub mod Pairs
+pub mod QuantifierLaws
 pub mod Reading
 pub mod ReadingParts
 pub mod RecordFields

@@ -253,11 +253,11 @@ module _ (f : File) (l : LoadAnswer) (loading : LoadedAs l (load f)) where
 
 -- ---- the reader's entry
 
-accepted-refused : (x : AcceptAnswer) (c : Checked ℕ Accepted) → AcceptedAs x c → {n p : ℕ} → x .check ≡ Refused n p → c ≡ refused n p
+pub accepted-refused : (x : AcceptAnswer) (c : Checked ℕ Accepted) → AcceptedAs x c → {n p : ℕ} → x .check ≡ Refused n p → c ≡ refused n p
 accepted-refused x (refused number place) h {n} {p} e = let same : Refused number place ≡ Refused n p = sym h ∙ e in cc
 accepted-refused x (passed a) h e = let clash : Passed ≡ Refused _ _ = sym (h .check) ∙ e in absurd (let z : _≡_ {A = ℕ} 0 1 = cc in omega arith)
 
-accepted-passed : (x : AcceptAnswer) (c : Checked ℕ Accepted) → AcceptedAs x c → x .check ≡ Passed
+pub accepted-passed : (x : AcceptAnswer) (c : Checked ℕ Accepted) → AcceptedAs x c → x .check ≡ Passed
     → (a : Accepted) × (c ≡ passed a) × AcceptedParts x a
 accepted-passed x (refused number place) h e = absurd (let z : _≡_ {A = ℕ} 0 1 = cc in omega arith)
 accepted-passed x (passed a) h e = (a, refl, h)

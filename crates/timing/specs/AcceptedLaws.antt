@@ -1,4 +1,4 @@
--- What acceptance says: the table of an accepted file passed the judgements 7 to 11.
+-- What acceptance says: the table of an accepted file is well made, and passed the judgements 7 to 11.
 -- Assumes nothing.
 use mathlib.Core.Path.{_≡_, subst, sym}
 use Rattle.taskfile.specs.declared.Table.{Table}
@@ -7,12 +7,14 @@ use Rattle.taskfile.specs.CheckedLaws.{bind-passed, placed-passed}
 use Rattle.taskfile.specs.File.{load, recordAt}
 use Rattle.taskfile.specs.Judgement.{judged}
 use Rattle.taskfile.specs.LoadLaws.{load-parts}
+use Rattle.taskfile.specs.LoadedLaws.{WellMade, loaded-well}
 use Rattle.taskfile.specs.Records.{File}
 use Rattle.timing.specs.Accepted.{Accepted, accept, timed}
 use Rattle.timing.specs.JobLaws.{Timed, timed-passed}
 
--- an accepted file's table is judged and timed
+-- an accepted file's table is well made, judged and timed
 pub record IsAccepted (a : Accepted) : Type 0 where
+  pub isMade : WellMade (a .table)
   pub isJudged : judged (a .table) ≡ passed tt
   pub isTimed : Timed a
 
@@ -23,6 +25,7 @@ accepted f {a} e =
     let table = parts .0 .table in
     let timing = timed-passed table (placed-passed (recordAt (parts .0 .chains)) (timed table) (parts .2)) in
     record {
+      isMade = subst WellMade (sym (timing .0)) (loaded-well f (parts .1));
       isJudged = subst (λ (t : Table). judged t ≡ passed tt) (sym (timing .0)) (load-parts f (parts .1) .2);
       isTimed = timing .1;
     }

@@ -47,7 +47,7 @@ roundedUp-below n d k h = (
 )
 
 -- divided by 0, a positive number gives 1
-roundedUp-by-zero : (n : ℕ) → roundedUp (suc n) 0 ≡ 1
+pub roundedUp-by-zero : (n : ℕ) → roundedUp (suc n) 0 ≡ 1
 unfolding roundedUp if_then_else_
 roundedUp-by-zero n = rw (mod-zero, div-zero, eqb·suc-zero n)
 

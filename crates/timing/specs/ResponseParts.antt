@@ -1,11 +1,12 @@
 -- The climb to the response time as its functions yield it: the share of the processor that the tasks above need, the lower bound
--- that it starts from, and the answers as declared types.
+-- that it starts from, the test whether an interval of some length is long enough, and the answers as declared types.
 -- Assumes nothing.
 use mathlib.Core.Path.{_≡_}
-use Prim.Native.Nat.{ℕ, _+_, _*_, _^_, _≤_, _<_}
-use mathlib.Core.List.{List}
+use Prim.Native.Nat.{ℕ, _+_, _*_, _/_, _%_, _^_, _≤_, _<_}
+use mathlib.Core.Bool.{Bool, not, _&&_, _||_}
+use mathlib.Core.List.{List, [], _∷_}
 use mathlib.Core.Option.{Option, none, some}
-use lib.ListN.{length}
+use lib.Dec.{leb, eqb}
 use Rattle.taskfile.specs.declared.Judged.the-variants.{Sound, Faulty}
 use Rattle.taskfile.specs.declared.Site.{Site}
 use Rattle.taskfile.specs.declared.Table.{Table}
@@ -14,7 +15,7 @@ use Rattle.taskfile.specs.declared.TaskEntry.{TaskEntry}
 use Rattle.taskfile.specs.Checked.{Checked, refused, passed}
 use Rattle.taskfile.specs.JudgingParts.{Shaped}
 use Rattle.taskfile.specs.Lists.{padded}
-use Rattle.taskfile.specs.Tables.{tasksOf, taskOf}
+use Rattle.taskfile.specs.Tables.{taskOf}
 use Rattle.timing.specs.declared.Bound.{Bound}
 use Rattle.timing.specs.declared.Bound.the-variants.{Within, Overload}
 use Rattle.timing.specs.declared.Responses.{Responses}
@@ -57,6 +58,26 @@ pub record LowerBound (t : Table) (i : Task) (r : ℕ) : Type 0 where
   pub positive : 1 ≤ r
   pub rises : r ≤ demand t i r
   pub below : (Q : ℕ) → 1 ≤ Q → Q ≡ demand t i Q → r ≤ Q
+
+-- in some interval of length 1 to b, base and the listed tasks are done
+pub record Fits (above : List TaskEntry) (base b : ℕ) : Type 0 where
+  pub span : ℕ
+  pub positive : 1 ≤ span
+  pub within : span ≤ b
+  pub enough : base + interference above span ≤ span
+
+-- each listed task meets its own period, where those after it stand above it
+abbrev pub AllFit : List TaskEntry → Type 0
+AllFit [] = Unit {0}
+AllFit (e ∷ above) = Fits above (e .execution) (e .period) × AllFit above
+
+-- the test for `Fits` by Bini and Buttazzo's scheduling points: of each period only the last multiple up to b, and b itself
+unfoldable pub fitsFrom : List TaskEntry → ℕ → ℕ → Bool
+fitsFrom [] base b = leb base b
+fitsFrom (e ∷ above) base b =
+    leb base b
+    && (not (eqb (b % e .period) 0) && fitsFrom above (base + (b / e .period + 1) * e .execution) b
+    || fitsFrom above (base + b / e .period * e .execution) (b / e .period * e .period))
 
 -- the response times of a table, or its refusal
 abbrev pub ResponsesAs : Responses → Checked Site (List ℕ) → Type 0

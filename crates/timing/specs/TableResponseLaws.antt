@@ -1,45 +1,31 @@
--- Laws of the search for all response times: what is known of them once those of the tasks before task i are found.
+-- Laws of the search for all response times, from the highest task down: what is known of the tasks from task i on.
 -- Assumes nothing.
 use mathlib.Core.Path.{_≡_, refl, sym, ap, _∙_}
-use Prim.Native.Nat.{ℕ, zero, suc, _+_, _≤_, _<_}
-use native.Mathlib.Numerals.{add-one}
+use Prim.Native.Nat.{ℕ, zero, suc, _-_, _≤_, _<_}
+use native.Mathlib.Numerals.{add-one, unary-clauses}
 use native.Mathlib.Omega.{arith}
-use mathlib.Core.List.{List, [], _∷_, _++_, append-assoc, append-nil}
+use mathlib.Core.Bool.{Bool, true, false, false≢true}
+use mathlib.Core.List.{List, [], _∷_}
 use mathlib.Core.Option.{Option, none, some}
-use lib.ListN.{length, drop, set, length-append, drop-of-length-le}
-use lib.Seq.{drop-cons}
-use Rattle.taskfile.specs.declared.Site.{Site}
+use lib.ListN.{length, drop, set, replicate, length-set, drop-of-length-le}
+use lib.Seq.{drop-cons, drop-set-lt, getD-set-same}
 use Rattle.taskfile.specs.declared.Site.the-variants.{AtTask}
 use Rattle.taskfile.specs.declared.Table.{Table}
-use Rattle.taskfile.specs.Checked.{Checked, refused, passed, _>>=_}
+use Rattle.taskfile.specs.Checked.{refused, passed, _>>=_}
 use Rattle.taskfile.specs.Judgement.{numbered, taskNumbers}
 use Rattle.taskfile.specs.JudgingParts.{Shaped}
 use Rattle.taskfile.specs.Lists.{padded}
-use Rattle.taskfile.specs.PaddedLaws.{padded-snoc}
+use Rattle.taskfile.specs.PaddedLaws.{padded-cons, padded-nil}
 use Rattle.taskfile.specs.TableLaws.{taskNumbers-length, taskNumbers-at}
+use Rattle.taskfile.specs.Tables.{tasksOf}
 use Rattle.timing.specs.declared.Bound.the-variants.{Within, Overload}
 use Rattle.timing.specs.Accepted.{bounded, responsesOf}
-use Rattle.timing.specs.Response.{responseOf}
-use Rattle.timing.specs.ResponseParts.{boundOf}
-use Rattle.timing.specs.TimeableLaws.{tasks-length}
+use Rattle.timing.specs.Response.{tasksAbove, responseOf}
+use Rattle.timing.specs.ResponseParts.{Timeable, boundOf, AllFit}
+use Rattle.timing.specs.SearchLaws.{response-done}
+use Rattle.timing.specs.TimeableLaws.{tasks-length, tasks-next, tasks-end}
 
--- ---- the outcome
-
--- an outcome with response times in front
-unfoldable pub inFront : List ℕ → Checked Site (List ℕ) → Checked Site (List ℕ)
-inFront Rs (refused number site) = refused number site
-inFront Rs (passed Qs) = passed (Rs ++ Qs)
-
-inFront-none : (o : Checked Site (List ℕ)) → o ≡ inFront [] o
-unfolding inFront
-inFront-none (refused number site) = refl
-inFront-none (passed Qs) = refl
-
-inFront-more : (Rs : List ℕ) (R : ℕ) (o : Checked Site (List ℕ))
-    → inFront Rs (_>>=_ o (λ Qs. passed (R ∷ Qs))) ≡ inFront (Rs ++ (R ∷ [])) o
-unfolding inFront _>>=_
-inFront-more Rs R (refused number site) = refl
-inFront-more Rs R (passed Qs) = ap passed (sym (append-assoc Rs (R ∷ []) Qs))
+-- ---- one task
 
 bound-some : (o : Option ℕ) {R : ℕ} → boundOf o ≡ Within R → o ≡ some R
 unfolding boundOf
@@ -51,52 +37,91 @@ unfolding boundOf
 bound-none none e = refl
 bound-none (some Q) e = absurd (let z : _≡_ {A = ℕ} 0 1 = cc in omega arith)
 
--- the response times of the tasks before task i are found, and held in the array
-pub record FoundBefore (t : Table) (i : ℕ) (times : List ℕ) : Type 0 where
-  pub Rs : List ℕ
-  pub count : length Rs ≡ i
-  pub held : times ≡ padded 8 0 Rs
-  pub rest : responsesOf t (taskNumbers t) ≡ inFront Rs (responsesOf t (drop i (taskNumbers t)))
-
--- before task 0 there is nothing to find
-pub found-none : (t : Table) → FoundBefore t 0 (padded 8 0 [])
-found-none t = record { Rs = []; count = refl; held = refl; rest = inFront-none (responsesOf t (taskNumbers t)) }
-
--- task i is the first of the rest
-rest-first : {t : Table} → Shaped t → (i : ℕ) → i < t .tasks
-    → drop i (taskNumbers t) ≡ numbered i ∷ drop (i + 1) (taskNumbers t)
-rest-first {t} shaped i lt =
+-- task i is the first of the tasks from i on
+numbers-next : {t : Table} → Shaped t → (i : ℕ) → i < t .tasks → drop i (taskNumbers t) ≡ numbered i ∷ drop (suc i) (taskNumbers t)
+numbers-next {t} shaped i lt =
     let below : i < length (taskNumbers t) = omega (arith, taskNumbers-length t, tasks-length shaped) in
-    rw (
-      add-one,
-      drop-cons (taskNumbers t) i (numbered i),
-      taskNumbers-at t (numbered i) (numbered i)
-          (omega (arith, tasks-length shaped)),
-    )
+    rw (drop-cons (taskNumbers t) i (numbered i), taskNumbers-at t (numbered i) (numbered i) (omega (arith, tasks-length shaped)))
 
-module _ {t : Table} {i : ℕ} {times : List ℕ} (shaped : Shaped t) (found : FoundBefore t i times) where
-  -- where task i has a response time, it is found too
-  pub found-more : i < t .tasks → {R : ℕ} → boundOf (responseOf t (numbered i)) ≡ Within R → FoundBefore t (i + 1) (set times i R)
-  unfolding responsesOf bounded _>>=_
-  found-more lt {R} e =
+-- ---- the tasks from task i on
+
+-- all of them meet their periods, and the array holds their response times from place i on
+pub record AllFound (t : Table) (i : ℕ) (times : List ℕ) : Type 0 where
+  pub fit : AllFit (drop i (tasksOf t))
+  pub Rs : List ℕ
+  pub outcome : responsesOf t (drop i (taskNumbers t)) ≡ passed Rs
+  pub full : length times ≡ 8
+  pub held : drop i times ≡ padded (8 - i) 0 Rs
+
+-- either so, or the lowest that has no response time is known
+pub record FoundFrom (t : Table) (i : ℕ) (times : List ℕ) (fit : Bool) (lowest : ℕ) : Type 0 where
+  pub all : fit ≡ true → AllFound t i times
+  pub lacking : fit ≡ false → responsesOf t (drop i (taskNumbers t)) ≡ refused 10 (AtTask (numbered lowest))
+
+drop-replicate : (i n x : ℕ) → drop i (replicate n x) ≡ replicate (n - i) x
+drop-replicate zero n x = simp unary-clauses
+drop-replicate (suc i) zero x = let none : 0 - suc i ≡ 0 = omega arith in rw none
+drop-replicate (suc i) (suc n) x = simp unary-clauses (drop-replicate i n x)
+
+-- past the last task there is nothing to find
+pub found-none : {t : Table} → Timeable t → FoundFrom t (t .tasks) (replicate 8 0) true 0
+unfolding responsesOf
+found-none {t} timeable =
+    let shaped = timeable .shaped in
+    let past : length (taskNumbers t) ≤ t .tasks = omega (arith, taskNumbers-length t, tasks-length shaped) in
+    record {
+      all = λ e.
+          record {
+            fit = rw (tasks-end shaped (t .tasks) (omega arith)) tt;
+            Rs = [];
+            outcome = rw (drop-of-length-le (taskNumbers t) past);
+            full = refl;
+            held = drop-replicate (t .tasks) 8 0 ∙ sym (padded-nil (8 - t .tasks) 0);
+          };
+      lacking = λ e. absurd (false≢true (sym e));
+    }
+
+-- the place of task i holds its response time, and the places after it are as they were
+held-more : (i R : ℕ) (times Rs : List ℕ) → i < 8 → length times ≡ 8 → drop (suc i) times ≡ padded (8 - suc i) 0 Rs
+    → drop i (set times i R) ≡ padded (8 - i) 0 (R ∷ Rs)
+held-more i R times Rs lt full held =
+    let inside : i < length (set times i R) = simp length-set (omega arith) in
+    let short : i < length times = omega arith in
+    let room : 8 - i ≡ suc (8 - suc i) = omega arith in
+    rw (drop-cons (set times i R) i 0, getD-set-same times i R 0, drop-set-lt (suc i) times i R (omega arith), room, padded-cons)
+    (ap (λ (l : List ℕ). R ∷ l) held)
+
+module _ {t : Table} (timeable : Timeable t) {i : ℕ} (lt : i < t .tasks) {times : List ℕ} {fit : Bool} {lowest : ℕ}
+    (found : FoundFrom t (suc i) times fit lowest) where
+  -- the tasks above task i meet their periods
+  pub found-fit : fit ≡ true → AllFit (tasksAbove t (numbered i))
+  unfolding tasksAbove
+  found-fit e = found .all e .fit
+
+  -- where task i has a response time
+  pub found-more : {R : ℕ} → boundOf (responseOf t (numbered i)) ≡ Within R → FoundFrom t i (set times i R) fit lowest
+  unfolding responsesOf bounded _>>=_ tasksAbove
+  found-more {R} b =
+      let response = bound-some _ b in
       record {
-        Rs = found .Rs ++ (R ∷ []);
-        count = simp length-append (omega arith);
-        held = rw (found .held, ← (found .count)) (padded-snoc 8 0 (found .Rs) R (omega arith));
-        rest =
-            found .rest
-            ∙ rw (rest-first shaped i, bound-some _ e) (inFront-more (found .Rs) R (responsesOf t (drop (i + 1) (taskNumbers t))));
+        all = λ e.
+            let above = found .all e in
+            record {
+              fit = rw (tasks-next (timeable .shaped) i lt, add-one)
+                  (response-done t (numbered i) (timeable .positive (numbered i) lt) response, above .fit);
+              Rs = R ∷ above .Rs;
+              outcome = rw (numbers-next (timeable .shaped) i lt, response, above .outcome);
+              full = simp length-set (above .full);
+              held = held-more i R times (above .Rs) (omega (arith, timeable .shaped .tasksWithin)) (above .full) (above .held);
+            };
+        lacking = λ e. rw (numbers-next (timeable .shaped) i lt, response, found .lacking e);
       }
 
-  -- where it has none, the table is refused there
-  pub found-refused : i < t .tasks → boundOf (responseOf t (numbered i)) ≡ Overload
-      → responsesOf t (taskNumbers t) ≡ refused 10 (AtTask (numbered i))
-  unfolding responsesOf bounded _>>=_ inFront
-  found-refused lt e = found .rest ∙ rw (rest-first shaped i, bound-none _ e)
-
-  -- after the last task all are found
-  pub found-all : t .tasks ≤ i → responsesOf t (taskNumbers t) ≡ passed (found .Rs)
-  unfolding responsesOf inFront
-  found-all le =
-      let past : length (taskNumbers t) ≤ i = omega (arith, taskNumbers-length t, tasks-length shaped) in
-      found .rest ∙ rw (drop-of-length-le (taskNumbers t) past) (ap passed (append-nil (found .Rs)))
+  -- where it has none, it is the lowest so far
+  pub found-refused : boundOf (responseOf t (numbered i)) ≡ Overload → FoundFrom t i times false i
+  unfolding responsesOf bounded _>>=_
+  found-refused b =
+      record {
+        all = λ e. absurd (false≢true e);
+        lacking = λ e. rw (numbers-next (timeable .shaped) i lt, bound-none _ b);
+      }

@@ -2,7 +2,7 @@
 -- and a sum over the tasks above one is worked out task by task.
 -- Assumes nothing.
 use mathlib.Core.Path.{_≡_, refl, sym, ap, _∙_}
-use Prim.Native.Nat.{ℕ, zero, suc, _+_, _-_, _*_, _^_, _≤_, _<_}
+use Prim.Native.Nat.{ℕ, zero, suc, _+_, _*_, _^_, _≤_, _<_}
 use native.Mathlib.Nat.{mul-le-mul-left}
 use native.Mathlib.Numerals.{add-one}
 use native.Mathlib.Omega.{arith}
@@ -61,18 +61,28 @@ times-read timeable k d lt c p =
 pub period-read : {t : Table} → Timeable t → (k : ℕ) (d : TaskEntry) → k < t .tasks → 1 ≤ getD (t .entries) k d .period
 period-read timeable k d lt = let read = times-read timeable k d lt refl refl in omega arith
 
+-- the tasks from task k on: task k, and the later ones
+pub tasks-next : {t : Table} → Shaped t → (k : ℕ) → k < t .tasks
+    → drop k (tasksOf t) ≡ taskOf t (numbered k) ∷ drop (k + 1) (tasksOf t)
+unfolding taskOf
+tasks-next {t} s k lt = rw (add-one, drop-cons (tasksOf t) k noTask (omega (arith, tasks-length s)))
+
+-- past the last task there are none
+pub tasks-end : {t : Table} → Shaped t → (k : ℕ) → t .tasks ≤ k → drop k (tasksOf t) ≡ []
+tasks-end {t} s k le = drop-of-length-le (tasksOf t) {i = k} (omega (arith, tasks-length s))
+
 -- ---- sums over the tasks from task k on
 
 -- the first task's term, and the sum over the others
 pub sum-step : {t : Table} → Shaped t → (g : TaskEntry → ℕ) (k : ℕ) → k < t .tasks
     → sum (map g (drop k (tasksOf t))) ≡ g (taskOf t (numbered k)) + sum (map g (drop (k + 1) (tasksOf t)))
-unfolding sum taskOf
-sum-step {t} s g k lt = rw (add-one, drop-cons (tasksOf t) k noTask (omega (arith, tasks-length s)))
+unfolding sum
+sum-step s g k lt = rw (tasks-next s k lt)
 
 -- past the last task it is 0
 pub sum-end : {t : Table} → Shaped t → (g : TaskEntry → ℕ) (k : ℕ) → t .tasks ≤ k → sum (map g (drop k (tasksOf t))) ≡ 0
 unfolding sum
-sum-end {t} s g k le = rw (drop-of-length-le (tasksOf t) {i = k} (omega (arith, tasks-length s)))
+sum-end s g k le = rw (tasks-end s k le)
 
 -- interference: the first task's term, and what the later tasks add
 pub interference-next : {t : Table} → Timeable t → (k r : ℕ) {C P : ℕ} → k < t .tasks → TimesRead t k C P

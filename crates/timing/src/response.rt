@@ -1,4 +1,5 @@
-// Response times: the climb to the least solution of the response equation.
+// Response times: the climb to the least solution of the response equation, and the search for it by halving where the tasks
+// above meet their periods.
 use crate::Bound;
 use crate::Responses;
 use crate::Share;
@@ -7,11 +8,14 @@ use taskfile::Site;
 use taskfile::Table;
 use taskfile::Task;
 ghost use mathlib.Core.Path.{_≡_};
+ghost use mathlib.Core.Bool.{true};
 ghost use Prim.Native.Nat.{_^_, _≤_, _<_, _∣_};
+ghost use lib.ListN.{drop};
 ghost use Rattle.taskfile.specs.Judgement.{numbered, taskNumbers};
+ghost use Rattle.taskfile.specs.Tables.{tasksOf};
 ghost use Rattle.timing.specs.Accepted.{responsesOf};
 ghost use Rattle.timing.specs.Response.{roundedUp, tasksAbove, interference, responseOf};
-ghost use Rattle.timing.specs.ResponseParts.{Timeable, boundOf, SumFits, WithTask, ShareOf, LowerBound, ResponsesAs};
+ghost use Rattle.timing.specs.ResponseParts.{Timeable, boundOf, SumFits, WithTask, ShareOf, LowerBound, AllFit, fitsFrom, ResponsesAs};
 
 // A number of 32 bits as one of 64.
 pub fn wide(x: u32) -> u64
@@ -132,10 +136,93 @@ pub fn climb(t: Table, i: u8, start: u64) -> Bound
     Bound::Overload
 }
 
+// Whether, in some interval of length 1 to b, base and the tasks from j on are done. Only the last multiple of each period and b
+// itself need a look, if each of those tasks meets its own period. It calls itself on the next task.
+pub fn fits_from(t: Table, j: u8, base: u64, b: u64) -> bool
+    requires { ⌜ Timeable t × (j ≤ t .tasks) × (base < 2 ^ 34) × (b < 2 ^ 32) ⌝ }
+    ensures { λ r. ⌜ r ≡ fitsFrom (drop j (tasksOf t)) base b ⌝ }
+{
+    if b < base {
+        return false;
+    }
+    if j == t.tasks {
+        return true;
+    }
+    let at = j as usize;
+    let e = t.entries[at];
+    let c = wide(e.execution);
+    let p = wide(e.period);
+    let f = b / p;
+    if b % p != 0 {
+        if fits_from(t, j + 1, base + (f + 1) * c, b) {
+            return true;
+        }
+    }
+    fits_from(t, j + 1, base + f * c, f * p)
+}
+
+// At most `turns` turns of the climb from a lower bound.
+pub fn climb_some(t: Table, i: u8, start: u64, turns: u8) -> u64
+    requires { ⌜ Timeable t × (i < t .tasks) × LowerBound t (numbered i) start ⌝ }
+    ensures { λ r. ⌜ LowerBound t (numbered i) r ⌝ }
+{
+    let at = i as usize;
+    let e = t.entries[at];
+    let execution = wide(e.execution);
+    let period = wide(e.period);
+    let mut r = start;
+    let mut left = turns;
+    while 0 < left {
+        if period < r {
+            return r;
+        }
+        let next = execution + interference_of(t, i, r);
+        if next == r {
+            return r;
+        }
+        r = next;
+        left -= 1;
+    }
+    r
+}
+
+// The response time of task i from a lower bound, where every task above meets its period: found by halving between
+// the lower bound and the period.
+pub fn search(t: Table, i: u8, start: u64) -> Bound
+    requires { ⌜ Timeable t × (i < t .tasks) × LowerBound t (numbered i) start × AllFit (tasksAbove t (numbered i)) ⌝ }
+    ensures { λ x. ⌜ x ≡ boundOf (responseOf t (numbered i)) ⌝ }
+{
+    let at = i as usize;
+    let e = t.entries[at];
+    let execution = wide(e.execution);
+    let period = wide(e.period);
+    if period < start {
+        return Bound::Overload;
+    }
+    if execution + interference_of(t, i, start) == start {
+        return Bound::Within(start);
+    }
+    if !fits_from(t, i + 1, execution, period) {
+        return Bound::Overload;
+    }
+    let mut lo = start;
+    let mut hi = period;
+    while lo < hi {
+        let mid = lo + (hi - lo) / 2;
+        if fits_from(t, i + 1, execution, mid) {
+            hi = mid;
+        } else {
+            lo = mid + 1;
+        }
+    }
+    Bound::Within(lo)
+}
+
 // The response time of task i, if it is at most the period. No interval shorter than the start can be a solution:
 // each solution R has R × (whole − part) ≥ C × whole, where the tasks above need part of whole.
-pub fn response_of(t: Table, i: u8) -> Bound
-    requires { ⌜ Timeable t × (i < t .tasks) ⌝ }
+// Where `fit` says that the tasks above all meet their periods, what a short climb leaves is found by halving.
+pub fn response_of(t: Table, i: u8, fit: bool) -> Bound
+    requires { ⌜ Timeable t × (i < t .tasks) × (fit ≡ true → AllFit (tasksAbove t (numbered i))) ⌝ }
     ensures { λ x. ⌜ x ≡ boundOf (responseOf t (numbered i)) ⌝ }
 {
     let at = i as usize;
@@ -145,27 +232,42 @@ pub fn response_of(t: Table, i: u8) -> Bound
     if s.whole <= s.part {
         return Bound::Overload;
     }
-    climb(t, i, rounded_up(execution * s.whole, s.whole - s.part))
+    let start = rounded_up(execution * s.whole, s.whole - s.part);
+    if fit {
+        return search(t, i, climb_some(t, i, start, 16));
+    }
+    climb(t, i, start)
 }
 
-// The response times of all tasks, or 10 at the lowest task that has none.
+// The response times of all tasks, or 10 at the lowest task that has none. From the highest task down, so that
+// whether the tasks above all meet their periods is known.
 pub fn responses_of(t: Table) -> Responses
     requires { ⌜ Timeable t ⌝ }
     ensures { λ x. ⌜ ResponsesAs x (responsesOf t (taskNumbers t)) ⌝ }
 {
     let mut times = [0u64; 8];
-    let mut i: u8 = 0;
-    while i < t.tasks {
-        let bound = response_of(t, i);
-        let Bound::Within(r) = bound else {
-            return Responses {
-                check: Judged::Faulty(10, Site::AtTask(Task(i))),
-                times: [0; 8],
-            };
+    let mut fit = true;
+    let mut lowest: u8 = 0;
+    let mut i = t.tasks;
+    while 0 < i {
+        i -= 1;
+        let bound = response_of(t, i, fit);
+        match bound {
+            Bound::Within(r) => {
+                let at = i as usize;
+                times[at] = r;
+            }
+            Bound::Overload => {
+                fit = false;
+                lowest = i;
+            }
+        }
+    }
+    if !fit {
+        return Responses {
+            check: Judged::Faulty(10, Site::AtTask(Task(lowest))),
+            times: [0; 8],
         };
-        let at = i as usize;
-        times[at] = r;
-        i += 1;
     }
     Responses {
         check: Judged::Sound,

@@ -1,5 +1,6 @@
 -- `timing::response::response_of` meets its contract. Where the tasks above need the whole processor, no interval is a solution;
--- else the start is a lower bound of the solutions, from which the climb finds the least.
+-- else the start is a lower bound of the solutions, from which the climb finds the least, or, where the tasks above meet their
+-- periods, a short climb and the search.
 -- Assumes nothing.
 use mathlib.Core.Path.{_≡_, refl, sym, ap}
 use Prim.Native.Nat.{_-_, _^_, _≤_}
@@ -9,7 +10,7 @@ use borrow.Author.Needs.{needs}
 use Rattle.taskfile.specs.Tables.{taskOf}
 use Rattle.taskfile.specs.Judgement.{numbered}
 use Rattle.timing.specs.ClimbLaws.{overloaded, start-bound}
-use Rattle.timing.specs.ResponseParts.{boundOf}
+use Rattle.timing.specs.ResponseParts.{boundOf, LowerBound}
 use Rattle.timing.specs.TimeableLaws.{times-read}
 use Rattle.timing.proofs.response.response_of.Statement.{statement}
 use Rattle.timing.proofs.response.response_of.Tie as tie
@@ -20,6 +21,16 @@ read c =
     let given = c .before .before .pre in
     let times = times-read (given .0) _ _ (given .1) (c .wide .ensures .0) refl in
     (times .execution, times .positive)
+
+-- the start is a lower bound of the solutions
+started : (c : tie.After-rounded-up)
+    → LowerBound (c .before .before .before .before .before .before .before .before .args .t1)
+    (numbered (c .before .before .before .before .before .before .before .before .args .i)) (c .rounded-up .result)
+started c =
+    let found = c .before .before .before .before .before in
+    let given = found .before .before .before .pre in
+    rw (c .rounded-up .ensures, read (found .before) .0)
+    (start-bound _ _ (given .0 .positive _ (given .1)) (found .share-above .ensures) (omega arith))
 
 mul-e : tie.Need-mul-e
 mul-e c = search needs
@@ -61,18 +72,26 @@ sub-rounded-up c = search needs
 rounded-up-requires : tie.Need-rounded-up-requires
 rounded-up-requires c κs = search needs
 
-climb-requires : tie.Need-climb-requires
-climb-requires c κs =
-    let found = c .before .before .before .before .before in
-    let given = found .before .before .before .pre in (
-      given .0,
-      given .1,
-      rw (c .rounded-up .ensures, read (found .before) .0)
-          (start-bound _ _ (given .0 .positive _ (given .1)) (found .share-above .ensures) (omega arith)),
-    )
+climb-some-requires : tie.Need-climb-some-requires
+climb-some-requires c κs =
+    let given = c .before .before .before .before .before .before .before .before .before .pre in
+    (given .0, given .1, started (c .before))
+
+search-requires : tie.Need-search-requires
+search-requires c κs =
+    let given = c .before .before .before .before .before .before .before .before .before .before .pre in
+    (given .0, given .1, c .climb-some .ensures, given .2 (c .before .if2 .taken))
 
 returns-2 : tie.Need-returns-2
 returns-2 c = search needs
+
+climb-requires : tie.Need-climb-requires
+climb-requires c κs =
+    let given = c .before .before .before .before .before .before .before .before .before .pre in
+    (given .0, given .1, started (c .before))
+
+returns-3 : tie.Need-returns-3
+returns-3 c = search needs
 
 pub response-of-spec : {M : Type 1} → statement M
 response-of-spec =
@@ -87,5 +106,8 @@ response-of-spec =
     mul-rounded-up
     sub-rounded-up
     rounded-up-requires
+    climb-some-requires
+    search-requires
+    returns-2
     climb-requires
-    returns-2)
+    returns-3)
