@@ -18,8 +18,9 @@ use Rattle.taskfile.specs.Judgement.{judged, instructionOf, isEnd, isSkip}
 use Rattle.taskfile.specs.JudgementLaws.{last-is-end, skip-inside}
 use Rattle.taskfile.specs.Lists.{if_then_else_}
 use Rattle.taskfile.specs.Tables.{tasksOf, taskOf, bodyOf}
+use Rattle.machine.specs.declared.Effect.{Effect}
 use Rattle.machine.specs.declared.Local.{Local}
-use Rattle.machine.specs.Instructions.{Store, Effect, fresh, perform, operations, end, load, store, setNumber, add, subtract, skipLess, skipEqual, pick, acquireLock, releaseLock, assert, skipping, withRegister, withHeld, register}
+use Rattle.machine.specs.Instructions.{Store, fresh, perform, operations, end, load, store, setNumber, add, subtract, skipLess, skipEqual, pick, acquireLock, releaseLock, assert, skipping, withRegister, withHeld, register}
 
 -- what a job meets at a step: the Pick's choice, and the store that others left
 pub record Met : Type 0 where

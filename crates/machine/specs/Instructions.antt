@@ -1,12 +1,13 @@
 -- One instruction of one job on one store. Document 01, "Instructions".
 -- Assumes nothing.
 use Prim.Native.Nat.{ℕ, suc, _+_, _-_, _%_}
-use mathlib.Core.Bool.{Bool, true, false}
+use mathlib.Core.Bool.{true, false}
 use mathlib.Core.List.{List, [], _∷_}
 use lib.ListN.{getD, set, replicate}
 use lib.Dec.{leb, ltb, eqb}
 use Rattle.taskfile.specs.declared.Instruction.{Instruction}
 use Rattle.taskfile.specs.Lists.{if_then_else_, upTo}
+use Rattle.machine.specs.declared.Effect.{Effect}
 use Rattle.machine.specs.declared.Local.{Local}
 use Rattle.machine.specs.Held.{acquire, release, noLocks}
 
@@ -17,13 +18,6 @@ Store = List ℕ
 -- "A job has registers 0 to 3, zero at its start, and holds no lock then."
 unfoldable pub fresh : Local
 fresh = record { next = 0; registers = replicate 4 0; held = noLocks }
-
--- what an instruction leaves: the job's own state, the store, whether an assertion failed, whether the job has ended
-pub record Effect : Type 0 where
-  pub local : Local
-  pub store : Store
-  pub failed : Bool
-  pub ended : Bool
 
 -- The values on offer: "8 Pick, a takes any value 0 to b"; "the value being the Pick's choice, else 0".
 unfoldable pub values : Instruction → List ℕ

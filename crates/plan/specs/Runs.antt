@@ -19,7 +19,8 @@ use Rattle.timing.specs.Relations.{base, jobAt, jobNumbers}
 use Rattle.machine.specs.declared.Local.{Local}
 use Rattle.machine.specs.Ends.{Flags, noFlags, noStore, flagged}
 use Rattle.machine.specs.Held.{priority}
-use Rattle.machine.specs.Instructions.{Store, Effect, fresh, values, perform}
+use Rattle.machine.specs.declared.Effect.{Effect}
+use Rattle.machine.specs.Instructions.{Store, fresh, values, perform}
 use Rattle.plan.specs.declared.Round.{Round}
 
 -- a plan is any bytes

@@ -1,0 +1,13 @@
+-- `machine::answers::ended_run` meets its contract: the definition computes to the answer.
+-- Assumes nothing.
+use mathlib.Core.Path.{refl}
+use Rattle.machine.specs.Ends.{runAnswer, unwritten, noStore, noFlags}
+use Rattle.machine.proofs.answers.ended_run.Statement.{statement}
+use Rattle.machine.proofs.answers.ended_run.Tie as tie
+
+returns : tie.Need-returns
+unfolding runAnswer unwritten noStore noFlags
+returns c = refl
+
+pub ended-run-spec : {M : Type 1} → statement M
+ended-run-spec = tie.close (tie.spec returns)
