@@ -1,4 +1,12 @@
+pub mod Invariant
+pub mod LengthLaws
+pub mod LentLaws
 pub mod Orders
+pub mod ProgressLaws
 pub mod Replay
-pub mod Snapshots
+pub mod ReplayEntryLaws
+pub mod ReplayLaws
+pub mod SnapshotLaws
+pub mod SnapshotSteps
 pub mod States
+pub mod StepLaws

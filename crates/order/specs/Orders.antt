@@ -17,7 +17,8 @@ use Rattle.timing.specs.declared.Job.{Job}
 use Rattle.timing.specs.Accepted.{Accepted}
 use Rattle.timing.specs.Relations.{base, jobAt, jobNumbers}
 use Rattle.machine.specs.Ends.{End, flagged, orderRoom}
-use Rattle.machine.specs.Instructions.{Effect, fresh, values, perform}
+use Rattle.machine.specs.declared.Effect.{Effect}
+use Rattle.machine.specs.Instructions.{fresh, values, perform}
 use Rattle.order.specs.declared.Frame.{Frame}
 use Rattle.order.specs.States.{State, initial, allEnded, mayStart}
 

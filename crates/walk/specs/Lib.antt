@@ -1,3 +1,4 @@
+pub mod MoveLaws
 pub mod Moves
 pub mod WalkEntry
 pub mod Walks

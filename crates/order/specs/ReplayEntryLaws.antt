@@ -1,0 +1,114 @@
+-- The replay's entry: what it answers, by what the file and the order's bytes come to.
+-- Assumes nothing.
+use mathlib.Core.Path.{_≡_, refl, sym, ap, subst, _∙_}
+use Prim.Native.Nat.{ℕ, _+_, _*_, _^_, _≤_, _<_}
+use native.Mathlib.Omega.{arith}
+use mathlib.Core.List.{List, []}
+use lib.ListN.{length}
+use Rattle.taskfile.specs.declared.Ceilings.{Ceilings}
+use Rattle.taskfile.specs.declared.Check.the-variants.{Passed, Refused}
+use Rattle.taskfile.specs.declared.Table.{Table}
+use Rattle.taskfile.specs.Checked.{Checked, refused, passed, _>>=_}
+use Rattle.taskfile.specs.CheckSteps.{bind-refused, bind-goes}
+use Rattle.taskfile.specs.Records.{File}
+use Rattle.timing.specs.declared.AcceptAnswer.{AcceptAnswer}
+use Rattle.timing.specs.declared.JobList.{JobList}
+use Rattle.timing.specs.Accepted.{Accepted, accept}
+use Rattle.timing.specs.AcceptedLaws.{IsAccepted, accepted}
+use Rattle.timing.specs.AcceptLaws.{accepted-refused, accepted-passed}
+use Rattle.timing.specs.AcceptParts.{AcceptedParts, AcceptedAs}
+use Rattle.timing.specs.JobParts.{jobListOf}
+use Rattle.machine.specs.Ends.{End, Written, runAnswer, unwritten}
+use Rattle.order.specs.declared.Replayed.{Replayed}
+use Rattle.timing.specs.JobFacts.{jobs-few}
+use Rattle.order.specs.LengthLaws.{left, left-most}
+use Rattle.order.specs.LentLaws.{OwnersTo, TimesTo, lent}
+use Rattle.order.specs.Orders.{endOf}
+use Rattle.order.specs.Replay.{replayFrom, replay, replayed, replayAnswer}
+use Rattle.order.specs.ReplayLaws.{ReplayedAs, Fault, first-shown, replay-agreed, replay-fault}
+use Rattle.order.specs.SnapshotLaws.{Shows}
+use Rattle.order.specs.SnapshotSteps.{replayIn, firstSnapshot}
+use Rattle.order.specs.States.{State, initial}
+use Rattle.order.specs.StepLaws.{initial-invariant}
+
+-- a replay of a table's parts: it comes to what the order comes to, if they are an accepted table's
+abbrev pub ReplayOf : Table → JobList → List ℕ → Replayed → Type 0
+ReplayOf t list order r =
+    (a : Accepted) → IsAccepted a → t ≡ a .table → list ≡ jobListOf (a .jobs) → ReplayedAs a r (replayFrom a (initial a) 0 order)
+
+pub replay-lent : {t : Table} {list : JobList} {program times : List ℕ} (order : List ℕ) {r : Replayed}
+    → OwnersTo t list (list .count) program → TimesTo list 32 times
+    → r ≡ replayIn program times (record { count = t .locks; ceilings = t .ceilings }) (firstSnapshot program (t .store)) 0 order
+    → ReplayOf t list order r
+replay-lent {t} {list} {program} {times} order {r} owners held is a ok table listed =
+    let lends = lent ok listed (subst (λ (u : Table). OwnersTo u list (list .count) program) table owners) held in
+    subst (λ (q : Replayed). ReplayedAs a q (replayFrom a (initial a) 0 order))
+    (sym (is ∙ ap (λ (u : Table). replayIn program times (record { count = u .locks; ceilings = u .ceilings }) (firstSnapshot program (u .store)) 0 order) table))
+    (replay-agreed ok lends order (initial-invariant a) (first-shown ok lends) 0)
+
+module _ (f : File) (order : List ℕ) (x : AcceptAnswer) (says : AcceptedAs x (accept f)) where
+  -- a file that is refused
+  pub answers-refused : {n p : ℕ} → x .check ≡ Refused n p → runAnswer (refused n p) ≡ replayAnswer f order
+  unfolding replayAnswer replayed unwritten
+  answers-refused e = sym (ap (λ (c : Checked ℕ End). runAnswer (unwritten c)) (bind-refused _ (accepted-refused x (accept f) says e)))
+
+  module _ (passes : x .check ≡ Passed) where
+    abbrev found : (a : Accepted) × (accept f ≡ passed a) × AcceptedParts x a
+    found = accepted-passed x (accept f) says passes
+
+    abbrev a : Accepted
+    a = found .0
+
+    ok : IsAccepted a
+    ok = accepted f (found .1)
+
+    -- its parts are small enough
+    pub answers-bounds : (x .list .count ≤ 32) × (x .table .locks ≤ 8)
+    unfolding jobListOf
+    answers-bounds = (
+      omega (arith, jobs-few (ok .isTimed), ap (λ (l : JobList). l .count) (found .2 .list)),
+      omega (arith, ok .isMade .shaped .locksWithin, ap (λ (t : Table). t .locks) (found .2 .table)),
+    )
+
+    module _ (r : Replayed) (made : ReplayOf (x .table) (x .list) order r) where
+      same : ReplayedAs a r (replayFrom a (initial a) 0 order)
+      same = made a ok (found .2 .table) (found .2 .list)
+
+      -- the answer is that of the order's replay
+      replay-answer : {c : Checked ℕ End} → replay a order ≡ c → runAnswer (unwritten c) ≡ replayAnswer f order
+      unfolding replayAnswer replayed
+      replay-answer e = sym (ap (λ (c : Checked ℕ End). runAnswer (unwritten c)) (bind-goes _ (found .1) ∙ e))
+
+      -- what a fault of the order comes to
+      outcome-fault : (c : Checked ℕ State) → replayFrom a (initial a) 0 order ≡ c → ReplayedAs a r c → (r .number ≡ 0 → ⊥)
+          → (r .place < 2 ^ 32) × (runAnswer (refused (r .number) (r .place)) ≡ replayAnswer f order)
+      unfolding replay unwritten
+      outcome-fault (refused n p) e h faulty =
+          let fault = replay-fault ok order (initial-invariant a) 0 e in
+          let near = fault .near in
+          let short = left-most a (initial a) in
+          let few = jobs-few (ok .isTimed) in (
+            omega (arith, h .1),
+            ap runAnswer (λ i. refused (h .0 i) (h .1 i)) ∙ replay-answer (bind-refused _ e),
+          )
+      outcome-fault (passed s) e h faulty = absurd (faulty (h .0))
+
+      pub answers-place : (r .number ≡ 0 → ⊥) → r .place < 2 ^ 32
+      answers-place faulty = outcome-fault (replayFrom a (initial a) 0 order) refl same faulty .0
+
+      pub answers-fault : (r .number ≡ 0 → ⊥) → runAnswer (refused (r .number) (r .place)) ≡ replayAnswer f order
+      answers-fault faulty = outcome-fault (replayFrom a (initial a) 0 order) refl same faulty .1
+
+      -- what a complete order comes to
+      outcome-ended : (c : Checked ℕ State) → replayFrom a (initial a) 0 order ≡ c → ReplayedAs a r c → r .number ≡ 0
+          → runAnswer (unwritten (passed (record { store = r .state .store; failed = r .state .failed }))) ≡ replayAnswer f order
+      unfolding replay endOf
+      outcome-ended (refused n p) e h clean = let fault = replay-fault ok order (initial-invariant a) 0 e in absurd (omega (arith, fault .numbered, h .0))
+      outcome-ended (passed s) e h clean =
+          let shows = h .2 in
+          ap (λ (c : Checked ℕ End). runAnswer (unwritten c)) (λ i. passed (record { store = shows .store i; failed = shows .failed i }))
+          ∙ replay-answer (bind-goes _ e)
+
+      pub answers-ended : r .number ≡ 0
+          → runAnswer (unwritten (passed (record { store = r .state .store; failed = r .state .failed }))) ≡ replayAnswer f order
+      answers-ended clean = outcome-ended (replayFrom a (initial a) 0 order) refl same clean
