@@ -15,6 +15,8 @@ use Rattle.taskfile.specs.declared.Task.{Task}
 use Rattle.taskfile.specs.declared.TaskEntry.{TaskEntry}
 use Rattle.taskfile.specs.Judgement.{instructionOf}
 use Rattle.taskfile.specs.JudgingLaws.{body-length, body-at}
+use Rattle.taskfile.specs.JudgingParts.{Shaped}
+use Rattle.taskfile.specs.ListLaws.{getD-any}
 use Rattle.taskfile.specs.Tables.{tasksOf, taskOf, bodyOf, ceilingsOf, noTask, endInstruction}
 use Rattle.timing.specs.declared.Job.{Job}
 use Rattle.timing.specs.declared.JobList.{JobList}
@@ -150,6 +152,21 @@ bodies-more {t} {n} {program} bodies few {o} read =
       room = stored-length program n o (bodies .room) few;
     }
 
+-- an instruction read from the arrays is the table's, whatever the defaults
+pub instruction-read : {t : Table} → Shaped t → (n : ℕ) → n < 128 → (d : TaskEntry) (e : Instruction)
+    → getD (getD (t .entries) (n / 16) d .body) (n % 16) e ≡ getD (getD (t .entries) (n / 16) noTask .body) (n % 16) endInstruction
+instruction-read {t} shaped n few d e =
+    let sixteen : _≤_ 1 16 = omega arith in
+    let task : n / 16 < 8 = omega (arith, div-add-mod' n 16) in
+    let place : n % 16 < 16 = mod-lt n sixteen in
+    let full = shaped .bodies (n / 16) task .full in
+    ap (λ (x : TaskEntry). getD (x .body) (n % 16) e) (getD-any (t .entries) (n / 16) d noTask (omega (arith, shaped .entriesFull)))
+    ∙ getD-any (getD (t .entries) (n / 16) noTask .body) (n % 16) e endInstruction (omega arith)
+
+-- after the last instruction all are stored
+pub bodies-all : {t : Table} {n : ℕ} {program : List ℕ} → BodiesTo t n program → 128 ≤ n → BodiesTo t 128 program
+bodies-all bodies enough = record { held = λ i p low lt. bodies .held i p low (omega arith); unowned = bodies .unowned; room = bodies .room }
+
 -- ---- the owners and the times
 
 -- past the bodies, a store changes no instruction
@@ -211,6 +228,14 @@ times-more {list} {n} {times} held few {v} {w} first second =
           ];
       room = length-set (set times n v) (32 + n) w ∙ length-set times n v ∙ held .room;
     }
+
+-- after the last job all are stored
+pub times-all : {list : JobList} {n : ℕ} {times : List ℕ} → TimesTo list n times → 32 ≤ n → TimesTo list 32 times
+times-all held enough =
+    record { arrivals = λ x lt. held .arrivals x (omega arith); finishes = λ x lt. held .finishes x (omega arith); room = held .room }
+
+pub owners-all : {t : Table} {list : JobList} {n m : ℕ} {program : List ℕ} → OwnersTo t list n program → n ≡ m → OwnersTo t list m program
+owners-all {t} {list} {program = program} owners e = subst (λ (k : ℕ). OwnersTo t list k program) e owners
 
 -- ---- the whole
 

@@ -6,7 +6,10 @@ pub mod ProgressLaws
 pub mod Replay
 pub mod ReplayEntryLaws
 pub mod ReplayLaws
+pub mod ReplayLoopLaws
 pub mod SnapshotLaws
 pub mod SnapshotSteps
+pub mod StartLaws
 pub mod States
 pub mod StepLaws
+pub mod TurnLaws

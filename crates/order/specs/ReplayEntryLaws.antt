@@ -10,6 +10,7 @@ use Rattle.taskfile.specs.declared.Check.the-variants.{Passed, Refused}
 use Rattle.taskfile.specs.declared.Table.{Table}
 use Rattle.taskfile.specs.Checked.{Checked, refused, passed, _>>=_}
 use Rattle.taskfile.specs.CheckSteps.{bind-refused, bind-goes}
+use Rattle.taskfile.specs.JudgingParts.{Shaped}
 use Rattle.taskfile.specs.Records.{File}
 use Rattle.timing.specs.declared.AcceptAnswer.{AcceptAnswer}
 use Rattle.timing.specs.declared.JobList.{JobList}
@@ -20,6 +21,7 @@ use Rattle.timing.specs.AcceptParts.{AcceptedParts, AcceptedAs}
 use Rattle.timing.specs.JobParts.{jobListOf}
 use Rattle.machine.specs.Ends.{End, Written, runAnswer, unwritten}
 use Rattle.order.specs.declared.Replayed.{Replayed}
+use Rattle.order.specs.declared.Snapshot.{Snapshot}
 use Rattle.timing.specs.JobFacts.{jobs-few}
 use Rattle.order.specs.LengthLaws.{left, left-most}
 use Rattle.order.specs.LentLaws.{OwnersTo, TimesTo, lent}
@@ -36,21 +38,21 @@ abbrev pub ReplayOf : Table → JobList → List ℕ → Replayed → Type 0
 ReplayOf t list order r =
     (a : Accepted) → IsAccepted a → t ≡ a .table → list ≡ jobListOf (a .jobs) → ReplayedAs a r (replayFrom a (initial a) 0 order)
 
-pub replay-lent : {t : Table} {list : JobList} {program times : List ℕ} (order : List ℕ) {r : Replayed}
-    → OwnersTo t list (list .count) program → TimesTo list 32 times
-    → r ≡ replayIn program times (record { count = t .locks; ceilings = t .ceilings }) (firstSnapshot program (t .store)) 0 order
-    → ReplayOf t list order r
-replay-lent {t} {list} {program} {times} order {r} owners held is a ok table listed =
+pub replay-lent : {t : Table} {list : JobList} {program times : List ℕ} (order : List ℕ) {start : Snapshot} {r : Replayed}
+    → OwnersTo t list (list .count) program → TimesTo list 32 times → start ≡ firstSnapshot program (t .store)
+    → r ≡ replayIn program times (record { count = t .locks; ceilings = t .ceilings }) start 0 order → ReplayOf t list order r
+replay-lent {t} {list} {program} {times} order {start} {r} owners held first made a ok table listed =
+    let is = made ∙ ap (λ (p : Snapshot). replayIn program times (record { count = t .locks; ceilings = t .ceilings }) p 0 order) first in
     let lends = lent ok listed (subst (λ (u : Table). OwnersTo u list (list .count) program) table owners) held in
     subst (λ (q : Replayed). ReplayedAs a q (replayFrom a (initial a) 0 order))
     (sym (is ∙ ap (λ (u : Table). replayIn program times (record { count = u .locks; ceilings = u .ceilings }) (firstSnapshot program (u .store)) 0 order) table))
     (replay-agreed ok lends order (initial-invariant a) (first-shown ok lends) 0)
 
-module _ (f : File) (order : List ℕ) (x : AcceptAnswer) (says : AcceptedAs x (accept f)) where
+module _ (f : File) (x : AcceptAnswer) (says : AcceptedAs x (accept f)) where
   -- a file that is refused
-  pub answers-refused : {n p : ℕ} → x .check ≡ Refused n p → runAnswer (refused n p) ≡ replayAnswer f order
+  pub answers-refused : (order : List ℕ) {n p : ℕ} → x .check ≡ Refused n p → runAnswer (refused n p) ≡ replayAnswer f order
   unfolding replayAnswer replayed unwritten
-  answers-refused e = sym (ap (λ (c : Checked ℕ End). runAnswer (unwritten c)) (bind-refused _ (accepted-refused x (accept f) says e)))
+  answers-refused order e = sym (ap (λ (c : Checked ℕ End). runAnswer (unwritten c)) (bind-refused _ (accepted-refused x (accept f) says e)))
 
   module _ (passes : x .check ≡ Passed) where
     abbrev found : (a : Accepted) × (accept f ≡ passed a) × AcceptedParts x a
@@ -62,15 +64,15 @@ module _ (f : File) (order : List ℕ) (x : AcceptAnswer) (says : AcceptedAs x (
     ok : IsAccepted a
     ok = accepted f (found .1)
 
-    -- its parts are small enough
-    pub answers-bounds : (x .list .count ≤ 32) × (x .table .locks ≤ 8)
+    -- its parts can be replayed
+    pub answers-parts : Shaped (x .table) × (x .list .count ≤ 32)
     unfolding jobListOf
-    answers-bounds = (
+    answers-parts = (
+      subst Shaped (sym (found .2 .table)) (ok .isMade .shaped),
       omega (arith, jobs-few (ok .isTimed), ap (λ (l : JobList). l .count) (found .2 .list)),
-      omega (arith, ok .isMade .shaped .locksWithin, ap (λ (t : Table). t .locks) (found .2 .table)),
     )
 
-    module _ (r : Replayed) (made : ReplayOf (x .table) (x .list) order r) where
+    module _ (order : List ℕ) (r : Replayed) (made : ReplayOf (x .table) (x .list) order r) where
       same : ReplayedAs a r (replayFrom a (initial a) 0 order)
       same = made a ok (found .2 .table) (found .2 .list)
 

@@ -81,11 +81,11 @@ module _ (a : Accepted) (s : State) (index byte : ℕ) (bytes : List ℕ) where
 -- ---- the first snapshot
 
 -- a job of a lower task is passed over
-first-on : (program : List ℕ) (k start n : ℕ) → ownerIn program start < k → firstFrom program k start (suc n) ≡ firstFrom program k (suc start) n
+pub first-on : (program : List ℕ) (k start n : ℕ) → ownerIn program start < k → firstFrom program k start (suc n) ≡ firstFrom program k (suc start) n
 unfolding firstFrom
 first-on program k start n h = rw (lt-ltb (ownerIn program start) k h, firstFrom) refl
 
-first-stops : (program : List ℕ) (k start n : ℕ) → k ≤ ownerIn program start → firstFrom program k start (suc n) ≡ start
+pub first-stops : (program : List ℕ) (k start n : ℕ) → k ≤ ownerIn program start → firstFrom program k start (suc n) ≡ start
 unfolding firstFrom
 first-stops program k start n h = rw (le-ltb (ownerIn program start) k h, firstFrom) refl
 

@@ -42,7 +42,7 @@ use Rattle.order.specs.LengthLaws.{body-short}
 use Rattle.order.specs.Orders.{Turn, startOf, turnAmong, turnOf, nextOf, performed, stepWith, step}
 use Rattle.taskfile.specs.QuantifierLaws.{all-at, at-all, any-at, at-any, none-at, at-none}
 use Rattle.timing.specs.JobNumberLaws.{all-jobs, jobs-all, only-job, no-job}
-use Rattle.order.specs.SnapshotSteps.{ownerIn, instructionIn, arrivalIn, latestIn, beforeIn, preemptsIn, ownedBy, waitsFor, waits, goesOver, stackOf, noFrame, nobody, startsIn, startIn, topOf, runsIn, turnIn, afterIn, stepWithIn, dueStep, stepIn, hasUpcoming, finishedIn}
+use Rattle.order.specs.SnapshotSteps.{ownerIn, instructionIn, arrivalIn, latestIn, beforeIn, preemptsIn, ownedBy, waitsFor, waits, goesOver, stackOf, noFrame, nobody, startsIn, startIn, beyond, topOf, runsIn, turnIn, afterIn, stepWithIn, dueStep, stepIn, hasUpcoming, finishedIn}
 use Rattle.timing.specs.AcceptedLaws.{IsAccepted}
 use Rattle.order.specs.States.{State, hasEnded, isActive, allEnded, presentPriority, mayStart}
 use Rattle.order.specs.StepLaws.{GoodTurn, Startable, start-says, good-turn, afterEffect, performed-is, effect-keeps, turn-inside, begun-before, begun-stays, begun-here, active-ended, active-goes}
@@ -381,8 +381,8 @@ module _ {a : Accepted} (ok : IsAccepted a) {program times : List ℕ} {locks : 
       let deeper : p .depth ≡ suc m = omega arith in
       shows .active
       ∙ ap (λ (n : ℕ). reverse (take n (p .stack))) deeper
-      ∙ ap reverse (take-suc (p .stack) m noFrame (omega (arith, shows .depth, shows .full)))
-      ∙ reverse-append (take m (p .stack)) (getD (p .stack) m noFrame ∷ [])
+      ∙ ap reverse (take-suc (p .stack) m beyond (omega (arith, shows .depth, shows .full)))
+      ∙ reverse-append (take m (p .stack)) (getD (p .stack) m beyond ∷ [])
 
   no-active : p .depth ≡ 0 → s .active ≡ []
   unfolding stackOf
@@ -454,8 +454,8 @@ module _ {a : Accepted} (ok : IsAccepted a) {program times : List ℕ} {locks : 
   runs-turned : (i : ℕ) → runsIn program p i ≡ true → Turned i (record { due = true; frame = topOf p; under = p .depth - 1 })
   unfolding runsIn if_then_else_ topTurn
   runs-turned i h =
-      let tests = both (ltb 0 (p .depth)) _ h in
-      let lt = ltb-true 0 (p .depth) (tests .0) in
+      let tests = both (ltb i 8 && ltb 0 (p .depth)) _ h in
+      let lt = ltb-true 0 (p .depth) (both (ltb i 8) _ (tests .0) .1) in
       let own : eqb (base a (topOf p .job)) i ≡ true = sym (top-owned i lt) ∙ tests .1 in
       shown-turned i _ refl
       (record { turn = topTurn; due = turn-top i lt ∙ rw own refl; frame = refl; under = refl; room = omega (arith, shows .depth) })
@@ -466,7 +466,13 @@ module _ {a : Accepted} (ok : IsAccepted a) {program times : List ℕ} {locks : 
   other-turn i h =
       elim (decLt 0 (p .depth)) [
         | yes lt ↦
-            let other : eqb (base a (topOf p .job)) i ≡ false = sym (top-owned i lt) ∙ other-fails (ltb 0 (p .depth)) _ h (lt-ltb 0 (p .depth) lt) in
+            let other : eqb (base a (topOf p .job)) i ≡ false =
+            elim (decLt i 8) [
+              | yes small ↦
+                  sym (top-owned i lt)
+                  ∙ other-fails (ltb i 8 && ltb 0 (p .depth)) _ h (and-holds (ltb i 8) _ (lt-ltb i 8 small) (lt-ltb 0 (p .depth) lt))
+              | no high ↦ ne-eqb (base a (topOf p .job)) i (λ e. omega (arith, base-small ok (topOf p .job) (top-job lt)))
+            ] in
             turn-top i lt ∙ rw other refl
         | no flat ↦ turn-none-active i (omega arith)
       ]

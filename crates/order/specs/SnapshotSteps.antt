@@ -115,12 +115,17 @@ startIn program times locks p i =
 
 -- ---- the turn and the step
 
+-- what a read past the end of the stack gives
+unfoldable pub beyond : Frame
+beyond = record { job = record { 0 = 0 }; local = record { next = 0; registers = []; held = [] } }
+
 -- the active job started last
 unfoldable pub topOf : Snapshot → Frame
-topOf p = getD (p .stack) (p .depth - 1) noFrame
+topOf p = getD (p .stack) (p .depth - 1) beyond
 
+-- is it one of task i, of the eight?
 unfoldable pub runsIn : Program → Snapshot → ℕ → Bool
-runsIn program p i = ltb 0 (p .depth) && ownedBy program i (topOf p .job .0)
+runsIn program p i = ltb i 8 && ltb 0 (p .depth) && ownedBy program i (topOf p .job .0)
 
 unfoldable pub turnIn : Program → Times → Ceilings → Snapshot → ℕ → Due
 turnIn program times locks p i =

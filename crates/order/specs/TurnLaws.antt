@@ -1,0 +1,228 @@
+-- Laws of the turn and the step on a snapshot, a case of their definitions each: what the tests that the code has made come to, and what a
+-- turn that is due says of its numbers.
+-- Assumes nothing.
+use mathlib.Core.Path.{_≡_, refl, sym, ap, subst, _∙_}
+use mathlib.Core.Logic.{inl, inr}
+use Prim.Native.Nat.{ℕ, _+_, _-_, _/_, _%_, _≤_, _<_}
+use native.Mathlib.Omega.{arith}
+use mathlib.Core.Bool.{Bool, true, false, true≢false, not, _&&_}
+use mathlib.Core.List.{List}
+use lib.ListN.{getD, set}
+use lib.Dec.{ltb}
+use borrow.Author.Tests.{ltb-true, lt-ltb, le-ltb, not-true, not-false}
+use Rattle.taskfile.specs.declared.Ceilings.{Ceilings}
+use Rattle.taskfile.specs.declared.Instruction.{Instruction}
+use Rattle.taskfile.specs.Lists.{if_then_else_, member}
+use Rattle.taskfile.specs.Tests.{both, and-holds, and-first, and-second, and-last, decided}
+use Rattle.timing.specs.declared.Job.{Job}
+use Rattle.machine.specs.declared.Effect.{Effect}
+use Rattle.machine.specs.Ends.{flagged}
+use Rattle.machine.specs.Instructions.{fresh, values, perform}
+use Rattle.order.specs.declared.Due.{Due}
+use Rattle.order.specs.declared.Frame.{Frame}
+use Rattle.order.specs.declared.Snapshot.{Snapshot}
+use Rattle.order.specs.declared.Stepped.{Stepped}
+use Rattle.order.specs.SnapshotSteps.{instructionIn, ownedBy, waits, nobody, startsIn, startIn, topOf, runsIn, turnIn, afterIn, stepWithIn, dueStep, stepIn}
+
+-- ---- who runs
+
+module _ (program : List ℕ) (p : Snapshot) (i : ℕ) where
+  pub runs-high : 8 ≤ i → false ≡ runsIn program p i
+  unfolding runsIn
+  runs-high h = sym (and-first (ltb i 8 && ltb 0 (p .depth)) _ (and-first (ltb i 8) _ (le-ltb i 8 h)))
+
+  pub runs-flat : p .depth ≡ 0 → false ≡ runsIn program p i
+  unfolding runsIn
+  runs-flat h = sym (and-first (ltb i 8 && ltb 0 (p .depth)) _ (and-last (ltb i 8) _ (le-ltb 0 (p .depth) (omega arith))))
+
+  pub runs-top : i < 8 → (p .depth ≡ 0 → ⊥) → {b : Bool} → b ≡ ownedBy program i (topOf p .job .0) → b ≡ runsIn program p i
+  unfolding runsIn
+  runs-top small deep e =
+      e ∙ sym (and-second (ltb i 8 && ltb 0 (p .depth)) _ (and-holds (ltb i 8) _ (lt-ltb i 8 small) (lt-ltb 0 (p .depth) (omega arith))))
+
+  owned-low : (x : ℕ) → ownedBy program i x ≡ true → x < 32
+  unfolding ownedBy
+  owned-low x h = ltb-true x 32 (both (ltb x 32) _ h .0)
+
+  -- who runs is active, and a job of one of the eight tasks
+  pub runs-says : runsIn program p i ≡ true → (i < 8) × (0 < p .depth) × (topOf p .job .0 < 32)
+  unfolding runsIn
+  runs-says h =
+      let tests = both (ltb i 8 && ltb 0 (p .depth)) _ h in
+      let front = both (ltb i 8) _ (tests .0) in
+      (ltb-true i 8 (front .0), ltb-true 0 (p .depth) (front .1), owned-low (topOf p .job .0) (tests .1))
+
+  pub runs-deep : {b : Bool} → b ≡ runsIn program p i → b ≡ true → 1 ≤ p .depth
+  runs-deep e h = runs-says (sym e ∙ h) .1
+
+-- ---- the turn
+
+module _ (program times : List ℕ) (locks : Ceilings) (p : Snapshot) (i : ℕ) where
+  -- who starts has room, and is a job of one of the eight tasks
+  starts-says : startsIn program times locks p i ≡ true → (i < 8) × (p .depth < 8) × (getD (p .upcoming) i 0 < 32)
+  unfolding startsIn
+  starts-says h =
+      let y = getD (p .upcoming) i 0 in
+      let e4 = both (ltb i 8 && ltb (p .depth) 8 && ownedBy program i y && not (waits program times (p .upcoming) y)) _ h in
+      let e3 = both (ltb i 8 && ltb (p .depth) 8 && ownedBy program i y) _ (e4 .0) in
+      let e2 = both (ltb i 8 && ltb (p .depth) 8) _ (e3 .0) in
+      let e1 = both (ltb i 8) _ (e2 .0) in
+      (ltb-true i 8 (e1 .0), ltb-true (p .depth) 8 (e1 .1), owned-low program p i y (e2 .1))
+
+  abbrev Bounded : Due → Type 0
+  Bounded d = d .due ≡ true → (i < 8) × (d .under < 8) × (d .frame .job .0 < 32)
+
+  start-bounded : Bounded (startIn program times locks p i)
+  unfolding startIn if_then_else_ nobody
+  start-bounded =
+      elim (decided (startsIn program times locks p i)) [
+        | inl e ↦
+            let is : startIn program times locks p i
+            ≡ record { due = true; frame = record { job = record { 0 = getD (p .upcoming) i 0 }; local = fresh }; under = p .depth } = rw e refl in
+            subst Bounded (sym is) (λ h. starts-says e)
+        | inr e ↦
+            let is : startIn program times locks p i ≡ nobody = rw e refl in
+            subst Bounded (sym is) (λ h. absurd (true≢false (sym h)))
+      ]
+
+  turn-bounded : p .depth ≤ 8 → Bounded (turnIn program times locks p i)
+  unfolding turnIn if_then_else_
+  turn-bounded le =
+      elim (decided (runsIn program p i)) [
+        | inl e ↦
+            let says = runs-says program p i e in
+            let is : turnIn program times locks p i ≡ record { due = true; frame = topOf p; under = p .depth - 1 } = rw e refl in
+            subst Bounded (sym is) (λ h. (says .0, omega arith, says .2))
+        | inr e ↦
+            let is : turnIn program times locks p i ≡ startIn program times locks p i = rw e refl in
+            subst Bounded (sym is) start-bounded
+      ]
+
+  module _ {d : Due} (is : d ≡ turnIn program times locks p i) (le : p .depth ≤ 8) where
+    -- a turn that is due is one of the eight tasks, and its numbers have a place in the arrays
+    pub due-task : d .due ≡ true → i < 8
+    due-task h = subst Bounded (sym is) (turn-bounded le) h .0
+
+    pub due-bounds : d .due ≡ true → (d .under < 8) × (d .frame .job .0 < 32)
+    due-bounds h = let says = subst Bounded (sym is) (turn-bounded le) h in (says .1, says .2)
+
+    -- so a turn meets what its maker says of it
+    pub turn-made : (d ≡ turnIn program times locks p i) × (d .due ≡ true → (d .under < 8) × (d .frame .job .0 < 32))
+    turn-made = (is, due-bounds)
+
+  pub turn-runs : {b : Bool} → b ≡ runsIn program p i → b ≡ true
+      → record { due = true; frame = topOf p; under = p .depth - 1 } ≡ turnIn program times locks p i
+  unfolding turnIn if_then_else_
+  turn-runs e h = rw (sym e ∙ h) refl
+
+  pub turn-starts : {b : Bool} → b ≡ runsIn program p i → b ≡ false → {d : Due} → d ≡ startIn program times locks p i
+      → d ≡ turnIn program times locks p i
+  unfolding turnIn if_then_else_
+  turn-starts e h is = rw (sym e ∙ h) is
+
+-- ---- what an effect leaves
+
+-- the store, the task's next job and the failed jobs after an effect, with the stack as it was
+unfoldable pub noted : Snapshot → Job → ℕ → Effect → Snapshot
+noted p x i effect =
+    record {
+      store = effect .store;
+      upcoming = set (p .upcoming) i (x .0 + 1);
+      failed = flagged (effect .failed) (x .0) (p .failed);
+      depth = p .depth;
+      stack = p .stack;
+    }
+
+module _ (p : Snapshot) (x : Job) (i : ℕ) (effect : Effect) where
+  pub noted-failed : effect .failed ≡ true
+      → record { store = effect .store; upcoming = set (p .upcoming) i (x .0 + 1); failed = set (p .failed) (x .0) true; depth = p .depth; stack = p .stack }
+      ≡ noted p x i effect
+  unfolding noted flagged if_then_else_
+  noted-failed e = rw e refl
+
+  pub noted-sound : effect .failed ≡ false
+      → record { store = effect .store; upcoming = set (p .upcoming) i (x .0 + 1); failed = p .failed; depth = p .depth; stack = p .stack }
+      ≡ noted p x i effect
+  unfolding noted flagged if_then_else_
+  noted-sound e = rw e refl
+
+  module _ (under : ℕ) {q : Snapshot} (is : q ≡ noted p x i effect) where
+    -- a job that has ended leaves the stack
+    pub after-ended : effect .ended ≡ true
+        → record { store = q .store; upcoming = q .upcoming; failed = q .failed; depth = under; stack = q .stack } ≡ afterIn p x under i effect
+    unfolding noted afterIn if_then_else_
+    after-ended e = rw (is, e) refl
+
+    -- one that goes on stays on it
+    pub after-goes : effect .ended ≡ false
+        → record { store = q .store; upcoming = q .upcoming; failed = q .failed; depth = under + 1; stack = set (q .stack) under (record { job = x; local = effect .local }) }
+        ≡ afterIn p x under i effect
+    unfolding noted afterIn if_then_else_
+    after-goes e = rw (is, e) refl
+
+-- ---- the step
+
+module _ (program : List ℕ) (p : Snapshot) (f : Frame) (under i v : ℕ) where
+  -- a job past the end of its body takes no step
+  pub with-past : 16 ≤ f .local .next → record { allowed = false; state = p } ≡ stepWithIn program p f under i v
+  unfolding stepWithIn if_then_else_
+  with-past h = rw (le-ltb (f .local .next) 16 h) refl
+
+  module _ (inside : f .local .next < 16) {instruction : Instruction} (read : instruction ≡ instructionIn program i (f .local .next))
+      {b : Bool} (offer : b ≡ member v (values instruction)) where
+    offered : member v (values (instructionIn program i (f .local .next))) ≡ b
+    offered = ap (λ (n : Instruction). member v (values n)) (sym read) ∙ sym offer
+
+    -- nor does one with a value that is not on offer
+    pub with-none : not b ≡ true → record { allowed = false; state = p } ≡ stepWithIn program p f under i v
+    unfolding stepWithIn if_then_else_
+    with-none h = rw (lt-ltb (f .local .next) 16 inside, offered ∙ not-true b h) refl
+
+    pub with-made : not b ≡ false → {effect : Effect} → effect ≡ perform instruction v (f .local) (p .store) → {q : Snapshot}
+        → q ≡ afterIn p (f .job) under i effect → record { allowed = true; state = q } ≡ stepWithIn program p f under i v
+    unfolding stepWithIn if_then_else_
+    with-made h made left =
+        rw (lt-ltb (f .local .next) 16 inside, offered ∙ not-false b h)
+        (ap (λ (q : Snapshot). record { allowed = true; state = q })
+        (left ∙ ap (afterIn p (f .job) under i) (made ∙ ap (λ (n : Instruction). perform n v (f .local) (p .store)) read)))
+
+  after-deep : (x : Job) (effect : Effect) → under < 8 → afterIn p x under i effect .depth ≤ 8
+  unfolding afterIn if_then_else_
+  after-deep x effect lt = elim (decided (effect .ended)) [ inl e ↦ rw e (omega arith) | inr e ↦ rw e (omega arith) ]
+
+  -- no more than eight are active after it
+  pub with-deep : under < 8 → p .depth ≤ 8 → stepWithIn program p f under i v .state .depth ≤ 8
+  unfolding stepWithIn if_then_else_
+  with-deep lt le =
+      let instruction = instructionIn program i (f .local .next) in
+      elim (decided (ltb (f .local .next) 16 && member v (values instruction))) [
+        | inl e ↦ rw e (after-deep (f .job) (perform instruction v (f .local) (p .store)) lt)
+        | inr e ↦ rw e le
+      ]
+
+module _ (program times : List ℕ) (locks : Ceilings) (p : Snapshot) (byte : ℕ) {d : Due}
+    (is : d ≡ turnIn program times locks p (byte / 16)) where
+  step-of : dueStep program p (byte / 16) (byte % 16) d ≡ stepIn program times locks p byte
+  unfolding stepIn
+  step-of = ap (dueStep program p (byte / 16) (byte % 16)) is
+
+  -- where nobody is due, there is no step
+  pub step-none : not (d .due) ≡ true → record { allowed = false; state = p } ≡ stepIn program times locks p byte
+  unfolding dueStep if_then_else_
+  step-none h =
+      let stays : dueStep program p (byte / 16) (byte % 16) d ≡ record { allowed = false; state = p } = rw (not-true (d .due) h) refl in
+      sym stays ∙ step-of
+
+  -- else the job that is due steps
+  pub step-due : not (d .due) ≡ false → {r : Stepped} → r ≡ stepWithIn program p (d .frame) (d .under) (byte / 16) (byte % 16)
+      → r ≡ stepIn program times locks p byte
+  unfolding dueStep if_then_else_
+  step-due h made =
+      let goes : dueStep program p (byte / 16) (byte % 16) d ≡ stepWithIn program p (d .frame) (d .under) (byte / 16) (byte % 16) =
+      rw (not-false (d .due) h) refl in
+      made ∙ sym goes ∙ step-of
+
+  pub step-deep : p .depth ≤ 8 → not (d .due) ≡ false → {r : Stepped}
+      → r ≡ stepWithIn program p (d .frame) (d .under) (byte / 16) (byte % 16) → r .state .depth ≤ 8
+  step-deep le h made =
+      rw made (with-deep program p (d .frame) (d .under) (byte / 16) (byte % 16) (due-bounds program times locks p (byte / 16) is le (not-false (d .due) h) .0) le)
