@@ -1,4 +1,13 @@
+pub mod ByteLaws
+pub mod ClearLaws
+pub mod Demand2
 pub mod MoveLaws
 pub mod Moves
+pub mod NextLaws
+pub mod Paths
+pub mod TrialLaws
 pub mod WalkEntry
+pub mod WalkEntryLaws
+pub mod WalkLaws
+pub mod WalkParts
 pub mod Walks

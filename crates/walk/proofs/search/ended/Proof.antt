@@ -1,0 +1,21 @@
+-- `walk::search::ended` meets its contract: the two returns are the two cases of the definition.
+-- Assumes nothing.
+use borrow.Author.Needs.{needs}
+use Rattle.walk.specs.NextLaws.{ended-held, ended-failed}
+use Rattle.walk.proofs.search.ended.Statement.{statement}
+use Rattle.walk.proofs.search.ended.Tie as tie
+
+some-failed-requires : tie.Need-some-failed-requires
+some-failed-requires c κs = search needs
+
+held-requires : tie.Need-held-requires
+held-requires c κs = search needs
+
+returns : tie.Need-returns
+returns c = ended-held _ _ _ (c .before .before .some-failed .ensures) (c .before .if1 .taken) (c .held .ensures)
+
+returns-2 : tie.Need-returns-2
+returns-2 c = ended-failed _ _ _ (c .before .before .some-failed .ensures) (c .before .if1 .left)
+
+pub ended-spec : {M : Type 1} → statement M
+ended-spec = tie.close (tie.spec some-failed-requires held-requires returns returns-2)
