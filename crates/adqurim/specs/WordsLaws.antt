@@ -2,20 +2,24 @@
 -- Assumes nothing.
 use mathlib.Core.Path.{_≡_, sym, ap, _∙_}
 use Prim.Native.Nat.{ℕ, zero, suc, _+_, _≤_, _<_}
-use native.Mathlib.Nat.{zero-add}
+use native.Mathlib.Nat.{zero-add, add-zero}
+use native.Mathlib.Numerals.{add-one}
 use native.Mathlib.Omega.{arith}
+use mathlib.Core.Bool.{Bool, false}
 use mathlib.Core.List.{List, [], _∷_, _++_, map}
-use lib.ListN.{length, getD, drop, drop-of-length-le, length-append}
+use lib.ListN.{length, getD, set, take, drop, drop-of-length-le, length-append}
 use borrow.Author.Tests.{le-leb, lt-leb}
-use lib.Seq.{sets, sets-eq, drop-cons}
+use lib.Seq.{sets, sets-eq, length-sets, length-take-le, take-all, take-suc, drop-cons}
 use Rattle.taskfile.specs.Checked.{Checked, refused, passed}
 use Rattle.taskfile.specs.Lists.{if_then_else_, from}
 use Rattle.taskfile.specs.PaddedLaws.{padded-length}
+use Rattle.taskfile.specs.QuantifierLaws.{map-length, map-at}
 use Rattle.taskfile.specs.Records.{File}
 use Rattle.timing.specs.declared.ReadAnswer.{ReadAnswer}
 use Rattle.timing.specs.Accepted.{Accepted, accept}
 use Rattle.timing.specs.ReadEntries.{readAnswerOf, readAnswer}
-use Rattle.adqurim.specs.Words.{readWords, filledWith}
+use Rattle.machine.specs.declared.RunAnswer.{RunAnswer}
+use Rattle.adqurim.specs.Words.{flag, readWords, runWords, filledWith}
 
 -- a list is its elements, one by one
 listed : (l : List ℕ) (j n : ℕ) → length l ≡ j + n → drop j l ≡ map (λ k. getD l k 0) (from j n)
@@ -57,3 +61,67 @@ read-stored lent a f room same =
 
 pub read-no-room : (lent : List ℕ) (f : File) → length lent < 11 → lent ≡ filledWith (readWords (readAnswer f)) lent
 read-no-room lent f short = no-room (readWords (readAnswer f)) lent (omega (arith, eleven f))
+
+-- ---- words stored by loops
+
+-- stores of one list after those of another
+sets-append : (xs ys l : List ℕ) (i : ℕ) → sets l i (xs ++ ys) ≡ sets (sets l i xs) (i + length xs) ys
+sets-append [] ys l i = ap (λ (k : ℕ). sets l k ys) (sym (add-zero i))
+sets-append (x ∷ xs) ys l i = sets-append xs ys (set l i x) (suc i) ∙ ap (λ (k : ℕ). sets (sets (set l i x) (suc i) xs) k ys) (omega arith)
+
+-- what a loop has stored after k turns: the first k of the words, from `at` on
+pub record StoredTo (at : ℕ) (words lent stored : List ℕ) (k : ℕ) : Type 0 where
+  pub are : stored ≡ sets lent at (take k words)
+  pub some : k ≤ length words
+
+pub stored-length : {at : ℕ} {words lent stored : List ℕ} {k : ℕ} → StoredTo at words lent stored k → length stored ≡ length lent
+stored-length {at} {words} {lent} {stored} {k} h = ap length (h .are) ∙ length-sets lent at (take k words)
+
+pub stored-more : {at : ℕ} {words lent stored : List ℕ} {k w : ℕ} → StoredTo at words lent stored k → k < length words → w ≡ getD words k 0
+    → StoredTo at words lent (set stored (at + k) w) (k + 1)
+stored-more {at} {words} {lent} {stored} {k} {w} h lt is =
+    let put : ℕ → ℕ → List ℕ = λ j x. set (sets lent at (take k words)) (at + j) x in
+    record {
+      are =
+          ap (λ (l : List ℕ). set l (at + k) w) (h .are)
+          ∙ ap (put k) is
+          ∙ ap (λ (j : ℕ). put j (getD words k 0)) (sym (length-take-le k words (h .some)))
+          ∙ sym (sets-append (take k words) (getD words k 0 ∷ []) lent at)
+          ∙ ap (sets lent at) (sym (take-suc words k 0 lt))
+          ∙ ap (λ (j : ℕ). sets lent at (take j words)) (sym (add-one k));
+      some = omega arith;
+    }
+
+pub stored-all : {at : ℕ} {words lent stored : List ℕ} {k : ℕ} → StoredTo at words lent stored k → length words ≤ k → stored ≡ sets lent at words
+stored-all {at} {words} {lent} {stored} {k} h all = h .are ∙ ap (sets lent at) (take-all k words all)
+
+-- a failed job's flag among the words
+pub flag-at : (failed : List Bool) (k : ℕ) → k < length failed → flag (getD failed k false) ≡ getD (map flag failed) k 0
+flag-at failed k lt = sym (map-at flag failed k false 0 lt)
+
+-- ---- a run's words
+
+module _ (a : RunAnswer) (variables : length (a .store) ≡ 8) (jobs : length (a .failed) ≡ 32) where
+  run-length : length (runWords a) ≡ 43
+  unfolding runWords
+  run-length =
+      omega (arith, variables, jobs, map-length flag (a .failed), length-append (a .store ++ map flag (a .failed)) (a .length ∷ []), length-append (a .store) (map flag (a .failed)))
+
+  pub run-no-room : (lent : List ℕ) → length lent < 43 → lent ≡ filledWith (runWords a) lent
+  run-no-room lent short = no-room (runWords a) lent (omega (arith, run-length))
+
+  -- number and place, then the store, the flags and the length, each after the last
+  pub run-stored : (lent : List ℕ) {stored1 stored2 : List ℕ} → 43 ≤ length lent
+      → stored1 ≡ sets (set (set lent 0 (a .number)) 1 (a .place)) 2 (a .store) → stored2 ≡ sets stored1 10 (map flag (a .failed))
+      → set stored2 42 (a .length) ≡ filledWith (runWords a) lent
+  unfolding runWords
+  run-stored lent {stored1} {stored2} room first second =
+      let head : List ℕ = set (set lent 0 (a .number)) 1 (a .place) in
+      let flags : List ℕ = map flag (a .failed) in
+      ap (λ (l : List ℕ). set l 42 (a .length)) (second ∙ ap (λ (l : List ℕ). sets l 10 flags) first)
+      ∙ ap (λ (k : ℕ). set (sets (sets head 2 (a .store)) 10 flags) k (a .length))
+      (omega (arith, variables, map-length flag (a .failed), jobs, length-append (a .store) flags))
+      ∙ ap (λ (k : ℕ). sets (sets (sets head 2 (a .store)) k flags) (2 + length (a .store ++ flags)) (a .length ∷ [])) (omega (arith, variables))
+      ∙ ap (λ (l : List ℕ). sets l (2 + length (a .store ++ flags)) (a .length ∷ [])) (sym (sets-append (a .store) flags head 2))
+      ∙ sym (sets-append (a .store ++ flags) (a .length ∷ []) head 2)
+      ∙ stored (runWords a) lent (omega (arith, run-length))

@@ -1,12 +1,5 @@
-// Orders of steps: an active job, the state that a step goes from, the step, and the replay of an order. Document 01,
+// Orders of steps: an active job, the state that a step goes from, and what a step and a replay come to. Document 01,
 // "Orders of steps".
-
-pub mod entries;
-pub mod lending;
-pub mod lent;
-pub mod replay;
-pub mod starts;
-pub mod steps;
 
 use machine::Local;
 use timing::Job;

@@ -2,9 +2,9 @@
 use crate::Candidate;
 use order::Frame;
 use order::Snapshot;
-use order::lent::instruction_at;
-use order::steps::step_with;
-use order::steps::turn_of;
+use steps::lent::instruction_at;
+use steps::step::step_with;
+use steps::step::turn_of;
 use taskfile::Ceilings;
 ghost use mathlib.Core.Path.{_≡_};
 ghost use Prim.Native.Nat.{_≤_, _<_};

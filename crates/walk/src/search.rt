@@ -2,7 +2,7 @@
 use crate::Outcome;
 use crate::moves::next_move;
 use order::Snapshot;
-use order::replay::finished;
+use replay::bytes::finished;
 use taskfile::Ceilings;
 ghost use mathlib.Core.Path.{_≡_};
 ghost use Prim.Native.Nat.{_-_, _≤_, _<_};

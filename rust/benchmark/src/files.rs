@@ -1,42 +1,47 @@
-//! The files whose reading is timed.
+//! The files whose reading is timed, and the orders whose replay is.
 
-use conformance::cases::table_x;
+use crate::measure::Input;
+use conformance::cases::{accepted, full_table, table_x, ORDER_OF_X};
+use conformance::orders::random_order;
 use generator::hostile::{nearly_full, tasks_of, WIDEST};
-use generator::{code, InstructionDescription, Random, TableDescription, TaskDescription};
+use generator::{Random, TableDescription};
 
-/// A row of the benchmark: one file, or the slowest of several.
+/// A row of the benchmark: one input, or the slowest of several.
 pub struct Row {
     pub name: String,
-    pub files: Vec<Vec<u8>>,
+    pub inputs: Vec<Input>,
     pub hostile: bool,
 }
 
-/// All rows in the order of the table. Table X comes first.
-pub fn rows() -> Vec<Row> {
+/// A row of one input that is not hostile.
+fn plain(name: &str, input: Input) -> Row {
+    Row { name: name.into(), inputs: vec![input], hostile: false }
+}
+
+/// The reader's rows in the order of the table. Table X comes first.
+pub fn read_rows() -> Vec<Row> {
     let mut refused = full_table().write();
     refused.resize(256 * 16, 0);
-    let plain = |name: &str, file| Row { name: name.into(), files: vec![file], hostile: false };
+    let largest = "145 records: 8 tasks of 16 instructions, 8 locks, 32 jobs";
     let mut rows = vec![
-        plain("table X", table_x().write()),
-        plain("145 records: 8 tasks of 16 instructions, 8 locks, 32 jobs", full_table().write()),
-        plain("256 records: the same and 111 never reached", refused),
+        plain("table X", Input::Read(table_x().write())),
+        plain(largest, Input::Read(full_table().write())),
+        plain("256 records: the same and 111 never reached", Input::Read(refused)),
     ];
     rows.extend(heavy_tables().into_iter().map(heavy_row));
     rows.extend(random_rows());
     rows
 }
 
-/// The largest table: each body uses locks and skips, and each task has four jobs.
-fn full_table() -> TableDescription {
-    let mut body: Vec<InstructionDescription> = Vec::new();
-    for lock in 0..5 {
-        body.extend([code::acquire(lock), code::skip_if_equal(0, 1, 0), code::release(lock)]);
-    }
-    body.push(code::end());
-    let task = |number: u32| TaskDescription::new([1, 64 - number, number], &body);
-    let mut table = TableDescription::new(200, (0..8).map(task).collect());
-    table.ceilings = vec![7; 8];
-    table
+/// The replay's rows: the order of table X, and a complete order of the largest table.
+pub fn replay_rows() -> Vec<Row> {
+    let file = full_table().write();
+    let order = random_order(&mut Random::new(204), &accepted(&file));
+    assert_eq!(order.len(), 512, "the order performs every instruction");
+    vec![
+        plain("table X, 8 steps", Input::Replay(table_x().write(), ORDER_OF_X.to_vec())),
+        plain("145 records, 32 jobs of 16 instructions, 512 steps", Input::Replay(file, order)),
+    ]
 }
 
 /// Times C and P of hostile tables, lowest task first: utilisation at, just below and above 1 above
@@ -68,7 +73,7 @@ fn heavy_row(times: Vec<(u32, u32)>) -> Row {
     let words: Vec<String> = times.iter().map(|(c, p)| format!("{c}/{p}")).collect();
     Row {
         name: format!("C/P {}", words.join(", ")),
-        files: vec![tasks_of(&times).write()],
+        inputs: vec![Input::Read(tasks_of(&times).write())],
         hostile: true,
     }
 }
@@ -77,8 +82,8 @@ fn heavy_row(times: Vec<(u32, u32)>) -> Row {
 fn random_rows() -> Vec<Row> {
     let family = |name: &str, seed: u64, count: usize, make: fn(&mut Random) -> TableDescription| {
         let mut random = Random::new(seed);
-        let files = (0..count).map(|_| make(&mut random).write()).collect();
-        Row { name: format!("slowest of {count}: {name}"), files, hostile: true }
+        let inputs = (0..count).map(|_| Input::Read(make(&mut random).write())).collect();
+        Row { name: format!("slowest of {count}: {name}"), inputs, hostile: true }
     };
     vec![
         family("8 tasks, P 500 to 1000, utilisation just below 1", 200, 200, eight_tasks),

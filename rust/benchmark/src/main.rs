@@ -1,5 +1,5 @@
-//! Times the proved reader's entry and the interpreter on the same files, prints a table and writes
-//! it to `docs/BENCHMARKS.md`.
+//! Times the proved entries and the interpreter on the same inputs, prints a table for each entry
+//! and writes them to `docs/BENCHMARKS.md`.
 
 #![forbid(unsafe_code)]
 
@@ -7,41 +7,42 @@ mod files;
 mod measure;
 mod report;
 
-use conformance::proved::expected_read;
 use files::Row;
-use measure::{time_both, Reader};
+use measure::{time_both, Side};
 use report::Timing;
 use std::time::Duration;
 
-/// Where the table is kept.
+/// Where the tables are kept.
 const PAGE: &str = concat!(env!("CARGO_MANIFEST_DIR"), "/../../docs/BENCHMARKS.md");
 
-/// The times of a row's file, or of its slowest by the proved entry.
+/// The times of a row's input, or of its slowest by the proved entry.
 fn measure_row(row: Row) -> std::io::Result<Timing> {
-    let mut slowest = &row.files[0];
+    eprintln!("{}", row.name);
+    let mut slowest = &row.inputs[0];
     let mut most = Duration::ZERO;
-    for file in row.files.iter().filter(|_| row.files.len() > 1) {
-        let time = Reader::Proved.least(file)?;
+    for input in row.inputs.iter().filter(|_| row.inputs.len() > 1) {
+        let time = Side::Proved.least(input)?;
         if time > most {
-            (slowest, most) = (file, time);
+            (slowest, most) = (input, time);
         }
     }
     let [proved, interpreter] = time_both(slowest);
-    let number = expected_read(slowest).number;
+    let number = slowest.number();
     Ok(Timing { name: row.name, hostile: row.hostile, number, proved, interpreter })
 }
 
+fn measure_rows(rows: Vec<Row>) -> std::io::Result<Vec<Timing>> {
+    rows.into_iter().map(measure_row).collect()
+}
+
 fn main() -> std::io::Result<()> {
-    // A child is told which reader to run once.
-    if let Some(reader) = std::env::args().nth(1).and_then(|name| Reader::named(&name)) {
-        return reader.answer_parent();
+    // A child is told which side to run once.
+    if let Some(side) = std::env::args().nth(1).and_then(|name| Side::named(&name)) {
+        return side.answer_parent();
     }
     let load = report::load();
-    let mut timings = Vec::new();
-    for row in files::rows() {
-        eprintln!("{}", row.name);
-        timings.push(measure_row(row)?);
-    }
-    print!("{}", report::table(&timings));
-    std::fs::write(PAGE, report::page(&timings, &load))
+    let reads = measure_rows(files::read_rows())?;
+    let replays = measure_rows(files::replay_rows())?;
+    print!("{}\n{}", report::read_table(&reads), report::replay_table(&replays));
+    std::fs::write(PAGE, report::page(&reads, &replays, &load))
 }

@@ -1,7 +1,7 @@
-//! How long a reader takes on a file.
+//! How long the proved entries and the interpreter take on an input.
 
-use binding::ReadAnswer;
-use conformance::proved::expected_read;
+use binding::{ReadAnswer, RunAnswer};
+use conformance::proved::{expected_read, expected_replay};
 use std::hint::black_box;
 use std::io::{Read, Result, Write};
 use std::process::{Child, Command, Stdio};
@@ -11,7 +11,7 @@ use std::time::{Duration, Instant};
 pub const LIMIT: Duration = Duration::from_secs(20);
 /// A first run that takes longer than this is the only one.
 const ONLY_ONE: Duration = Duration::from_secs(2);
-/// The readers take turns, so that both meet the same load of the machine.
+/// The two sides take turns, so that both meet the same load of the machine.
 pub const TURNS: u32 = 5;
 /// How long a turn takes, unless one run is longer.
 const TURN: Duration = Duration::from_millis(60);
@@ -21,14 +21,81 @@ pub const MOST_SAMPLES: u128 = 401;
 const SHORT: Duration = Duration::from_micros(20);
 pub const AT_ONCE: u32 = 16;
 
-/// Which reader is timed.
+/// What an entry is called on.
+#[derive(Debug, Clone)]
+pub enum Input {
+    /// The reader's file.
+    Read(Vec<u8>),
+    /// The replay's file and order.
+    Replay(Vec<u8>, Vec<u8>),
+}
+
+/// What an entry answers. A box would add its allocation to the time.
+#[derive(Debug, PartialEq, Eq)]
+#[allow(clippy::large_enum_variant)]
+enum Answer {
+    Read(ReadAnswer),
+    Run(RunAnswer),
+}
+
+impl Input {
+    /// What the interpreter answers.
+    fn expected(&self) -> Answer {
+        match self {
+            Input::Read(file) => Answer::Read(expected_read(black_box(file))),
+            Input::Replay(file, order) => {
+                Answer::Run(expected_replay(black_box(file), black_box(order)))
+            }
+        }
+    }
+
+    /// What the proved entry answers.
+    fn proved(&self) -> Answer {
+        match self {
+            Input::Read(file) => Answer::Read(binding::read(black_box(file))),
+            Input::Replay(file, order) => {
+                Answer::Run(binding::replay(black_box(file), black_box(order)))
+            }
+        }
+    }
+
+    /// The number that the input earns: 0 if it is accepted.
+    pub fn number(&self) -> u64 {
+        match self.expected() {
+            Answer::Read(answer) => answer.number,
+            Answer::Run(answer) => answer.number,
+        }
+    }
+
+    /// The bytes for a child: the file's length if an order follows it, else 0, then the file and the
+    /// order.
+    fn to_bytes(&self) -> Vec<u8> {
+        match self {
+            Input::Read(file) => [&[0; 8], &file[..]].concat(),
+            Input::Replay(file, order) => {
+                [&(file.len() as u64).to_le_bytes(), &file[..], order].concat()
+            }
+        }
+    }
+
+    /// The input of these bytes.
+    fn from_bytes(bytes: &[u8]) -> Input {
+        let (length, bytes) = bytes.split_first_chunk().expect("the parent writes a length");
+        match u64::from_le_bytes(*length) as usize {
+            0 => Input::Read(bytes.to_vec()),
+            length => Input::Replay(bytes[..length].to_vec(), bytes[length..].to_vec()),
+        }
+    }
+}
+
+/// Which side is timed.
 #[derive(Debug, Clone, Copy, PartialEq, Eq)]
-pub enum Reader {
+pub enum Side {
     Proved,
     Interpreter,
 }
 
-const READERS: [Reader; 2] = [Reader::Proved, Reader::Interpreter];
+const SIDES: [Side; 2] = [Side::Proved, Side::Interpreter];
 
 /// How long it took.
 #[derive(Debug, Clone, Copy, PartialEq)]
@@ -51,36 +118,36 @@ impl Time {
     }
 }
 
-impl Reader {
-    /// The argument that names a reader to the child.
+impl Side {
+    /// The argument that names a side to the child.
     fn argument(self) -> &'static str {
         match self {
-            Reader::Proved => "proved",
-            Reader::Interpreter => "interpreter",
+            Side::Proved => "proved",
+            Side::Interpreter => "interpreter",
         }
     }
 
-    /// The reader with this argument.
-    pub fn named(argument: &str) -> Option<Reader> {
-        READERS.into_iter().find(|reader| reader.argument() == argument)
+    /// The side with this argument.
+    pub fn named(argument: &str) -> Option<Side> {
+        SIDES.into_iter().find(|side| side.argument() == argument)
     }
 
-    /// Reads a file.
-    fn run(self, file: &[u8]) -> ReadAnswer {
+    /// Calls the entry on its input.
+    fn run(self, input: &Input) -> Answer {
         match self {
-            Reader::Proved => binding::read(black_box(file)),
-            Reader::Interpreter => expected_read(black_box(file)),
+            Side::Proved => input.proved(),
+            Side::Interpreter => input.expected(),
         }
     }
 
     /// The time of the first run, in a child that is stopped at the limit.
-    fn first_run(self, file: &[u8]) -> Result<Option<Duration>> {
+    fn first_run(self, input: &Input) -> Result<Option<Duration>> {
         let mut child = Command::new(std::env::current_exe()?)
             .arg(self.argument())
             .stdin(Stdio::piped())
             .stdout(Stdio::piped())
             .spawn()?;
-        child.stdin.take().expect("the input is piped").write_all(file)?;
+        child.stdin.take().expect("the input is piped").write_all(&input.to_bytes())?;
         if !ends_in_time(&mut child)? {
             child.kill()?;
             child.wait()?;
@@ -92,39 +159,40 @@ impl Reader {
         Ok(Some(Duration::from_nanos(nanoseconds)))
     }
 
-    /// What the child does: one run on the file from standard input. Both readers must agree on it.
+    /// What the child does: one run on the input from its parent. Both sides must agree on it.
     pub fn answer_parent(self) -> Result<()> {
-        let mut file = Vec::new();
-        std::io::stdin().read_to_end(&mut file)?;
+        let mut bytes = Vec::new();
+        std::io::stdin().read_to_end(&mut bytes)?;
+        let input = Input::from_bytes(&bytes);
         let begin = Instant::now();
-        let answer = self.run(&file);
+        let answer = self.run(&input);
         let taken = begin.elapsed();
-        assert_eq!(answer, expected_read(&file));
+        assert_eq!(answer, input.expected());
         println!("{}", taken.as_nanos());
         Ok(())
     }
 
-    /// The least of some runs, which finds the slowest of several files: another program may make
+    /// The least of some runs, which finds the slowest of several inputs: another program may make
     /// any one run long. The limit if the first was stopped.
-    pub fn least(self, file: &[u8]) -> Result<Duration> {
-        let first = self.first_run(file)?.unwrap_or(LIMIT);
+    pub fn least(self, input: &Input) -> Result<Duration> {
+        let first = self.first_run(input)?.unwrap_or(LIMIT);
         let more = if first > ONLY_ONE { 0 } else { 7 };
         let again = |_| {
             let begin = Instant::now();
-            black_box(self.run(file));
+            black_box(self.run(input));
             begin.elapsed()
         };
         Ok((0..more).map(again).fold(first, Duration::min))
     }
 
     /// Nanoseconds of one run, as often as a turn has time for.
-    fn samples(self, file: &[u8], first: Duration) -> Vec<f64> {
+    fn samples(self, input: &Input, first: Duration) -> Vec<f64> {
         let at_once = if first < SHORT { AT_ONCE } else { 1 };
         let one = (first * at_once).as_nanos().max(1);
         let sample = |_| {
             let begin = Instant::now();
             for _ in 0..at_once {
-                black_box(self.run(file));
+                black_box(self.run(input));
             }
             begin.elapsed().as_nanos() as f64 / f64::from(at_once)
         };
@@ -132,15 +200,15 @@ impl Reader {
     }
 }
 
-/// The times of both readers, the proved one first: a first run of each in a child, then samples in
+/// The times of both sides, the proved one first: a first run of each in a child, then samples in
 /// turn of those that were not long.
-pub fn time_both(file: &[u8]) -> [Time; 2] {
-    let firsts = READERS.map(|reader| reader.first_run(file).expect("a child runs"));
+pub fn time_both(input: &Input) -> [Time; 2] {
+    let firsts = SIDES.map(|side| side.first_run(input).expect("a child runs"));
     let mut samples = [Vec::new(), Vec::new()];
     for _ in 0..TURNS {
-        for (at, reader) in READERS.into_iter().enumerate() {
+        for (at, side) in SIDES.into_iter().enumerate() {
             if let Some(first) = firsts[at].filter(|first| *first <= ONLY_ONE) {
-                samples[at].extend(reader.samples(file, first));
+                samples[at].extend(side.samples(input, first));
             }
         }
     }
@@ -163,7 +231,7 @@ fn ends_in_time(child: &mut Child) -> Result<bool> {
     let begin = Instant::now();
     while begin.elapsed() < LIMIT {
         if let Some(status) = child.try_wait()? {
-            assert!(status.success(), "the readers disagree on a file");
+            assert!(status.success(), "the two sides disagree on an input");
             return Ok(true);
         }
         std::thread::sleep(Duration::from_millis(1));

@@ -1,4 +1,4 @@
-//! The benchmark's table as text.
+//! The benchmark's tables as text.
 
 use crate::measure::{Time, AT_ONCE, LIMIT, MOST_SAMPLES, TURNS};
 use std::process::Command;
@@ -7,7 +7,7 @@ use std::process::Command;
 pub struct Timing {
     pub name: String,
     pub hostile: bool,
-    /// What the file earns: 0 if it is accepted.
+    /// What the input earns: 0 if it is accepted.
     pub number: u64,
     pub proved: Time,
     pub interpreter: Time,
@@ -47,16 +47,25 @@ fn ratio(time: Time, by: Time) -> String {
     }
 }
 
-/// The table, and below it the slowest hostile file against the first row.
-pub fn table(timings: &[Timing]) -> String {
-    let mut text = String::from("| file | number | proved entry, ns | interpreter, ns | ratio |\n");
+/// The reader's table, and below it the slowest hostile file against the first row.
+pub fn read_table(timings: &[Timing]) -> String {
+    format!("{}\n{}\n", table("file", timings), slowest(timings))
+}
+
+/// The replay's table.
+pub fn replay_table(timings: &[Timing]) -> String {
+    table("file and order", timings)
+}
+
+/// A table whose inputs have this name.
+fn table(input: &str, timings: &[Timing]) -> String {
+    let mut text = format!("| {input} | number | proved entry, ns | interpreter, ns | ratio |\n");
     text.push_str("|---|---:|---:|---:|---:|\n");
     for Timing { name, number, proved, interpreter, .. } in timings {
         let (time, other) = (shown(*proved), shown(*interpreter));
         let ratio = ratio(*proved, *interpreter);
         text.push_str(&format!("| {name} | {number} | {time} | {other} | {ratio} |\n"));
     }
-    text.push_str(&format!("\n{}\n", slowest(timings)));
     text
 }
 
@@ -77,31 +86,41 @@ fn slowest(timings: &[Timing]) -> String {
 }
 
 /// The whole page; `load` is the load average before the first run.
-pub fn page(timings: &[Timing], load: &str) -> String {
+pub fn page(reads: &[Timing], replays: &[Timing], load: &str) -> String {
     let cores = std::thread::available_parallelism().map_or(0, usize::from);
     let (model, date, architecture) = (model(), date(), std::env::consts::ARCH);
-    let (limit, table) = (LIMIT.as_secs(), table(timings));
+    let limit = LIMIT.as_secs();
+    let (read_table, replay_table) = (read_table(reads), replay_table(replays));
     let most = u128::from(TURNS) * MOST_SAMPLES;
     format!(
         "# Benchmarks
 
-The time of the proved reader's entry, called through its C interface, and of the interpreter on the
-same file. The number is what the file earns, 0 if it is accepted. The ratio is the proved entry's
-time by the interpreter's. The lowest task stands first in a list of C/P. Of several random tables
-the one that is slowest by the proved entry is shown; the interpreter may be slower on another. The
-hostile files are chosen by hand or at random; none is known to be the slowest that there is.
+The time of a proved entry, called through its C interface, and of the interpreter on the same
+input. The number is what the input earns, 0 if it is accepted. The ratio is the proved entry's time
+by the interpreter's.
 
 - Machine: {cores} cores, {architecture}, {model}
 - Load: {load} on average in the minute before. Beside other programs, times differ by a factor of
   two or more from one run of the benchmark to the next.
 - Date: {date}
 - Command: `cargo run --release --offline -p benchmark` in `rust/`
-- Measured: the median of {TURNS} to {most} samples, fewer for slower files, both readers in turn,
+- Measured: the median of {TURNS} to {most} samples, fewer for slower inputs, both sides in turn,
   buffers warm, built for release (the workspace's release build keeps the interpreter's overflow
   checks). A sample is one call, or the mean of {AT_ONCE} short ones. A first run in a child process
   comes before; if it takes over 2 s it is the only run, and at {limit} s it is stopped.
 
-{table}"
+## Reading a file
+
+The lowest task stands first in a list of C/P. Of several random tables the one that is slowest by
+the proved entry is shown; the interpreter may be slower on another. The hostile files are chosen by
+hand or at random; none is known to be the slowest that there is.
+
+{read_table}
+## Replaying an order
+
+The file is read first, by either side. The order of 512 steps is a complete one by random moves.
+
+{replay_table}"
     )
 }
 

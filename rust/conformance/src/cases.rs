@@ -1,4 +1,4 @@
-//! Tables and bytes that document 01 gives.
+//! Tables and bytes that document 01 gives, and the largest table.
 
 use generator::{code, InstructionDescription, TableDescription, TaskDescription};
 use interpreter::timing::{accept, Accepted};
@@ -42,6 +42,20 @@ pub fn tasks(window: u32, times: &[[u32; 3]], body: &[InstructionDescription]) -
 pub fn rates(times: &[(u32, u32)]) -> TableDescription {
     let times: Vec<[u32; 3]> = times.iter().map(|(c, p)| [*c, *p, 0]).collect();
     tasks(1, &times, &[code::end()])
+}
+
+/// The largest table: each body uses locks and skips, and each task has four jobs. Every complete
+/// order of it has 512 steps.
+pub fn full_table() -> TableDescription {
+    let mut body: Vec<InstructionDescription> = Vec::new();
+    for lock in 0..5 {
+        body.extend([code::acquire(lock), code::skip_if_equal(0, 1, 0), code::release(lock)]);
+    }
+    body.push(code::end());
+    let task = |number: u32| TaskDescription::new([1, 64 - number, number], &body);
+    let mut table = TableDescription::new(200, (0..8).map(task).collect());
+    table.ceilings = vec![7; 8];
+    table
 }
 
 /// A file with some of its bytes replaced.

@@ -1,8 +1,9 @@
 //! What the tests share: the paper's table X, buffers with a pattern, calls of every entry,
-//! listings of all orders and all plans that use neither the walk nor the conversions, and what the
-//! proved entries must answer.
+//! listings of all orders and all plans that use neither the walk nor the conversions, random
+//! complete orders, and what the proved entries must answer.
 
 pub mod cases;
 pub mod entries;
 pub mod listing;
+pub mod orders;
 pub mod proved;

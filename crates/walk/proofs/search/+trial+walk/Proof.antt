@@ -11,7 +11,7 @@ use Rattle.walk.proofs.search.+trial+walk.Lts-trial as trial-lts
 use Rattle.walk.proofs.search.walk.Reads as walk
 use Rattle.walk.proofs.search.walk.Kinds as walk-kinds
 use Rattle.walk.proofs.search.+trial+walk.Lts-walk as walk-lts
-use Rattle.order.proofs.replay.finished.Reads as finished-reads
+use Rattle.replay.proofs.bytes.finished.Reads as finished-reads
 use Rattle.walk.proofs.moves.next_move.Reads as next-move-reads
 use Rattle.walk.proofs.search.ended.Reads as ended-reads
 use Rattle.walk.proofs.search.held.Reads as held-reads

@@ -1,0 +1,18 @@
+-- `replay::bytes::finished` meets its contract: the two returns are the two cases of the test.
+-- Assumes nothing.
+use borrow.Author.Needs.{needs}
+use Rattle.order.specs.ReplayLoopLaws.{finished-deep, finished-flat}
+use Rattle.replay.proofs.bytes.finished.Statement.{statement}
+use Rattle.replay.proofs.bytes.finished.Tie as tie
+
+returns : tie.Need-returns
+returns c = finished-deep _ _ (c .if1 .taken)
+
+some-upcoming-requires : tie.Need-some-upcoming-requires
+some-upcoming-requires c κs = search needs
+
+returns-2 : tie.Need-returns-2
+returns-2 c = finished-flat _ _ (c .before .before .if1 .left) (c .some-upcoming .ensures)
+
+pub finished-spec : {M : Type 1} → statement M
+finished-spec = tie.close (tie.spec returns some-upcoming-requires returns-2)

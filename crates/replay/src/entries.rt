@@ -1,0 +1,55 @@
+// The replay's entry.
+use order::Replayed;
+use crate::lending::program_of;
+use crate::lending::times_of;
+use crate::bytes::first_snapshot;
+use crate::bytes::replay_from;
+use machine::RunAnswer;
+use machine::answers::ended_run;
+use machine::answers::refused_run;
+use taskfile::Ceilings;
+use taskfile::Check;
+use taskfile::Table;
+use timing::JobList;
+use timing::entries::accept_file;
+ghost use mathlib.Core.Path.{_≡_};
+ghost use Prim.Native.Nat.{_≤_};
+ghost use Rattle.taskfile.specs.JudgingParts.{Shaped};
+ghost use Rattle.order.specs.Replay.{replayAnswer};
+ghost use Rattle.order.specs.ReplayEntryLaws.{ReplayOf};
+
+// The replay of an order of a table's jobs.
+pub fn replay_table(t: Table, list: JobList, order: &[u8]) -> Replayed
+    requires { ⌜ Shaped t × (list .count ≤ 32) ⌝ }
+    ensures { λ r. ⌜ ReplayOf t list (now (order .entry)) r ⌝ }
+{
+    let program = program_of(t, list);
+    let times = times_of(list);
+    let ceilings = t.ceilings;
+    let locks = Ceilings {
+        count: t.locks,
+        ceilings: ceilings,
+    };
+    let store = t.store;
+    let start = first_snapshot(&program, store);
+    replay_from(&program, &times, locks, start, order)
+}
+
+// The replay's entry: the file's numbers, then 32, 30 and 31, or the end store and the failed jobs.
+pub fn replay(file: &[u8], order: &[u8]) -> RunAnswer
+    ensures { λ x. ⌜ x ≡ replayAnswer (now (file .entry)) (now (order .entry)) ⌝ }
+{
+    let accepted = accept_file(file);
+    let check = accepted.check;
+    if let Check::Refused(number, place) = check {
+        return refused_run(number, place as u32);
+    }
+    let r = replay_table(accepted.table, accepted.list, order);
+    if r.number != 0 {
+        return refused_run(r.number, r.place as u32);
+    }
+    let end = r.state;
+    let store = end.store;
+    let failed = end.failed;
+    ended_run(store, failed)
+}

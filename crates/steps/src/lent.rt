@@ -1,0 +1,64 @@
+// What the steps of an order read of an accepted table, in lent arrays of numbers.
+use machine::Local;
+use taskfile::Instruction;
+ghost use mathlib.Core.Path.{_≡_};
+ghost use Prim.Native.Nat.{_<_};
+ghost use Rattle.order.specs.SnapshotSteps.{instructionIn, beforeIn, preemptsIn, ownedBy};
+
+// The instruction at a position of a task's body.
+pub fn instruction_at(program: &[u8; 544], i: u8, p: u16) -> Instruction
+    requires { ⌜ (i < 8) × (p < 16) ⌝ }
+    ensures { λ r. ⌜ r ≡ instructionIn (now (program .entry)) i p ⌝ }
+{
+    let at = 64 * (i as usize) + 4 * (p as usize);
+    Instruction {
+        operation: program[at],
+        a: program[at + 1],
+        b: program[at + 2],
+        c: program[at + 3],
+    }
+}
+
+// Is job x one of task k?
+pub fn owned_by(program: &[u8; 544], k: u8, x: u8) -> bool
+    ensures { λ b. ⌜ b ≡ ownedBy (now (program .entry)) k x ⌝ }
+{
+    if 32 <= x {
+        return false;
+    }
+    program[512 + (x as usize)] == k
+}
+
+// Does job x come before job y, another job?
+pub fn comes_before(program: &[u8; 544], times: &[u64; 64], x: u8, y: u8) -> bool
+    requires { ⌜ (x < 32) × (y < 32) ⌝ }
+    ensures { λ b. ⌜ b ≡ beforeIn (now (program .entry)) (now (times .entry)) x y ⌝ }
+{
+    let first = x as usize;
+    let second = y as usize;
+    let arrival = times[second];
+    if times[32 + first] <= arrival {
+        return true;
+    }
+    if arrival < times[first] {
+        return false;
+    }
+    program[512 + second] <= program[512 + first]
+}
+
+// May job y preempt job x?
+pub fn may_preempt(program: &[u8; 544], times: &[u64; 64], y: u8, x: u8) -> bool
+    requires { ⌜ (x < 32) × (y < 32) ⌝ }
+    ensures { λ b. ⌜ b ≡ preemptsIn (now (program .entry)) (now (times .entry)) y x ⌝ }
+{
+    let lower = x as usize;
+    let upper = y as usize;
+    if program[512 + upper] <= program[512 + lower] {
+        return false;
+    }
+    let arrival = times[upper];
+    if arrival <= times[lower] {
+        return false;
+    }
+    arrival < times[32 + lower]
+}

@@ -1,0 +1,274 @@
+//! The proved replay, called through its C interface, against the interpreter: every field of the
+//! answer on many files and orders, and the lent words.
+
+use binding::{replay, replay_words, RunAnswer, REPLAY_WORDS};
+use conformance::cases::{edited, full_table, rates, table_x, tasks, ORDER_OF_X};
+use conformance::orders::random_order;
+use conformance::proved::expected_replay;
+use generator::files::{damaged, random_bytes, random_records};
+use generator::{code, random_nest, random_race, random_table, Random, Sizes, TableDescription};
+use interpreter::timing::accept;
+use std::time::Instant;
+
+/// A family of tables: its seed, how many there are, and how one is made.
+struct Family {
+    name: &'static str,
+    seed: u64,
+    tables: usize,
+    make: fn(&mut Random) -> TableDescription,
+}
+
+/// The seeds differ, so that no family repeats the tables of another.
+const FAMILIES: [Family; 7] = [
+    Family { name: "small tables", seed: 300, tables: 2_000, make: small },
+    Family { name: "long bodies", seed: 301, tables: 2_000, make: long },
+    Family { name: "races", seed: 302, tables: 2_000, make: random_race },
+    Family { name: "nests", seed: 303, tables: 2_000, make: random_nest },
+    Family { name: "tables of any size", seed: 304, tables: 3_000, make: any },
+    Family { name: "many jobs", seed: 305, tables: 3_000, make: crowded },
+    Family { name: "the largest table", seed: 306, tables: 100, make: largest },
+];
+
+fn small(random: &mut Random) -> TableDescription {
+    random_table(random, &Sizes::SMALL)
+}
+
+fn long(random: &mut Random) -> TableDescription {
+    random_table(random, &Sizes::LONG)
+}
+
+fn any(random: &mut Random) -> TableDescription {
+    random_table(random, &Sizes::ANY)
+}
+
+/// Several tasks with many jobs in the window, and locks.
+fn crowded(random: &mut Random) -> TableDescription {
+    let sizes = Sizes { tasks: (3, 8), jobs: (12, 32), locks: (1, 8), ..Sizes::ANY };
+    random_table(random, &sizes)
+}
+
+/// The largest table with another initial store and with assertions that fail or hold.
+fn largest(random: &mut Random) -> TableDescription {
+    let mut table = full_table();
+    table.initial_store = std::array::from_fn(|_| random.byte());
+    for task in &mut table.tasks {
+        let place = 1 + 3 * random.index(5);
+        let store = code::store(random.index(8) as u8, 0);
+        let others = [code::assert(0), code::pick(0, 3), code::load(0, 1), store];
+        task.body[place] = others[random.index(4)];
+    }
+    table
+}
+
+/// What the orders came to.
+#[derive(Debug)]
+struct Tally {
+    /// How often each number came up; index 0 counts acceptances.
+    counts: [u64; 33],
+    /// Accepted orders with a failed job, and with one above job 7.
+    failing: u64,
+    failing_late: u64,
+    longest: usize,
+}
+
+impl Tally {
+    fn new() -> Tally {
+        Tally { counts: [0; 33], failing: 0, failing_late: 0, longest: 0 }
+    }
+
+    fn orders(&self) -> u64 {
+        self.counts.iter().sum()
+    }
+
+    /// Asserts that both replays give one answer, and counts it.
+    fn compare(&mut self, name: &str, file: &[u8], order: &[u8]) -> RunAnswer {
+        let expected = expected_replay(file, order);
+        assert_eq!(replay(file, order), expected, "{name}: {file:02x?} {order:?}");
+        self.counts[expected.number as usize] += 1;
+        self.failing += u64::from(expected.failed_jobs.contains(&1));
+        self.failing_late += u64::from(expected.failed_jobs[8..].contains(&1));
+        if expected.number == 0 {
+            self.longest = self.longest.max(order.len());
+        }
+        expected
+    }
+}
+
+/// An order byte of one of the tasks, or any byte.
+fn random_byte(random: &mut Random, tasks: usize) -> u8 {
+    let value = if random.chance(2, 3) { 0 } else { random.between(0, 15) as u8 };
+    if random.chance(1, 8) { random.byte() } else { 16 * random.index(tasks) as u8 + value }
+}
+
+fn random_steps(random: &mut Random, tasks: usize, most: u64) -> Vec<u8> {
+    (0..random.between(0, most)).map(|_| random_byte(random, tasks)).collect()
+}
+
+/// The order cut short, extended, with a byte changed, with a byte removed, and random bytes, of
+/// which some begin as the order does.
+fn variants(random: &mut Random, order: &[u8], tasks: usize) -> Vec<Vec<u8>> {
+    let mut changed = order.to_vec();
+    let mut shorter = order.to_vec();
+    if !order.is_empty() {
+        let byte = random_byte(random, tasks);
+        changed[random.index(order.len())] = byte;
+        shorter.remove(random.index(order.len()));
+    }
+    let extra = [&[random_byte(random, tasks)], &random_steps(random, tasks, 3)[..]].concat();
+    let begin = &order[..random.index(order.len() + 1)];
+    vec![
+        order[..random.index(order.len().max(1))].to_vec(),
+        [order, &extra].concat(),
+        changed,
+        shorter,
+        random_steps(random, tasks, 20),
+        [begin, &random_steps(random, tasks, 5)].concat(),
+    ]
+}
+
+/// Compares two complete orders of each table of a family, and their variants. A table that is
+/// refused gets random bytes.
+fn compare_family(tally: &mut Tally, family: &Family) {
+    let mut random = Random::new(family.seed);
+    for _ in 0..family.tables {
+        let table = (family.make)(&mut random);
+        let count = table.tasks.len();
+        let file = table.write_shuffled(&mut random).0;
+        let Ok(accepted) = accept(&file) else {
+            let steps = random_steps(&mut random, count, 20);
+            tally.compare(family.name, &file, &steps);
+            continue;
+        };
+        for _ in 0..2 {
+            let order = random_order(&mut random, &accepted);
+            assert_eq!(tally.compare(family.name, &file, &order).number, 0);
+            for variant in variants(&mut random, &order, count) {
+                tally.compare(family.name, &file, &variant);
+            }
+        }
+    }
+}
+
+/// A file that is mostly refused: a damaged table, one that breaks a rule, or no table at all.
+fn refused_file(random: &mut Random, round: usize) -> Vec<u8> {
+    let mut table = random_table(random, &Sizes::SMALL);
+    let file = table.write();
+    match round % 8 {
+        0..=2 => return damaged(random, &file),
+        3 => return random_bytes(random),
+        4 => return random_records(random),
+        5 => return file[..16 * random.index(file.len() / 16)].to_vec(),
+        _ => {}
+    }
+    let task = &mut table.tasks[0];
+    match random.index(8) {
+        0 => task.body.resize(17, code::end()),
+        1 => task.body.push(code::set(0, 0)),
+        2 => task.body[0] = code::skip_if_less(0, 1, 15),
+        3 => task.period = 1,
+        4 => task.body[0] = code::acquire(9),
+        5 => return [&file[..], &[0; 16]].concat(),
+        6 => return rates(&[(3, 8), (3, 4)]).write(),
+        _ => return tasks(33, &[[1, 1, 0]], &[code::end()]).write(),
+    }
+    table.write()
+}
+
+/// Files that are mostly refused, with random bytes as an order.
+fn compare_refused(tally: &mut Tally) {
+    let mut random = Random::new(307);
+    for round in 0..6_000 {
+        let file = refused_file(&mut random, round);
+        let steps = random_steps(&mut random, 3, 20);
+        tally.compare("refused files", &file, &steps);
+    }
+}
+
+/// Table X's order with each of its bytes changed to each value, and each beginning of it. P8 and
+/// P9 of document 01 are among them, with the answers that it gives.
+fn compare_x(tally: &mut Tally) {
+    let file = table_x().write();
+    for at in 0..ORDER_OF_X.len() {
+        tally.compare("table X", &file, &ORDER_OF_X[..at]);
+        for byte in 0..=255 {
+            tally.compare("table X", &file, &edited(&ORDER_OF_X, &[(at, byte)]));
+        }
+    }
+    let mut ends = RunAnswer::default();
+    (ends.end_store[0], ends.failed_jobs[0]) = (1, 1);
+    assert_eq!(tally.compare("P8", &file, &ORDER_OF_X), ends);
+    let refused = RunAnswer { number: 30, place: 3, ..RunAnswer::default() };
+    assert_eq!(tally.compare("P9", &file, &[0, 16, 16, 0]), refused);
+}
+
+#[test]
+fn every_field_of_the_answer() {
+    let mut tally = Tally::new();
+    compare_x(&mut tally);
+    compare_refused(&mut tally);
+    for family in FAMILIES {
+        let (begin, before) = (Instant::now(), tally.orders());
+        compare_family(&mut tally, &family);
+        println!("{}: {} orders, {:?}", family.name, tally.orders() - before, begin.elapsed());
+    }
+    println!("{} orders: {tally:?}", tally.orders());
+    assert!(tally.orders() >= 50_000);
+    assert!([0, 30, 31, 32].iter().all(|number| tally.counts[*number] >= 1_000));
+    assert!((1..=11).all(|number| tally.counts[number] >= 10));
+    assert!(tally.failing >= 1_000 && tally.failing_late >= 1_000 && tally.longest == 512);
+}
+
+/// Words that no answer holds.
+fn word_pattern(length: usize) -> Vec<u64> {
+    (0..length as u64).map(|at| u64::MAX - 3 * at).collect()
+}
+
+/// Lends some words of a larger list, and a file and an order amid other bytes. Only the 43 words
+/// change, and none without room.
+fn compare_lent(random: &mut Random, file: &[u8], order: &[u8], length: usize) {
+    let (before, after) = (random.index(40), random.index(40));
+    let mut bytes: Vec<u8> = (0..before).map(|_| random.byte()).collect();
+    bytes.extend([file, order].concat());
+    bytes.extend((0..after).map(|_| random.byte()));
+    let unchanged = bytes.clone();
+    let (lent_file, rest) = bytes[before..].split_at(file.len());
+    let mut words = word_pattern(length + 16);
+    let mut expected = words.clone();
+    let room = length >= REPLAY_WORDS;
+    if room {
+        let answer: [u64; REPLAY_WORDS] = expected_replay(file, order).into();
+        expected[8..8 + REPLAY_WORDS].copy_from_slice(&answer);
+    }
+    let lent = &mut words[8..8 + length];
+    assert_eq!(replay_words(lent_file, &rest[..order.len()], lent), room);
+    assert_eq!(words, expected, "{length} words: {file:02x?} {order:?}");
+    assert_eq!(bytes, unchanged);
+}
+
+#[test]
+fn lent_words() {
+    let mut random = Random::new(308);
+    let mut counts = [0_u64; 33];
+    for round in 0..1_000 {
+        let table = if round % 2 == 0 { long(&mut random) } else { random_race(&mut random) };
+        let mut file = table.write();
+        let mut orders = vec![random_steps(&mut random, 3, 20)];
+        match accept(&file) {
+            Ok(accepted) => {
+                let order = random_order(&mut random, &accepted);
+                orders.extend(variants(&mut random, &order, table.tasks.len()));
+                orders.push(order);
+            }
+            Err(_) => file = refused_file(&mut random, round),
+        }
+        for order in orders {
+            counts[expected_replay(&file, &order).number as usize] += 1;
+            for length in [0, 1, 11, 42, 43, 44, 80] {
+                compare_lent(&mut random, &file, &order, length);
+            }
+        }
+    }
+    println!("{counts:?}");
+    assert!([0, 30, 31, 32].iter().all(|number| counts[*number] >= 100));
+    assert!(counts[1..=11].iter().sum::<u64>() >= 100);
+}
