@@ -1,5 +1,5 @@
 /*
- * Adqurim's C interface: the reader of task files, and the replay of an order.
+ * Adqurim's C interface: the reader of task files, the replay of an order, the walk of all orders.
  *
  * A slice passes as a pointer and then a length: bytes for a file or an order, words of 64 bits for
  * an answer.
@@ -56,6 +56,42 @@ bool adqurim_read(const uint8_t *file, size_t file_len, uint64_t *answer, size_t
  */
 bool adqurim_replay(const uint8_t *file, size_t file_len, const uint8_t *order, size_t order_len,
                     uint64_t *answer, size_t answer_len);
+
+/* How many words adqurim_walk fills. */
+#define ADQURIM_WALK_WORDS 45
+
+/*
+ * Walks the orders of a task file's jobs up to the first that fails, with at most `allowance` moves,
+ * and fills the first 45 words of the answer:
+ *
+ *   word 0           the number: 0 if the walk has a verdict, else the number of the refusal, 1 to 11
+ *                    for the file, 20 if the order buffer is below 512 bytes, 21 if the count exceeds
+ *                    the allowance
+ *   word 1           the place of the refusal, a record's index for the file; else 0
+ *   words 2 to 9     the failing order's end store, variables 0 to 7
+ *   words 10 to 41   for each of jobs 0 to 31 a 1 if an assertion of the job failed in that order,
+ *                    else 0
+ *   word 42          the failing order's length in bytes, at most 512
+ *   word 43          the verdict: 0 none, 1 holds (no order fails), 2 fails
+ *   word 44          the count: the moves made up to the end of the failing order, or all moves
+ *
+ * A walk that holds has every word but 43 and 44 zero, a refusal every word but 0 and 1. Words past
+ * the 45th never change.
+ *
+ * The order buffer then holds
+ *
+ *   if the walk fails            the failing order, and zeros up to byte 512
+ *   if it holds, and for 21      zeros in its first 512 bytes
+ *   for 1 to 11 and for 20       what it held before
+ *
+ * Bytes beyond the first 512 never change.
+ *
+ * Returns whether the answer has room for the 45 words. Without room nothing changes, the order
+ * buffer neither, and the answer is false. The file is only read; file, order and answer do not
+ * overlap.
+ */
+bool adqurim_walk(const uint8_t *file, size_t file_len, uint64_t allowance, uint8_t *order,
+                  size_t order_len, uint64_t *answer, size_t answer_len);
 
 #ifdef __cplusplus
 }

@@ -1,2 +1,3 @@
+pub mod SizeLaws
 pub mod Words
 pub mod WordsLaws

@@ -7,6 +7,7 @@ use native.Mathlib.Numerals.{add-one}
 use native.Mathlib.Omega.{arith}
 use mathlib.Core.Bool.{Bool, false}
 use mathlib.Core.List.{List, [], _∷_, _++_, map}
+use lib.Dec.{leb}
 use lib.ListN.{length, getD, set, take, drop, drop-of-length-le, length-append}
 use borrow.Author.Tests.{le-leb, lt-leb}
 use lib.Seq.{sets, sets-eq, length-sets, length-take-le, take-all, take-suc, drop-cons}
@@ -19,7 +20,10 @@ use Rattle.timing.specs.declared.ReadAnswer.{ReadAnswer}
 use Rattle.timing.specs.Accepted.{Accepted, accept}
 use Rattle.timing.specs.ReadEntries.{readAnswerOf, readAnswer}
 use Rattle.machine.specs.declared.RunAnswer.{RunAnswer}
-use Rattle.adqurim.specs.Words.{flag, readWords, runWords, filledWith}
+use Rattle.walk.specs.declared.WalkAnswer.{WalkAnswer}
+use Rattle.walk.specs.WalkEntry.{walkAnswer}
+use Rattle.adqurim.specs.SizeLaws.{walk-sized}
+use Rattle.adqurim.specs.Words.{flag, readWords, verdictNumber, runPart, runWords, walkWords, filledWith}
 
 -- a list is its elements, one by one
 listed : (l : List ℕ) (j n : ℕ) → length l ≡ j + n → drop j l ≡ map (λ k. getD l k 0) (from j n)
@@ -125,3 +129,57 @@ module _ (a : RunAnswer) (variables : length (a .store) ≡ 8) (jobs : length (a
       ∙ ap (λ (l : List ℕ). sets l (2 + length (a .store ++ flags)) (a .length ∷ [])) (sym (sets-append (a .store) flags head 2))
       ∙ sym (sets-append (a .store ++ flags) (a .length ∷ []) head 2)
       ∙ stored (runWords a) lent (omega (arith, run-length))
+
+-- ---- a walk's words
+
+-- lent words keep their number
+pub filled-length : (vs lent : List ℕ) → length vs ≤ length lent → length (filledWith vs lent) ≡ length lent
+filled-length vs lent room = ap length (sym (stored vs lent room)) ∙ length-sets lent 0 vs
+
+module _ (x : WalkAnswer) (variables : length (x .store) ≡ 8) (jobs : length (x .failed) ≡ 32) where
+  part-length : length (runWords (runPart x)) ≡ 43
+  unfolding runPart
+  part-length = run-length (runPart x) variables jobs
+
+  walk-length : length (walkWords x) ≡ 45
+  unfolding walkWords
+  walk-length = omega (arith, part-length, length-append (runWords (runPart x)) (verdictNumber (x .verdict) ∷ x .count ∷ []))
+
+  pub walk-no-room : (lent : List ℕ) → length lent < 45 → lent ≡ filledWith (walkWords x) lent
+  walk-no-room lent short = no-room (walkWords x) lent (omega (arith, walk-length))
+
+  -- the run's words do not change how many are lent
+  pub part-filled : (lent : List ℕ) {run : RunAnswer} {after : List ℕ} → 45 ≤ length lent → run ≡ runPart x → after ≡ filledWith (runWords run) lent
+      → length after ≡ length lent
+  part-filled lent {run} {after} room part filled =
+      ap length (filled ∙ ap (λ (a : RunAnswer). filledWith (runWords a) lent) part)
+      ∙ filled-length (runWords (runPart x)) lent (omega (arith, part-length))
+
+  -- the run's words, then the verdict and the count
+  pub walk-stored : (lent : List ℕ) {run : RunAnswer} {after : List ℕ} {w : ℕ} → 45 ≤ length lent → run ≡ runPart x
+      → after ≡ filledWith (runWords run) lent → w ≡ verdictNumber (x .verdict)
+      → set (set after 43 w) 44 (x .count) ≡ filledWith (walkWords x) lent
+  unfolding walkWords
+  walk-stored lent {run} {after} {w} room part filled is =
+      let words : List ℕ = runWords (runPart x) in
+      let last : List ℕ = verdictNumber (x .verdict) ∷ x .count ∷ [] in
+      ap (λ (n : ℕ). sets after 43 (n ∷ x .count ∷ [])) is
+      ∙ ap (λ (l : List ℕ). sets l 43 last) (filled ∙ ap (λ (a : RunAnswer). filledWith (runWords a) lent) part ∙ sym (stored words lent (omega (arith, part-length))))
+      ∙ ap (λ (k : ℕ). sets (sets lent 0 words) k last) (omega (arith, part-length))
+      ∙ sym (sets-append words last lent 0)
+      ∙ stored (walkWords x) lent (omega (arith, walk-length))
+
+-- without room for the words of any walk nothing changes, the buffer neither
+pub walk-unfilled : (lent : List ℕ) (f : File) (allowance : ℕ) (buffer : List ℕ) → length lent < 45
+    → lent ≡ filledWith (walkWords (walkAnswer f allowance buffer)) lent
+walk-unfilled lent f allowance buffer short =
+    let sized = walk-sized f allowance buffer in
+    walk-no-room (walkAnswer f allowance buffer) (sized .eight) (sized .each) lent short
+
+pub buffer-kept : (n : ℕ) (after before : List ℕ) → n < 45 → before ≡ (if leb 45 n then after else before)
+unfolding if_then_else_
+buffer-kept n after before short = rw (lt-leb 45 n short)
+
+pub buffer-walked : (n : ℕ) (after before : List ℕ) → 45 ≤ n → after ≡ (if leb 45 n then after else before)
+unfolding if_then_else_
+buffer-walked n after before room = rw (le-leb 45 n room)

@@ -4,14 +4,18 @@
 pub mod words;
 
 use crate::words::put_run;
+use crate::words::put_walk;
 use replay::entries::replay;
 use timing::entries::read;
+use walk::entries::walk_file;
 ghost use mathlib.Core.Path.{_≡_};
 ghost use lib.Dec.{leb};
 ghost use lib.ListN.{length};
-ghost use Rattle.adqurim.specs.Words.{readWords, runWords, filledWith};
+ghost use Rattle.adqurim.specs.Words.{readWords, runWords, walkWords, filledWith};
+ghost use Rattle.taskfile.specs.Lists.{if_then_else_};
 ghost use Rattle.timing.specs.ReadEntries.{readAnswer};
 ghost use Rattle.order.specs.Replay.{replayAnswer};
+ghost use Rattle.walk.specs.WalkEntry.{walkAnswer, walkAfter};
 
 // The reader's entry. Words 0 and 1 are number and place, words 2 to 9 the response times of tasks 0 to 7 (0 past
 // the last task), word 10 the number of jobs. It answers whether there was room; without room no word changes.
@@ -48,4 +52,26 @@ pub extern "C" fn adqurim_replay(file: &[u8], order: &[u8], answer: &mut [u64]) 
 {
     let run = replay(file, order);
     put_run(run, answer)
+}
+
+// The walk's entry. Words 0 to 42 as the replay's (the failing order's end store, failed jobs and length; zeros if none
+// fails), word 43 the verdict: 0 none, 1 holds, 2 fails; word 44 the count of moves.
+// The order buffer's first 512 bytes hold the failing order and zeros, or zeros alone; see the header. It answers whether
+// there was room for the words; without room nothing changes, the order buffer neither.
+#[no_mangle]
+pub extern "C" fn adqurim_walk(
+    file: &[u8],
+    allowance: u64,
+    order: &mut [u8],
+    answer: &mut [u64],
+) -> bool
+    ensures room { λ r. ⌜ r ≡ leb 45 (length (now (answer .entry))) ⌝ }
+    ensures words { λ _. ⌜ now (answer .exit) ≡ filledWith (walkWords (walkAnswer (now (file .entry)) allowance (now (order .entry)))) (now (answer .entry)) ⌝ }
+    ensures buffer { λ _. ⌜ now (order .exit) ≡ (if leb 45 (length (now (answer .entry))) then walkAfter (now (file .entry)) allowance (now (order .entry)) else now (order .entry)) ⌝ }
+{
+    if answer.len() < 45 {
+        return false;
+    }
+    let x = walk_file(file, allowance, order);
+    put_walk(x, answer)
 }

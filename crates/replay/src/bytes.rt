@@ -1,10 +1,10 @@
 // The replay of an order.
+use machine::locals::fresh_local;
 use order::Frame;
 use order::Replayed;
 use order::Snapshot;
 use steps::lent::owned_by;
 use steps::step::step;
-use machine::locals::fresh_local;
 use taskfile::Ceilings;
 use timing::Job;
 ghost use mathlib.Core.Path.{_≡_};

@@ -1,12 +1,12 @@
 // The replay's entry.
-use order::Replayed;
-use crate::lending::program_of;
-use crate::lending::times_of;
 use crate::bytes::first_snapshot;
 use crate::bytes::replay_from;
+use crate::lending::program_of;
+use crate::lending::times_of;
 use machine::RunAnswer;
 use machine::answers::ended_run;
 use machine::answers::refused_run;
+use order::Replayed;
 use taskfile::Ceilings;
 use taskfile::Check;
 use taskfile::Table;

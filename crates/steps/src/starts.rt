@@ -1,12 +1,12 @@
 // Which job of a task may start at a state.
-use order::Due;
-use order::Frame;
-use order::Snapshot;
 use crate::lent::comes_before;
 use crate::lent::may_preempt;
 use crate::lent::owned_by;
 use machine::held::priority_of;
 use machine::locals::fresh_local;
+use order::Due;
+use order::Frame;
+use order::Snapshot;
 use taskfile::Ceilings;
 use timing::Job;
 ghost use mathlib.Core.Path.{_≡_};

@@ -1,14 +1,14 @@
 // The step that an order byte asks for.
-use order::Due;
-use order::Frame;
-use order::Snapshot;
-use order::Stepped;
 use crate::lent::instruction_at;
 use crate::lent::owned_by;
 use crate::starts::start_of;
 use machine::Effect;
 use machine::operations::perform_instruction;
 use machine::values::on_offer;
+use order::Due;
+use order::Frame;
+use order::Snapshot;
+use order::Stepped;
 use taskfile::Ceilings;
 use timing::Job;
 ghost use mathlib.Core.Path.{_≡_};

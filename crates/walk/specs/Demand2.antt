@@ -1,10 +1,10 @@
 -- The theorem of demand 2, for every accepted table: the tree lists exactly the complete orders, each once and in walk order; the
 -- walk finds the first of them that fails, counts the moves made up to there, and is undecided exactly when that count exceeds the
--- allowance. Document 01, "Orders of steps" and "Numbers by who causes them".
+-- allowance. Its moves are the beginnings of orders, each once. Document 01, "Orders of steps" and "Numbers by who causes them".
 -- Assumes nothing.
 use mathlib.Core.Path.{_≡_}
 use mathlib.Core.Logic.{_↔_}
-use Prim.Native.Nat.{ℕ, suc, _<_}
+use Prim.Native.Nat.{ℕ, suc, _≤_, _<_}
 use mathlib.Core.List.{List, _∷_, _++_, List·Memᴰ}
 use mathlib.Core.Option.{none, some}
 use lib.ListN.{length}
@@ -13,10 +13,11 @@ use Rattle.taskfile.specs.Pairs.{Ordered}
 use Rattle.timing.specs.Accepted.{Accepted}
 use Rattle.timing.specs.AcceptedLaws.{IsAccepted}
 use Rattle.machine.specs.Ends.{orderRoom}
-use Rattle.order.specs.Orders.{endOf, Complete}
+use Rattle.order.specs.Orders.{run, endOf, Complete}
 use Rattle.order.specs.States.{State, initial}
 use Rattle.order.specs.StepLaws.{initial-invariant}
-use Rattle.walk.specs.Paths.{Lex, paths}
+use Rattle.walk.specs.PathLaws.{path-listed, listed-path, from-once}
+use Rattle.walk.specs.Paths.{Lex, Sooner, paths}
 use Rattle.walk.specs.WalkEntry.{decided, decidedAnswer}
 use Rattle.walk.specs.WalkLaws.{from-listed, listed-from, from-ascends, from-first, from-counted, initial-sound, undecided-when}
 use Rattle.walk.specs.Walks.{Found, fails, orders, walk}
@@ -37,6 +38,12 @@ pub record Demand2 (a : Accepted) : Type 0 where
       × (paths a ≡ earlier ++ (f .bytes ∷ later)) × (walk a .count ≡ suc (length earlier))
   -- it is undecided exactly when that count exceeds the allowance
   pub undecided : (allowance : ℕ) → (decidedAnswer (decided allowance (walk a)) .number ≡ 21) ↔ (allowance < walk a .count)
+  -- the tree's moves are the beginnings of orders: the bytes of one or more allowed steps are the path of a move
+  pub moved : (bytes : List ℕ) (s : State) → run a (initial a) bytes ≡ some s → 1 ≤ length bytes → List·Memᴰ bytes (paths a)
+  -- and the path of each move is the bytes of one or more allowed steps
+  pub beginnings : (bytes : List ℕ) → List·Memᴰ bytes (paths a) → (s : State) × (run a (initial a) bytes ≡ some s) × (1 ≤ length bytes)
+  -- each move stands once: depth first, each path comes sooner than all later ones, and none than itself (`sooner-apart`)
+  pub once : Ordered Sooner (paths a)
 
 pub demand2 : {a : Accepted} → IsAccepted a → Demand2 a
 unfolding orders walk paths
@@ -52,4 +59,9 @@ demand2 {a} ok =
       countAll = counted .all;
       countUpTo = λ f e. let upTo = counted .found f e in (upTo .earlier, upTo .later, upTo .parts, upTo .counted);
       undecided = λ allowance. undecided-when allowance (walk a);
+      moved = λ bytes s e filled. path-listed ok bytes e filled;
+      beginnings = λ bytes here.
+          let begun = listed-path ok orderRoom (initial-invariant a) here in
+          (begun .after, begun .allowed, begun .filled);
+      once = from-once ok orderRoom (initial-invariant a);
     }

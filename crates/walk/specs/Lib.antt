@@ -1,9 +1,11 @@
 pub mod ByteLaws
 pub mod ClearLaws
 pub mod Demand2
+pub mod DueLaws
 pub mod MoveLaws
 pub mod Moves
 pub mod NextLaws
+pub mod PathLaws
 pub mod Paths
 pub mod TrialLaws
 pub mod WalkEntry

@@ -2,6 +2,7 @@
 -- each by its path. Document 01, "Orders of steps": "the moves made up to there, each move of the tree once".
 -- Assumes nothing.
 use mathlib.Core.Path.{_≡_}
+use mathlib.Core.Logic.{_⊎_}
 use Prim.Native.Nat.{ℕ, zero, suc, _<_}
 use mathlib.Core.Bool.{true, false}
 use mathlib.Core.List.{List, [], _∷_, _++_, map}
@@ -20,6 +21,16 @@ pub record Lex (xs ys : List ℕ) : Type 0 where
   pub first : xs ≡ common ++ (lower ∷ restLower)
   pub second : ys ≡ common ++ (higher ∷ restHigher)
   pub smaller : lower < higher
+
+-- xs is a proper beginning of ys: ys goes on after it
+pub record Begins (xs ys : List ℕ) : Type 0 where
+  pub next : ℕ
+  pub rest : List ℕ
+  pub parts : ys ≡ xs ++ (next ∷ rest)
+
+-- depth first, xs comes sooner than ys: it is a proper beginning of ys, or comes before it
+abbrev pub Sooner : List ℕ → List ℕ → Type 0
+Sooner xs ys = Begins xs ys ⊎ Lex xs ys
 
 -- the paths through each of the moves: the move itself, then those below it, where `below` lists those from a state on
 unfoldable pub pathsThrough : (State → List (List ℕ)) → List Move → List (List ℕ)

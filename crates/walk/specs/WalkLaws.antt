@@ -63,16 +63,16 @@ module _ (a : Accepted) (s : State) where
   walk-on n e = rw (e, walkFrom) refl
 
   -- and so go the paths
-  paths-end : (n : ℕ) → allEnded a s ≡ true → pathsFrom a n s ≡ []
+  pub paths-end : (n : ℕ) → allEnded a s ≡ true → pathsFrom a n s ≡ []
   unfolding pathsFrom
   paths-end zero e = refl
   paths-end (suc n) e = rw (e, pathsFrom) refl
 
-  paths-cut : pathsFrom a zero s ≡ []
+  pub paths-cut : pathsFrom a zero s ≡ []
   unfolding pathsFrom
   paths-cut = refl
 
-  paths-on : (n : ℕ) → allEnded a s ≡ false → pathsFrom a (suc n) s ≡ pathsThrough (pathsFrom a n) (moves a s)
+  pub paths-on : (n : ℕ) → allEnded a s ≡ false → pathsFrom a (suc n) s ≡ pathsThrough (pathsFrom a n) (moves a s)
   unfolding pathsFrom
   paths-on n e = rw (e, pathsFrom) refl
 
@@ -88,12 +88,12 @@ end-steps {a} ok {s} inv done byte e =
     tests.not-both _ (all-jobs a (hasEnded s) done _ (good .running .job)) (good .running .unended)
 
 -- an order that begins with a byte: that byte is a step, and the rest goes on from there
-run-first : (a : Accepted) (s : State) (byte : ℕ) (bytes : List ℕ) {after : State} → run a s (byte ∷ bytes) ≡ some after
+pub run-first : (a : Accepted) (s : State) (byte : ℕ) (bytes : List ℕ) {after : State} → run a s (byte ∷ bytes) ≡ some after
     → (next : State) × (step a s byte ≡ some next) × (run a next bytes ≡ some after)
 unfolding run
 run-first a s byte bytes e = bind-eq-some-iff (step a s byte) (λ next. run a next bytes) .0 e
 
-run-on : (a : Accepted) (s : State) (byte : ℕ) (bytes : List ℕ) {next after : State} → step a s byte ≡ some next
+pub run-on : (a : Accepted) (s : State) (byte : ℕ) (bytes : List ℕ) {next after : State} → step a s byte ≡ some next
     → run a next bytes ≡ some after → run a s (byte ∷ bytes) ≡ some after
 unfolding run bind
 run-on a s byte bytes one e = rw one e
@@ -193,11 +193,11 @@ lex-apart xs lex = go (lex .common) (sym (lex .first) ∙ lex .second)
     go [] e = let same : lex .lower ≡ lex .higher = cc in omega (arith, lex .smaller)
     go (y ∷ ys) e = go ys (cc)
 
-lex-first : {x y : ℕ} {xs ys : List ℕ} → x < y → Lex (x ∷ xs) (y ∷ ys)
+pub lex-first : {x y : ℕ} {xs ys : List ℕ} → x < y → Lex (x ∷ xs) (y ∷ ys)
 lex-first {x} {y} {xs} {ys} lt =
     record { common = []; lower = x; higher = y; restLower = xs; restHigher = ys; first = refl; second = refl; smaller = lt }
 
-lex-later : (x : ℕ) {xs ys : List ℕ} → Lex xs ys → Lex (x ∷ xs) (x ∷ ys)
+pub lex-later : (x : ℕ) {xs ys : List ℕ} → Lex xs ys → Lex (x ∷ xs) (x ∷ ys)
 lex-later x lex =
     record {
       common = x ∷ lex .common;
@@ -214,7 +214,7 @@ abbrev Before : Found → Found → Type 0
 Before f g = Lex (f .bytes) (g .bytes)
 
 -- what holds of each element by its place holds of every element
-every-listed : {A : Type 0} (P : A → Type 0) (xs : List A) → ((x : A) → List·Memᴰ x xs → P x) → Every P xs
+pub every-listed : {A : Type 0} (P : A → Type 0) (xs : List A) → ((x : A) → List·Memᴰ x xs → P x) → Every P xs
 every-listed P [] h = tt
 every-listed P (x ∷ xs) h = (h x (List·Memᴰ·head refl), every-listed P xs (λ y m. h y (List·Memᴰ·tail m)))
 

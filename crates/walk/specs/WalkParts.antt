@@ -2,11 +2,11 @@
 -- Assumes nothing.
 use mathlib.Core.Path.{_≡_}
 use Prim.Native.Nat.{ℕ, _+_, _-_, _*_, _/_, _%_, _≤_, _<_}
-use mathlib.Core.Bool.{true, false, _&&_}
+use mathlib.Core.Bool.{Bool, true, false, not, _&&_, _||_}
 use mathlib.Core.List.{List, _++_}
 use mathlib.Core.Option.{Option, none, some}
 use lib.Dec.{ltb, eqb}
-use lib.ListN.{length, take, drop}
+use lib.ListN.{length, getD, take, drop}
 use Rattle.taskfile.specs.declared.Ceilings.{Ceilings}
 use Rattle.taskfile.specs.Lists.{if_then_else_, any}
 use Rattle.timing.specs.Accepted.{Accepted}
@@ -16,7 +16,7 @@ use Rattle.order.specs.declared.Frame.{Frame}
 use Rattle.order.specs.declared.Snapshot.{Snapshot}
 use Rattle.order.specs.Invariant.{Invariant}
 use Rattle.order.specs.SnapshotLaws.{Lends, Shows}
-use Rattle.order.specs.SnapshotSteps.{instructionIn, stepIn}
+use Rattle.order.specs.SnapshotSteps.{ownerIn, ownedBy, instructionIn, topOf, stepIn}
 use Rattle.order.specs.States.{State}
 use Rattle.walk.specs.declared.Candidate.{Candidate}
 use Rattle.walk.specs.declared.Outcome.{Outcome}
@@ -71,6 +71,17 @@ endedAt p count at =
     if any (λ flag. flag) (p .failed)
     then record { found = true; stopped = false; count = count; length = at; store = p .store; failed = p .failed }
     else heldAt count
+
+-- the active job started last, or 32
+unfoldable pub topJob : Snapshot → ℕ
+topJob p = if eqb (p .depth) 0 then 32 else topOf p .job .0
+
+-- may it be task i's turn, where `top` is the active job started last?
+unfoldable pub maybeDue : List ℕ → List ℕ → ℕ → ℕ → Bool
+maybeDue program upcoming top i =
+    if ltb top 32
+    then eqb (ownerIn program top) i || not (ltb i (ownerIn program top)) && ownedBy program i (getD upcoming i 0)
+    else ownedBy program i (getD upcoming i 0)
 
 -- where the next value is looked for after a step at this byte
 unfoldable pub valueAfter : List ℕ → Frame → ℕ → ℕ

@@ -1,6 +1,7 @@
 // The walk of a state and the trial of its moves.
 use crate::Outcome;
 use crate::moves::next_move;
+use crate::moves::top_job;
 use order::Snapshot;
 use replay::bytes::finished;
 use taskfile::Ceilings;
@@ -111,7 +112,8 @@ pub fn trial(
     ensures came { λ r. ⌜ TriesAs (now (program .entry)) (now (times .entry)) locks s left count allowance (now (out .entry)) (now (out .exit)) r ⌝ }
 {
     let mut made = count;
-    let mut m = next_move(program, times, locks, s, 0);
+    let top = top_job(s);
+    let mut m = next_move(program, times, locks, s, top, 0);
     while m.byte < 128 {
         if allowance <= made {
             return stopped(made);
@@ -126,7 +128,7 @@ pub fn trial(
             return r;
         }
         made = r.count;
-        m = next_move(program, times, locks, s, m.next);
+        m = next_move(program, times, locks, s, top, m.next);
     }
     held(made)
 }

@@ -29,6 +29,33 @@ pub struct RunAnswer {
     pub length: u64,
 }
 
+/// How many words the walk's entry fills.
+pub const WALK_WORDS: usize = 45;
+
+/// A walk's verdict; `None` is the zero of a refusal.
+#[derive(Debug, Clone, Copy, PartialEq, Eq, Default)]
+pub enum Verdict {
+    #[default]
+    None,
+    Holds,
+    Fails,
+}
+
+/// What the walk's entry answers, each number as wide as its word so that none is cut.
+#[derive(Debug, Clone, Copy, PartialEq, Eq, Default)]
+pub struct WalkAnswer {
+    pub number: u64,
+    pub place: u64,
+    pub verdict: Verdict,
+    /// The moves made.
+    pub count: u64,
+    /// Of the failing order, in bytes; 0 if none fails.
+    pub length: u64,
+    pub end_store: [u64; 8],
+    /// Of jobs 0 to 31: 1 if the job failed, else 0.
+    pub failed_jobs: [u64; 32],
+}
+
 mod c {
     extern "C" {
         pub fn adqurim_read(
@@ -42,6 +69,16 @@ mod c {
             file: *const u8,
             file_len: usize,
             order: *const u8,
+            order_len: usize,
+            answer: *mut u64,
+            answer_len: usize,
+        ) -> bool;
+
+        pub fn adqurim_walk(
+            file: *const u8,
+            file_len: usize,
+            allowance: u64,
+            order: *mut u8,
             order_len: usize,
             answer: *mut u64,
             answer_len: usize,
@@ -66,7 +103,7 @@ pub fn read(file: &[u8]) -> ReadAnswer {
 
 /// Replays an order into lent words. False, and no word changed, if there is no room for 43 words.
 pub fn replay_words(file: &[u8], order: &[u8], answer: &mut [u64]) -> bool {
-    // SAFETY: as for the reader. The two shared slices may overlap: the entry only reads them.
+    // SAFETY: as for the reader. The two shared slices may overlap, since the entry only reads them.
     unsafe {
         c::adqurim_replay(
             file.as_ptr(),
@@ -85,6 +122,74 @@ pub fn replay(file: &[u8], order: &[u8]) -> RunAnswer {
     let room = replay_words(file, order, &mut words);
     assert!(room, "the entry has room for its words");
     RunAnswer::from(words)
+}
+
+/// Walks all orders into lent words and a lent order buffer. False, and neither changed, if there is
+/// no room for 45 words.
+pub fn walk_words(file: &[u8], allowance: u64, order: &mut [u8], answer: &mut [u64]) -> bool {
+    // SAFETY: as for the reader. The entry writes only the order and the answer, two exclusive
+    // slices, which overlap neither each other nor the file.
+    unsafe {
+        c::adqurim_walk(
+            file.as_ptr(),
+            file.len(),
+            allowance,
+            order.as_mut_ptr(),
+            order.len(),
+            answer.as_mut_ptr(),
+            answer.len(),
+        )
+    }
+}
+
+/// Walks all orders. The buffer takes the failing order; it is zeroed up to 512 if the walk holds or
+/// is undecided.
+pub fn walk(file: &[u8], allowance: u64, order: &mut [u8]) -> WalkAnswer {
+    let mut words = [0; WALK_WORDS];
+    let room = walk_words(file, allowance, order, &mut words);
+    assert!(room, "the entry has room for its words");
+    WalkAnswer::from(words)
+}
+
+impl From<u64> for Verdict {
+    fn from(word: u64) -> Verdict {
+        match word {
+            0 => Verdict::None,
+            1 => Verdict::Holds,
+            2 => Verdict::Fails,
+            _ => panic!("no verdict has the number {word}"),
+        }
+    }
+}
+
+impl From<Verdict> for u64 {
+    fn from(verdict: Verdict) -> u64 {
+        match verdict {
+            Verdict::None => 0,
+            Verdict::Holds => 1,
+            Verdict::Fails => 2,
+        }
+    }
+}
+
+impl From<[u64; WALK_WORDS]> for WalkAnswer {
+    fn from(words: [u64; WALK_WORDS]) -> WalkAnswer {
+        let [run @ .., verdict, count] = words;
+        let RunAnswer { number, place, end_store, failed_jobs, length } = RunAnswer::from(run);
+        let verdict = Verdict::from(verdict);
+        WalkAnswer { number, place, verdict, count, length, end_store, failed_jobs }
+    }
+}
+
+impl From<WalkAnswer> for [u64; WALK_WORDS] {
+    fn from(answer: WalkAnswer) -> [u64; WALK_WORDS] {
+        let WalkAnswer { number, place, verdict, count, length, end_store, failed_jobs } = answer;
+        let run = RunAnswer { number, place, end_store, failed_jobs, length };
+        let mut words = [0; WALK_WORDS];
+        words[..REPLAY_WORDS].copy_from_slice(&<[u64; REPLAY_WORDS]>::from(run));
+        words[REPLAY_WORDS..].copy_from_slice(&[verdict.into(), count]);
+        words
+    }
 }
 
 impl From<[u64; REPLAY_WORDS]> for RunAnswer {

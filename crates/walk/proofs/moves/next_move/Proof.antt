@@ -1,40 +1,50 @@
 -- `walk::moves::next_move` meets its contract. The loop's invariant: no byte from `byte` up to `at` is a step. The measure is the number of
 -- bytes left.
 -- Assumes nothing.
+use mathlib.Core.Path.{_≡_, refl, sym, _∙_}
 use mathlib.Core.Logic.{inl, inr}
 use Prim.Native.Nat.{_≤_, _-_}
 use native.Mathlib.Omega.{arith}
+use lib.ListN.{length, length-map}
+use Rattle.walk.specs.DueLaws.{not-due}
 use Rattle.walk.specs.NextLaws.{with-inside, passed-idle, passed-refused, step-found, no-move}
 use Rattle.walk.specs.WalkParts.{NoStep}
 use Rattle.walk.proofs.moves.next_move.Statement.{statement}
 use Rattle.walk.proofs.moves.next_move.Tie as tie
 
 abbrev Inv-loop : tie.InvT-loop
-Inv-loop program times locks s byte at₀ at = (byte ≤ at) × (at ≤ 128) × NoStep program times locks s byte at
+Inv-loop program times locks s top byte upcoming at₀ at = (byte ≤ at) × (at ≤ 128) × NoStep program times locks s byte at
 
 abbrev μ-loop : tie.MeasureT-loop
-μ-loop program times locks s byte at₀ at = 128 - at
+μ-loop program times locks s top byte upcoming at₀ at = 128 - at
+
+-- the stack's array has eight frames
+stack-length : (c : tie.Start Inv-loop μ-loop) → length (c .args .s .stack) ≡ 8
+stack-length c = sym (length-map (c .args .s .stack) _) ∙ c .good .1 .1 .1 .0 .1 .1 .1 .1 .1 .1 .0 .1 .0 .1
 
 loop-holds : tie.Need-loop-holds Inv-loop μ-loop
 loop-holds c = (omega arith, omega arith, λ k low high. absurd (omega arith))
 
+may-be-due-requires : tie.Need-may-be-due-requires Inv-loop μ-loop
+may-be-due-requires c κs = omega arith
+
 turn-of-requires : tie.Need-turn-of-requires Inv-loop μ-loop
-turn-of-requires c κs = (c .before .before .pre .0, c .before .before .pre .1)
+turn-of-requires c κs = (c .before .before .before .before .before .pre .0, c .before .before .before .before .before .pre .1)
 
 step-with-requires : tie.Need-step-with-requires Inv-loop μ-loop
 step-with-requires c κs =
-    let bounds = c .before .before .turn-of .ensures .1 (c .before .if1 .taken) in
+    let bounds = c .before .before .turn-of .ensures .1 (c .before .if2 .taken) in
     (bounds .1, bounds .0, omega arith)
 
 byte-after-requires : tie.Need-byte-after-requires Inv-loop μ-loop
-byte-after-requires c κs = (omega arith, with-inside _ _ _ _ _ _ (c .before .before .step-with .ensures) (c .before .if2 .taken))
+byte-after-requires c κs = (omega arith, with-inside _ _ _ _ _ _ (c .before .before .step-with .ensures) (c .before .if3 .taken))
 
 returns : tie.Need-returns Inv-loop μ-loop
 returns c =
     let due = c .before .before .before .before .before in
-    let head = due .before .before .before .loop .inv in
-    step-found _ _ _ _ _ (due .before .turn-of .ensures .0) (due .if1 .taken) (c .before .before .before .step-with .ensures) _
-    (due .before .before .loop-test .taken) (head .0) (head .2) (c .before .before .if2 .taken) (c .byte-after .ensures)
+    let head = due .before .before .before .before .before .loop .inv in
+    step-found _ _ _ _ _ (due .before .turn-of .ensures .0) (due .if2 .taken) (c .before .before .before .step-with .ensures) _
+    (due .before .before .before .before .loop-test .taken) (head .0) (head .2) (c .before .before .if3 .taken) (c .byte-after .ensures)
 
 add-at : tie.Need-add-at Inv-loop μ-loop
 add-at c = omega arith
@@ -47,18 +57,21 @@ loop-less c = omega arith
 
 loop-again : tie.Need-loop-again Inv-loop μ-loop
 loop-again c =
-    let turn = c .before .turn-of .ensures .0 in
-    let head = c .before .before .before .loop .inv in (
+    let head = c .before .before .before .loop .inv in
+    let start = c .before .before .before .before .before in (
       omega arith,
       omega arith,
       elim (c .if1 .came) [
-        | inl refusal ↦ passed-refused _ _ _ _ _ turn (refusal .0 .taken) (refusal .2 .ensures) _ (head .2) (refusal .3 .left)
-        | inr idle ↦ passed-idle _ _ _ _ _ turn _ (head .2) (idle .left)
+        | inl refusal ↦ passed-refused _ _ _ _ _ (refusal .1 .ensures .0) (refusal .2 .taken) (refusal .4 .ensures) _ (head .2) (refusal .5 .left)
+        | inr (inl idle) ↦ passed-idle _ _ _ _ _ (idle .1 .ensures .0) _ (head .2) (idle .2 .left)
+        | inr (inr skipped) ↦
+            passed-idle _ _ _ _ _ refl _ (head .2)
+            (not-due _ _ _ _ _ (start .pre .1) (stack-length start) (start .pre .3) (c .before .may-be-due .ensures) (skipped .left))
       ],
     )
 
 returns-2 : tie.Need-returns-2 Inv-loop μ-loop
-returns-2 c = no-move _ _ _ _ _ _ (c .before .before .pre .2) (c .before .loop .inv .2) (c .loop-test .left)
+returns-2 c = no-move _ _ _ _ _ _ (c .before .before .before .pre .2) (c .before .loop .inv .2) (c .loop-test .left)
 
 pub next-move-spec : {M : Type 1} → statement M
 next-move-spec =
@@ -67,6 +80,7 @@ next-move-spec =
     Inv-loop
     μ-loop
     loop-holds
+    may-be-due-requires
     turn-of-requires
     step-with-requires
     byte-after-requires

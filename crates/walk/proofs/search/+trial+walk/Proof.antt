@@ -13,6 +13,7 @@ use Rattle.walk.proofs.search.walk.Kinds as walk-kinds
 use Rattle.walk.proofs.search.+trial+walk.Lts-walk as walk-lts
 use Rattle.replay.proofs.bytes.finished.Reads as finished-reads
 use Rattle.walk.proofs.moves.next_move.Reads as next-move-reads
+use Rattle.walk.proofs.moves.top_job.Reads as top-job-reads
 use Rattle.walk.proofs.search.ended.Reads as ended-reads
 use Rattle.walk.proofs.search.held.Reads as held-reads
 use Rattle.walk.proofs.search.stopped.Reads as stopped-reads
@@ -39,22 +40,25 @@ walk-below t = and 3 walk-kinds.ps (falls 3 walk-kinds.ps _<_ μ-walk t) walk.Pr
 
 -- what the functions called ask and give, calls inside the cycle below the measure t
 abbrev trial-claims : ℕ → trial-lts.Claims
-trial-claims t = (next-move-reads.Asked, next-move-reads.Learnt, stopped-reads.Asked, stopped-reads.Learnt, walk-below t, walk.Post, held-reads.Asked, held-reads.Learnt)
+trial-claims t = (top-job-reads.Asked, top-job-reads.Learnt, next-move-reads.Asked, next-move-reads.Learnt, stopped-reads.Asked, stopped-reads.Learnt, walk-below t, walk.Post, held-reads.Asked, held-reads.Learnt)
 
 abbrev walk-claims : ℕ → walk-lts.Claims
 walk-claims t = (finished-reads.Asked, finished-reads.Learnt, ended-reads.Asked, ended-reads.Learnt, held-reads.Asked, held-reads.Learnt, trial-below t, trial.Post)
 
 abbrev trial-Inv-loop : trial-lts.InvT-loop
-trial-Inv-loop program times locks s left count allowance out₀ made₀ m₀ out made m = Trying program times locks s left count made allowance m out₀ out
+trial-Inv-loop program times locks s left count allowance out₀ made₀ top m₀ out made m = Trying program times locks s left count made allowance m out₀ out
 
 abbrev trial-μ-loop : trial-lts.MeasureT-loop
-trial-μ-loop program times locks s left count allowance out₀ made₀ m₀ out made m = 128 - m .byte
+trial-μ-loop program times locks s left count allowance out₀ made₀ top m₀ out made m = 128 - m .byte
+
+trial-top-job-requires : (t : ℕ) → trial-lts.Need-top-job-requires (trial-claims t) (trial-at t) trial.Post trial-Inv-loop trial-μ-loop
+trial-top-job-requires t c κs = c .before .pre .1 .1
 
 trial-next-move-requires : (t : ℕ) → trial-lts.Need-next-move-requires (trial-claims t) (trial-at t) trial.Post trial-Inv-loop trial-μ-loop
-trial-next-move-requires t c κs = (c .before .pre .1 .0, c .before .pre .1 .1, omega arith)
+trial-next-move-requires t c κs = (c .before .before .pre .1 .0, c .before .before .pre .1 .1, omega arith, c .top-job .ensures)
 
 trial-loop-holds : (t : ℕ) → trial-lts.Need-loop-holds (trial-claims t) (trial-at t) trial.Post trial-Inv-loop trial-μ-loop
-trial-loop-holds t c = trying-starts (c .before .before .pre .1 .3) (c .next-move .ensures)
+trial-loop-holds t c = trying-starts (c .before .before .before .pre .1 .3) (c .next-move .ensures)
 
 trial-stopped-requires : (t : ℕ) → trial-lts.Need-stopped-requires (trial-claims t) (trial-at t) trial.Post trial-Inv-loop trial-μ-loop
 trial-stopped-requires t c κs = tt
@@ -65,15 +69,15 @@ trial-same-length t c = c .before .before .before .before .loop .inv .same
 trial-returns : (t : ℕ) → trial-lts.Need-returns (trial-claims t) (trial-at t) trial.Post trial-Inv-loop trial-μ-loop
 trial-returns t c =
     let head = c .before .before .before .before in
-    stops-answer (head .before .before .before .pre .1 .2) (head .loop .inv) (c .stopped .ensures) (c .before .before .if1 .taken) (c .before .if2 .taken)
+    stops-answer (head .before .before .before .before .pre .1 .2) (head .loop .inv) (c .stopped .ensures) (c .before .before .if1 .taken) (c .before .if2 .taken)
 
 trial-sub-out : (t : ℕ) → trial-lts.Need-sub-out (trial-claims t) (trial-at t) trial.Post trial-Inv-loop trial-μ-loop
-trial-sub-out t c = omega (arith, c .before .before .before .before .before .before .pre .1 .2)
+trial-sub-out t c = omega (arith, c .before .before .before .before .before .before .before .pre .1 .2)
 
 trial-slice-write-out : (t : ℕ) → trial-lts.Need-slice-write-out (trial-claims t) (trial-at t) trial.Post trial-Inv-loop trial-μ-loop
 trial-slice-write-out t c =
     let head = c .before .before .before in
-    omega (arith, head .loop .inv .same, head .before .before .before .pre .1 .4)
+    omega (arith, head .loop .inv .same, head .before .before .before .before .pre .1 .4)
 
 trial-add-walk : (t : ℕ) → trial-lts.Need-add-walk (trial-claims t) (trial-at t) trial.Post trial-Inv-loop trial-μ-loop
 trial-add-walk t c = omega (arith, c .before .if2 .left)
@@ -81,7 +85,7 @@ trial-add-walk t c = omega (arith, c .before .if2 .left)
 trial-walk-requires : (t : ℕ) → trial-lts.Need-walk-requires (trial-claims t) (trial-at t) trial.Post trial-Inv-loop trial-μ-loop
 trial-walk-requires t c κs =
     let head = c .before .before .before .before .before in
-    let start = head .before .before .before in
+    let start = head .before .before .before .before in
     let trying = head .loop .inv in
     let lt = c .before .before .before .if1 .taken in (
       omega (arith, start .pre .0),
@@ -97,34 +101,34 @@ trial-walk-requires t c κs =
 trial-same-length-2 : (t : ℕ) → trial-lts.Need-same-length-2 (trial-claims t) (trial-at t) trial.Post trial-Inv-loop trial-μ-loop
 trial-same-length-2 t c =
     let head = c .before .before .before .before .before .before .before .before .before in
-    let start = head .before .before .before in
+    let start = head .before .before .before .before in
     let answer = finds-answer (start .pre .1 .2) (head .loop .inv) (c .before .before .before .before .before .before .before .if1 .taken) (start .pre .1 .4) (c .before .before .before .walk .ensures) (c .if3 .taken) in
     answer .0 .0
 
 trial-returns-2 : (t : ℕ) → trial-lts.Need-returns-2 (trial-claims t) (trial-at t) trial.Post trial-Inv-loop trial-μ-loop
 trial-returns-2 t c =
     let head = c .before .before .before .before .before .before .before .before .before in
-    let start = head .before .before .before in
+    let start = head .before .before .before .before in
     finds-answer (start .pre .1 .2) (head .loop .inv) (c .before .before .before .before .before .before .before .if1 .taken) (start .pre .1 .4) (c .before .before .before .walk .ensures) (c .if3 .taken)
 
 trial-same-length-3 : (t : ℕ) → trial-lts.Need-same-length-3 (trial-claims t) (trial-at t) trial.Post trial-Inv-loop trial-μ-loop
 trial-same-length-3 t c =
     let head = c .before .before .before .before .before .before .before .before .before .before in
-    let start = head .before .before .before in
+    let start = head .before .before .before .before in
     let answer = cut-answer (start .pre .1 .2) (head .loop .inv) (c .before .before .before .before .before .before .before .before .if1 .taken) (start .pre .1 .4) (c .before .before .before .before .walk .ensures) (c .if4 .taken) in
     answer .0 .0
 
 trial-returns-3 : (t : ℕ) → trial-lts.Need-returns-3 (trial-claims t) (trial-at t) trial.Post trial-Inv-loop trial-μ-loop
 trial-returns-3 t c =
     let head = c .before .before .before .before .before .before .before .before .before .before in
-    let start = head .before .before .before in
+    let start = head .before .before .before .before in
     cut-answer (start .pre .1 .2) (head .loop .inv) (c .before .before .before .before .before .before .before .before .if1 .taken) (start .pre .1 .4) (c .before .before .before .before .walk .ensures) (c .if4 .taken)
 
 trial-next-move-requires-2 : (t : ℕ) → trial-lts.Need-next-move-requires-2 (trial-claims t) (trial-at t) trial.Post trial-Inv-loop trial-μ-loop
 trial-next-move-requires-2 t c κs =
     let head = c .before .before .before .before .before .before .before .before .before .before in
-    let start = head .before .before .before in
-    (start .pre .1 .0, start .pre .1 .1, head .loop .inv .next .bounded)
+    let start = head .before .before .before .before in
+    (start .pre .1 .0, start .pre .1 .1, head .loop .inv .next .bounded, head .before .before .top-job .ensures)
 
 trial-loop-less : (t : ℕ) → trial-lts.Need-loop-less (trial-claims t) (trial-at t) trial.Post trial-Inv-loop trial-μ-loop
 trial-loop-less t c =
@@ -135,7 +139,7 @@ trial-loop-less t c =
 trial-loop-again : (t : ℕ) → trial-lts.Need-loop-again (trial-claims t) (trial-at t) trial.Post trial-Inv-loop trial-μ-loop
 trial-loop-again t c =
     let head = c .before .before .before .before .before .before .before .before .before .before .before in
-    let start = head .before .before .before in
+    let start = head .before .before .before .before in
     on-answer (start .pre .1 .2) (head .loop .inv) (c .before .before .before .before .before .before .before .before .before .if1 .taken) (start .pre .1 .4) (c .before .before .before .before .before .walk .ensures) (c .before .before .if3 .left) (c .before .if4 .left) (c .next-move2 .ensures)
 
 trial-held-requires : (t : ℕ) → trial-lts.Need-held-requires (trial-claims t) (trial-at t) trial.Post trial-Inv-loop trial-μ-loop
@@ -147,7 +151,7 @@ trial-same-length-4 t c = c .before .before .before .loop .inv .same
 trial-returns-4 : (t : ℕ) → trial-lts.Need-returns-4 (trial-claims t) (trial-at t) trial.Post trial-Inv-loop trial-μ-loop
 trial-returns-4 t c =
     let head = c .before .before .before in
-    ends-answer (head .before .before .before .pre .1 .2) (head .loop .inv) (c .held .ensures) (c .before .if1 .left)
+    ends-answer (head .before .before .before .before .pre .1 .2) (head .loop .inv) (c .held .ensures) (c .before .if1 .left)
 
 walk-finished-requires : (t : ℕ) → walk-lts.Need-finished-requires (walk-claims t) (walk-at t) walk.Post
 walk-finished-requires t c κs = tt
@@ -195,6 +199,7 @@ pub +trial+walk-spec : {M : Type 1} → statement M
     trial.Post
     trial-Inv-loop
     trial-μ-loop
+    (trial-top-job-requires t)
     (trial-next-move-requires t)
     (trial-loop-holds t)
     (trial-stopped-requires t)

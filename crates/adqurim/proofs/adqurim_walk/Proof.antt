@@ -1,0 +1,40 @@
+-- `adqurim::adqurim_walk` meets its contract: without room nothing is called, else the words are those of the walk's answer and the buffer
+-- is as the walk leaves it.
+-- Assumes nothing.
+use mathlib.Core.Path.{sym, ap, _∙_}
+use borrow.Author.Needs.{needs}
+use borrow.Author.Tests.{lt-leb}
+use Rattle.walk.specs.declared.WalkAnswer.{WalkAnswer}
+use Rattle.adqurim.specs.Words.{walkWords, filledWith}
+use Rattle.adqurim.specs.WordsLaws.{walk-unfilled, buffer-kept, buffer-walked}
+use Rattle.adqurim.proofs.adqurim_walk.Statement.{statement}
+use Rattle.adqurim.proofs.adqurim_walk.Tie as tie
+
+returns : tie.Need-returns
+returns c =
+    let short = c .if1 .taken in
+    (sym (lt-leb _ _ short), (walk-unfilled _ _ _ _ short, buffer-kept _ _ _ short))
+
+walk-file-requires : tie.Need-walk-file-requires
+walk-file-requires c κs = search needs
+
+put-walk-requires : tie.Need-put-walk-requires
+put-walk-requires c κs = search needs
+
+same-length : tie.Need-same-length
+same-length c = search needs
+
+same-length-2 : tie.Need-same-length-2
+same-length-2 c = search needs
+
+returns-2 : tie.Need-returns-2
+returns-2 c =
+    let room = c .before .before .before .before .before .before .before .before .if1 .left in
+    let walked = c .before .before .before .before .before .before .walk-file .ensures in
+    let put = c .before .before .put-walk .ensures in
+    let lent = c .before .before .before .before .before .before .before .before .before .before .before .before .args .answer .now in
+    (put .0, (put .1 ∙ ap (λ (x : WalkAnswer). filledWith (walkWords x) lent) (walked .0), walked .1 ∙ buffer-walked _ _ _ room))
+
+pub adqurim-walk-spec : {M : Type 1} → statement M
+adqurim-walk-spec =
+    tie.close (tie.spec returns walk-file-requires put-walk-requires same-length same-length-2 returns-2)
