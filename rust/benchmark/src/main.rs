@@ -1,16 +1,20 @@
-//! Times the proved entries and the interpreter on the same inputs, prints a table for each entry
-//! and writes them to `docs/BENCHMARKS.md`.
+//! Times the proved entries and the interpreter on the same inputs, and the proved walk beside a
+//! walker in Rust; prints a table for each entry and writes them to `docs/BENCHMARKS.md`.
 
 #![forbid(unsafe_code)]
 
 mod files;
 mod measure;
 mod report;
+mod stack;
+mod walker;
+mod walks;
 
 use files::Row;
 use measure::{time_both, Side};
 use report::Timing;
 use std::time::Duration;
+use walks::WalkTiming;
 
 /// Where the tables are kept.
 const PAGE: &str = concat!(env!("CARGO_MANIFEST_DIR"), "/../../docs/BENCHMARKS.md");
@@ -40,9 +44,15 @@ fn main() -> std::io::Result<()> {
     if let Some(side) = std::env::args().nth(1).and_then(|name| Side::named(&name)) {
         return side.answer_parent();
     }
+    if let Some(answered) = stack::answer_parent() {
+        return answered;
+    }
     let load = report::load();
     let reads = measure_rows(files::read_rows())?;
     let replays = measure_rows(files::replay_rows())?;
+    let walks: Vec<WalkTiming> = walks::walk_rows().into_iter().map(walks::time_walks).collect();
+    let stack = report::stack(stack::least_kib()?);
     print!("{}\n{}", report::read_table(&reads), report::replay_table(&replays));
-    std::fs::write(PAGE, report::page(&reads, &replays, &load))
+    print!("\n{}\n{stack}", report::walk_table(&walks));
+    std::fs::write(PAGE, report::page(&reads, &replays, &walks, &stack, &load))
 }

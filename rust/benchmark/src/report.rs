@@ -1,6 +1,8 @@
 //! The benchmark's tables as text.
 
 use crate::measure::{Time, AT_ONCE, LIMIT, MOST_SAMPLES, TURNS};
+use crate::stack::PAGE_KIB;
+use crate::walks::{WalkTiming, WALK_TURNS};
 use std::process::Command;
 
 /// A row's times.
@@ -13,9 +15,9 @@ pub struct Timing {
     pub interpreter: Time,
 }
 
-/// Whole nanoseconds in groups of three digits.
-fn grouped(nanoseconds: f64) -> String {
-    let digits = format!("{nanoseconds:.0}");
+/// A whole number in groups of three digits.
+fn grouped(number: f64) -> String {
+    let digits = format!("{number:.0}");
     let mut text = String::new();
     for (at, digit) in digits.chars().enumerate() {
         if at > 0 && (digits.len() - at) % 3 == 0 {
@@ -57,6 +59,39 @@ pub fn replay_table(timings: &[Timing]) -> String {
     table("file and order", timings)
 }
 
+/// The walk's table, and below it the median of its ratios.
+pub fn walk_table(timings: &[WalkTiming]) -> String {
+    let mut text = String::new();
+    text.push_str("| table | moves | proved walk, moves/s | walker, moves/s | ratio |\n");
+    text.push_str("|---|---:|---:|---:|---:|\n");
+    let mut ratios = Vec::new();
+    for WalkTiming { name, moves, proved, walker } in timings {
+        let (proved, walker) = (proved.as_secs_f64(), walker.as_secs_f64());
+        let speeds = [proved, walker].map(|time| grouped(*moves as f64 / time));
+        let (ratio, moves) = (proved / walker, grouped(*moves as f64));
+        let [proved, walker] = speeds;
+        text.push_str(&format!("| {name} | {moves} | {proved} | {walker} | {ratio:.2} |\n"));
+        ratios.push(ratio);
+    }
+    ratios.sort_unstable_by(f64::total_cmp);
+    let (low, high) = (ratios[0], ratios[ratios.len() - 1]);
+    let median = (ratios[(ratios.len() - 1) / 2] + ratios[ratios.len() / 2]) / 2.0;
+    let spread = format!("from {low:.2} to {high:.2}, median {median:.2}");
+    format!("{text}\nThe ratio is {spread} over the {} tables.\n", ratios.len())
+}
+
+/// The sentence on the stack that the proved walk needs.
+pub fn stack(kib: usize) -> String {
+    let less = kib - PAGE_KIB;
+    format!(
+        "On a table of one task with 32 jobs of 16 instructions, whose only order has 512 steps, the
+proved walk runs in a thread with {kib} KiB of stack and overflows one with {less} KiB. That was found by
+halving, each size in a child process; the thread's own start and the call through the binding are
+part of it.
+"
+    )
+}
+
 /// A table whose inputs have this name.
 fn table(input: &str, timings: &[Timing]) -> String {
     let mut text = format!("| {input} | number | proved entry, ns | interpreter, ns | ratio |\n");
@@ -86,11 +121,18 @@ fn slowest(timings: &[Timing]) -> String {
 }
 
 /// The whole page; `load` is the load average before the first run.
-pub fn page(reads: &[Timing], replays: &[Timing], load: &str) -> String {
+pub fn page(
+    reads: &[Timing],
+    replays: &[Timing],
+    walks: &[WalkTiming],
+    stack: &str,
+    load: &str,
+) -> String {
     let cores = std::thread::available_parallelism().map_or(0, usize::from);
     let (model, date, architecture) = (model(), date(), std::env::consts::ARCH);
     let limit = LIMIT.as_secs();
     let (read_table, replay_table) = (read_table(reads), replay_table(replays));
+    let walk_table = walk_table(walks);
     let most = u128::from(TURNS) * MOST_SAMPLES;
     format!(
         "# Benchmarks
@@ -120,7 +162,18 @@ hand or at random; none is known to be the slowest that there is.
 
 The file is read first, by either side. The order of 512 steps is a complete one by random moves.
 
-{replay_table}"
+{replay_table}
+## Walking a table
+
+Tables whose walk holds after about 20,000,000 moves, so that every move of the tree is made. The
+other side is not the interpreter but a straightforward walker in Rust,
+`rust/benchmark/src/walker.rs`: over the same lent tables, by recursion, with one copy of the state a
+move, and built without overflow checks. The ratio is the proved walk's time by the walker's, each
+the median of {WALK_TURNS} walks in turn; both give one verdict and count. The proved walk's time has
+the reading of the file in it.
+
+{walk_table}
+{stack}"
     )
 }
 
