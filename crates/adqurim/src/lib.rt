@@ -5,8 +5,8 @@ pub mod words;
 
 use crate::words::put_run;
 use crate::words::put_walk;
+use acceptance::entries::read;
 use replay::entries::replay;
-use timing::entries::read;
 use walk::entries::walk_file;
 ghost use mathlib.Core.Path.{_≡_};
 ghost use lib.Dec.{leb};

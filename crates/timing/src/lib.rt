@@ -1,9 +1,5 @@
-// Response times and jobs: what a job is, the reader's entry whole, and the job list. Document 01, "Response times
+// Response times and jobs: what a job is, what each entry has of a file, and the job list. Document 01, "Response times
 // and jobs" and "Numbers by who causes them".
-pub mod entries;
-pub mod jobs;
-pub mod relations;
-pub mod response;
 
 use taskfile::Check;
 use taskfile::Judged;

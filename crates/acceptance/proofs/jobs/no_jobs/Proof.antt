@@ -1,0 +1,14 @@
+-- `acceptance::jobs::no_jobs` meets its contract: the empty list, filled up.
+-- Assumes nothing.
+use mathlib.Core.Path.{refl}
+use Rattle.taskfile.specs.Lists.{padded}
+use Rattle.timing.specs.JobParts.{jobListOf}
+use Rattle.acceptance.proofs.jobs.no_jobs.Statement.{statement}
+use Rattle.acceptance.proofs.jobs.no_jobs.Tie as tie
+
+returns : tie.Need-returns
+unfolding jobListOf padded
+returns c = refl
+
+pub no-jobs-spec : {M : Type 1} → statement M
+no-jobs-spec = tie.close (tie.spec returns)

@@ -1,0 +1,79 @@
+// What every entry has of a file, and the reader's entry.
+use crate::jobs::job_total;
+use crate::jobs::jobs_of;
+use crate::jobs::no_jobs;
+use reader::load_file;
+use response::responses_of;
+use tables::record_at;
+use taskfile::Check;
+use taskfile::Judged;
+use taskfile::Table;
+use timing::AcceptAnswer;
+use timing::JobList;
+use timing::ReadAnswer;
+ghost use mathlib.Core.Path.{_≡_};
+ghost use Rattle.timing.specs.Accepted.{accept};
+ghost use Rattle.timing.specs.AcceptParts.{AcceptedAs};
+ghost use Rattle.timing.specs.ReadEntries.{readAnswer};
+
+// The answer of a file that is refused: no response time and no job.
+pub fn refused_file(number: u8, place: u8, table: Table) -> AcceptAnswer
+    ensures { λ x. ⌜ x .check ≡ Check.Refused number place ⌝ }
+{
+    AcceptAnswer {
+        check: Check::Refused(number, place),
+        table: table,
+        responses: [0; 8],
+        list: no_jobs(),
+    }
+}
+
+// The file's table with its response times and jobs, or the first number that the file earns, 1 to 11.
+pub fn accept_file(file: &[u8]) -> AcceptAnswer
+    ensures { λ x. ⌜ AcceptedAs x (accept (now (file .entry))) ⌝ }
+{
+    let loaded = load_file(file);
+    let check = loaded.check;
+    let table = loaded.table;
+    if let Check::Refused(number, place) = check {
+        return refused_file(number, place, table);
+    }
+    let found = responses_of(table);
+    let timed = found.check;
+    let times = found.times;
+    if let Judged::Faulty(number, site) = timed {
+        return refused_file(number, record_at(file, site), table);
+    }
+    if 32 < job_total(table) {
+        return refused_file(11, 0, table);
+    }
+    AcceptAnswer {
+        check: Check::Passed,
+        table: table,
+        responses: times,
+        list: jobs_of(table, times),
+    }
+}
+
+// The reader's entry: number and place, the response times and the number of jobs.
+pub fn read(file: &[u8]) -> ReadAnswer
+    ensures { λ x. ⌜ x ≡ readAnswer (now (file .entry)) ⌝ }
+{
+    let accepted = accept_file(file);
+    let check = accepted.check;
+    if let Check::Refused(number, place) = check {
+        return ReadAnswer {
+            number: number,
+            place: place as u32,
+            responses: [0; 8],
+            jobs: 0,
+        };
+    }
+    let responses = accepted.responses;
+    ReadAnswer {
+        number: 0,
+        place: 0,
+        responses: responses,
+        jobs: accepted.list.count,
+    }
+}

@@ -1,0 +1,101 @@
+-- `response::responses_of` meets its contract. The loop's invariant: the tasks from task i on all meet their periods, and
+-- their response times are in the array, or the lowest of them that has none is known. The measure is i. Assumes nothing.
+use mathlib.Core.Path.{_≡_, refl, sym, _∙_}
+use Prim.Native.Nat.{suc, _-_, _≤_}
+use native.Mathlib.Omega.{arith}
+use borrow.Author.Tests.{not-true, not-false}
+use Rattle.timing.specs.TableResponseLaws.{AllFound, FoundFrom, found-none, found-fit, found-more, found-refused}
+use Rattle.response.proofs.responses_of.Statement.{statement}
+use Rattle.response.proofs.responses_of.Tie as tie
+
+abbrev Inv-loop : tie.InvT-loop
+Inv-loop t times₀ fit₀ lowest₀ i₀ times fit lowest i = (i ≤ t .tasks) × FoundFrom t i times fit lowest
+
+abbrev μ-loop : tie.MeasureT-loop
+μ-loop t times₀ fit₀ lowest₀ i₀ times fit lowest i = i
+
+-- what is known of the tasks above the one that a turn is at
+turn : (c : tie.In-loop Inv-loop μ-loop)
+    → FoundFrom (c .before .before .args .t) (suc (c .before .loop .i - 1)) (c .before .loop .times) (c .before .loop .fit)
+    (c .before .loop .lowest)
+turn c = let next : c .before .loop .i ≡ suc (c .before .loop .i - 1) = omega arith in rw (← next) (c .before .loop .inv .1)
+
+loop-holds : tie.Need-loop-holds Inv-loop μ-loop
+loop-holds c = (omega arith, found-none (c .pre))
+
+sub-i : tie.Need-sub-i Inv-loop μ-loop
+sub-i c = omega arith
+
+response-of-requires : tie.Need-response-of-requires Inv-loop μ-loop
+response-of-requires c κs = (c .before .before .pre, omega arith, found-fit (c .before .before .pre) (omega arith) (turn c))
+
+enum-known-bound : tie.Need-enum-known-bound Inv-loop μ-loop
+enum-known-bound c = c .match .keys1
+
+cast-at : tie.Need-cast-at Inv-loop μ-loop
+cast-at c = omega arith
+
+mul-times : tie.Need-mul-times Inv-loop μ-loop
+mul-times c = omega arith
+
+array-write-times : tie.Need-array-write-times Inv-loop μ-loop
+array-write-times c = omega arith
+
+loop-less : tie.Need-loop-less Inv-loop μ-loop
+loop-less c = omega arith
+
+loop-again : tie.Need-loop-again Inv-loop μ-loop
+loop-again c =
+    let begun = c .before .before .before .before in (
+      omega arith,
+      found-more (begun .before .before .pre) (omega arith) (turn begun)
+          (sym (c .before .before .before .response-of .ensures) ∙ c .before .bound .given .1),
+    )
+
+enum-told : tie.Need-enum-told Inv-loop μ-loop
+enum-told c = c .match .keys2
+
+loop-less-2 : tie.Need-loop-less-2 Inv-loop μ-loop
+loop-less-2 c = omega arith
+
+loop-again-2 : tie.Need-loop-again-2 Inv-loop μ-loop
+loop-again-2 c =
+    let begun = c .before .before .before in (
+      omega arith,
+      found-refused (begun .before .before .pre) (omega arith) (turn begun)
+          (sym (c .before .before .response-of .ensures) ∙ c .enum-told .given .1),
+    )
+
+returns : tie.Need-returns Inv-loop μ-loop
+returns c =
+    let head = c .before .before in
+    let ended : head .loop .i ≡ 0 = omega arith in
+    rw (rw ended at (head .loop .inv .1 .lacking (not-true _ (c .if1 .taken)))) refl
+
+returns-2 : tie.Need-returns-2 Inv-loop μ-loop
+returns-2 c =
+    let head = c .before .before in
+    let ended : head .loop .i ≡ 0 = omega arith in
+    let found : AllFound (head .before .args .t) 0 (head .loop .times) = rw ended at (head .loop .inv .1 .all (not-false _ (c .if1 .left))) in
+    rw (found .outcome) (refl, found .held)
+
+pub responses-of-spec : {M : Type 1} → statement M
+responses-of-spec =
+    tie.close
+    (tie.spec
+    Inv-loop
+    μ-loop
+    loop-holds
+    sub-i
+    response-of-requires
+    enum-known-bound
+    cast-at
+    mul-times
+    array-write-times
+    loop-less
+    loop-again
+    enum-told
+    loop-less-2
+    loop-again-2
+    returns
+    returns-2)
