@@ -11,11 +11,12 @@ ghost use mathlib.Core.Path.{_≡_};
 ghost use mathlib.Core.Bool.{true};
 ghost use Prim.Native.Nat.{_^_, _≤_, _<_, _∣_};
 ghost use lib.ListN.{drop};
+ghost use Rattle.taskfile.specs.declared.Table.{Table};
 ghost use Rattle.taskfile.specs.Judgement.{numbered, taskNumbers};
 ghost use Rattle.taskfile.specs.Tables.{tasksOf};
 ghost use Rattle.timing.specs.Accepted.{responsesOf};
 ghost use Rattle.timing.specs.Response.{roundedUp, tasksAbove, interference, responseOf};
-ghost use Rattle.timing.specs.ResponseParts.{Timeable, boundOf, SumFits, WithTask, ShareOf, LowerBound, AllFit, fitsFrom, ResponsesAs};
+ghost use Rattle.timing.specs.ResponseParts.{Timeable, Column, executionAt, periodAt, Times, TimesOf, boundOf, SumFits, WithTask, ShareOf, LowerBound, AllFit, fitsFrom, ResponsesAs};
 
 // A number of 32 bits as one of 64.
 pub fn wide(x: u32) -> u64
@@ -33,17 +34,49 @@ pub fn rounded_up(n: u64, d: u64) -> u64
     if n % d == 0 { q } else { q + 1 }
 }
 
-// How long tasks above task i keep the processor in an interval of length r.
-pub fn interference_of(t: Table, i: u8, r: u64) -> u64
-    requires { ⌜ Timeable t × (i < t .tasks) × (r < 2 ^ 32) ⌝ }
-    ensures { λ x. ⌜ (x ≡ interference (tasksAbove t (numbered i)) r) × (x < 2 ^ 36) ⌝ }
+// The execution times of a table's tasks, to be lent.
+pub fn executions_of(t: Table) -> [u64; 8]
+    requires { ⌜ Timeable t ⌝ }
+    ensures { λ r. ⌜ Column (executionAt t) (t .tasks) r ⌝ }
 {
-    let mut total: u64 = 0;
-    let mut k = (i as usize) + 1;
+    let mut executions = [0u64; 8];
+    let mut k: usize = 0;
     let end = t.tasks as usize;
     while k < end {
         let e = t.entries[k];
-        total += rounded_up(r, wide(e.period)) * wide(e.execution);
+        executions[k] = wide(e.execution);
+        k += 1;
+    }
+    executions
+}
+
+// The periods of a table's tasks, to be lent.
+pub fn periods_of(t: Table) -> [u64; 8]
+    requires { ⌜ Timeable t ⌝ }
+    ensures { λ r. ⌜ Column (periodAt t) (t .tasks) r ⌝ }
+{
+    let mut periods = [0u64; 8];
+    let mut k: usize = 0;
+    let end = t.tasks as usize;
+    while k < end {
+        let e = t.entries[k];
+        periods[k] = wide(e.period);
+        k += 1;
+    }
+    periods
+}
+
+// How long tasks above task i keep the processor in an interval of length r.
+pub fn interference_of(executions: &[u64; 8], periods: &[u64; 8], tasks: u8, i: u8, r: u64) -> u64
+    requires { ⌜ Times (now executions) (now periods) tasks × (i < tasks) × (r < 2 ^ 32) ⌝ }
+    ensures { λ x. ⌜ (x < 2 ^ 36) × ((t : Table) → TimesOf t (now (executions .entry)) (now (periods .entry)) tasks
+        → x ≡ interference (tasksAbove t (numbered i)) r) ⌝ }
+{
+    let mut total: u64 = 0;
+    let mut k = (i as usize) + 1;
+    let end = tasks as usize;
+    while k < end {
+        total += rounded_up(r, periods[k]) * executions[k];
         k += 1;
     }
     total
@@ -117,17 +150,17 @@ pub fn share_above(t: Table, i: u8, cap: u64) -> Share
 }
 
 // Climbs from a lower bound of every solution to the least solution, or past the period.
-pub fn climb(t: Table, i: u8, start: u64) -> Bound
-    requires { ⌜ Timeable t × (i < t .tasks) × LowerBound t (numbered i) start ⌝ }
+pub fn climb(t: Table, executions: &[u64; 8], periods: &[u64; 8], i: u8, start: u64) -> Bound
+    requires { ⌜ TimesOf t (now executions) (now periods) (t .tasks) × (i < t .tasks) × LowerBound t (numbered i) start ⌝ }
     ensures { λ x. ⌜ x ≡ boundOf (responseOf t (numbered i)) ⌝ }
 {
     let at = i as usize;
-    let e = t.entries[at];
-    let execution = wide(e.execution);
-    let period = wide(e.period);
+    let execution = executions[at];
+    let period = periods[at];
+    let tasks = t.tasks;
     let mut r = start;
     while r <= period {
-        let next = execution + interference_of(t, i, r);
+        let next = execution + interference_of(executions, periods, tasks, i, r);
         if next == r {
             return Bound::Within(r);
         }
@@ -138,45 +171,59 @@ pub fn climb(t: Table, i: u8, start: u64) -> Bound
 
 // Whether, in some interval of length 1 to b, base and the tasks from j on are done. Only the last multiple of each period and b
 // itself need a look, if each of those tasks meets its own period. It calls itself on the next task.
-pub fn fits_from(t: Table, j: u8, base: u64, b: u64) -> bool
-    requires { ⌜ Timeable t × (j ≤ t .tasks) × (base < 2 ^ 34) × (b < 2 ^ 32) ⌝ }
-    ensures { λ r. ⌜ r ≡ fitsFrom (drop j (tasksOf t)) base b ⌝ }
+pub fn fits_from(
+    executions: &[u64; 8],
+    periods: &[u64; 8],
+    tasks: u8,
+    j: u8,
+    base: u64,
+    b: u64,
+) -> bool
+    requires { ⌜ Times (now executions) (now periods) tasks × (j ≤ tasks) × (base < 2 ^ 34) × (b < 2 ^ 32) ⌝ }
+    ensures { λ r. ⌜ ((t : Table) → TimesOf t (now (executions .entry)) (now (periods .entry)) tasks
+        → r ≡ fitsFrom (drop j (tasksOf t)) base b) ⌝ }
 {
     if b < base {
         return false;
     }
-    if j == t.tasks {
+    if j == tasks {
         return true;
     }
     let at = j as usize;
-    let e = t.entries[at];
-    let c = wide(e.execution);
-    let p = wide(e.period);
+    let c = executions[at];
+    let p = periods[at];
     let f = b / p;
     if b % p != 0 {
-        if fits_from(t, j + 1, base + (f + 1) * c, b) {
+        if fits_from(executions, periods, tasks, j + 1, base + (f + 1) * c, b) {
             return true;
         }
     }
-    fits_from(t, j + 1, base + f * c, f * p)
+    fits_from(executions, periods, tasks, j + 1, base + f * c, f * p)
 }
 
 // At most `turns` turns of the climb from a lower bound.
-pub fn climb_some(t: Table, i: u8, start: u64, turns: u8) -> u64
-    requires { ⌜ Timeable t × (i < t .tasks) × LowerBound t (numbered i) start ⌝ }
+pub fn climb_some(
+    t: Table,
+    executions: &[u64; 8],
+    periods: &[u64; 8],
+    i: u8,
+    start: u64,
+    turns: u8,
+) -> u64
+    requires { ⌜ TimesOf t (now executions) (now periods) (t .tasks) × (i < t .tasks) × LowerBound t (numbered i) start ⌝ }
     ensures { λ r. ⌜ LowerBound t (numbered i) r ⌝ }
 {
     let at = i as usize;
-    let e = t.entries[at];
-    let execution = wide(e.execution);
-    let period = wide(e.period);
+    let execution = executions[at];
+    let period = periods[at];
+    let tasks = t.tasks;
     let mut r = start;
     let mut left = turns;
     while 0 < left {
         if period < r {
             return r;
         }
-        let next = execution + interference_of(t, i, r);
+        let next = execution + interference_of(executions, periods, tasks, i, r);
         if next == r {
             return r;
         }
@@ -188,28 +235,29 @@ pub fn climb_some(t: Table, i: u8, start: u64, turns: u8) -> u64
 
 // The response time of task i from a lower bound, where every task above meets its period: found by halving between
 // the lower bound and the period.
-pub fn search(t: Table, i: u8, start: u64) -> Bound
-    requires { ⌜ Timeable t × (i < t .tasks) × LowerBound t (numbered i) start × AllFit (tasksAbove t (numbered i)) ⌝ }
+pub fn search(t: Table, executions: &[u64; 8], periods: &[u64; 8], i: u8, start: u64) -> Bound
+    requires { ⌜ TimesOf t (now executions) (now periods) (t .tasks) × (i < t .tasks) × LowerBound t (numbered i) start
+        × AllFit (tasksAbove t (numbered i)) ⌝ }
     ensures { λ x. ⌜ x ≡ boundOf (responseOf t (numbered i)) ⌝ }
 {
     let at = i as usize;
-    let e = t.entries[at];
-    let execution = wide(e.execution);
-    let period = wide(e.period);
+    let execution = executions[at];
+    let period = periods[at];
+    let tasks = t.tasks;
     if period < start {
         return Bound::Overload;
     }
-    if execution + interference_of(t, i, start) == start {
+    if execution + interference_of(executions, periods, tasks, i, start) == start {
         return Bound::Within(start);
     }
-    if !fits_from(t, i + 1, execution, period) {
+    if !fits_from(executions, periods, tasks, i + 1, execution, period) {
         return Bound::Overload;
     }
     let mut lo = start;
     let mut hi = period;
     while lo < hi {
         let mid = lo + (hi - lo) / 2;
-        if fits_from(t, i + 1, execution, mid) {
+        if fits_from(executions, periods, tasks, i + 1, execution, mid) {
             hi = mid;
         } else {
             lo = mid + 1;
@@ -221,22 +269,23 @@ pub fn search(t: Table, i: u8, start: u64) -> Bound
 // The response time of task i, if it is at most the period. No interval shorter than the start can be a solution:
 // each solution R has R × (whole − part) ≥ C × whole, where the tasks above need part of whole.
 // Where `fit` says that the tasks above all meet their periods, what a short climb leaves is found by halving.
-pub fn response_of(t: Table, i: u8, fit: bool) -> Bound
-    requires { ⌜ Timeable t × (i < t .tasks) × (fit ≡ true → AllFit (tasksAbove t (numbered i))) ⌝ }
+pub fn response_of(t: Table, executions: &[u64; 8], periods: &[u64; 8], i: u8, fit: bool) -> Bound
+    requires { ⌜ TimesOf t (now executions) (now periods) (t .tasks) × (i < t .tasks)
+        × (fit ≡ true → AllFit (tasksAbove t (numbered i))) ⌝ }
     ensures { λ x. ⌜ x ≡ boundOf (responseOf t (numbered i)) ⌝ }
 {
     let at = i as usize;
-    let e = t.entries[at];
-    let execution = wide(e.execution);
+    let execution = executions[at];
     let s = share_above(t, i, 9223372036854775807 / execution);
     if s.whole <= s.part {
         return Bound::Overload;
     }
     let start = rounded_up(execution * s.whole, s.whole - s.part);
     if fit {
-        return search(t, i, climb_some(t, i, start, 16));
+        let higher = climb_some(t, executions, periods, i, start, 16);
+        return search(t, executions, periods, i, higher);
     }
-    climb(t, i, start)
+    climb(t, executions, periods, i, start)
 }
 
 // The response times of all tasks, or 10 at the lowest task that has none. From the highest task down, so that
@@ -245,13 +294,15 @@ pub fn responses_of(t: Table) -> Responses
     requires { ⌜ Timeable t ⌝ }
     ensures { λ x. ⌜ ResponsesAs x (responsesOf t (taskNumbers t)) ⌝ }
 {
+    let executions = executions_of(t);
+    let periods = periods_of(t);
     let mut times = [0u64; 8];
     let mut fit = true;
     let mut lowest: u8 = 0;
     let mut i = t.tasks;
     while 0 < i {
         i -= 1;
-        let bound = response_of(t, i, fit);
+        let bound = response_of(t, &executions, &periods, i, fit);
         match bound {
             Bound::Within(r) => {
                 let at = i as usize;

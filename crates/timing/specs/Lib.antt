@@ -10,6 +10,7 @@ pub mod JobParts
 pub mod Jobs
 pub mod JobFacts
 pub mod JobNumberLaws
+pub mod LentTimesLaws
 pub mod ReadEntries
 pub mod RelationLaws
 pub mod Relations

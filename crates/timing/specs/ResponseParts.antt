@@ -1,5 +1,6 @@
 -- The climb to the response time as its functions yield it: the share of the processor that the tasks above need, the lower bound
--- that it starts from, the test whether an interval of some length is long enough, and the answers as declared types.
+-- that it starts from, the test whether an interval of some length is long enough, the arrays that the tasks' times are lent in,
+-- and the answers as declared types.
 -- Assumes nothing.
 use mathlib.Core.Path.{_≡_}
 use Prim.Native.Nat.{ℕ, _+_, _*_, _/_, _%_, _^_, _≤_, _<_}
@@ -7,12 +8,14 @@ use mathlib.Core.Bool.{Bool, not, _&&_, _||_}
 use mathlib.Core.List.{List, [], _∷_}
 use mathlib.Core.Option.{Option, none, some}
 use lib.Dec.{leb, eqb}
+use lib.ListN.{length, getD}
 use Rattle.taskfile.specs.declared.Judged.the-variants.{Sound, Faulty}
 use Rattle.taskfile.specs.declared.Site.{Site}
 use Rattle.taskfile.specs.declared.Table.{Table}
 use Rattle.taskfile.specs.declared.Task.{Task}
 use Rattle.taskfile.specs.declared.TaskEntry.{TaskEntry}
 use Rattle.taskfile.specs.Checked.{Checked, refused, passed}
+use Rattle.taskfile.specs.Judgement.{numbered}
 use Rattle.taskfile.specs.JudgingParts.{Shaped}
 use Rattle.taskfile.specs.Lists.{padded}
 use Rattle.taskfile.specs.Tables.{taskOf}
@@ -27,6 +30,33 @@ pub record Timeable (t : Table) : Type 0 where
   pub shaped : Shaped t
   pub positive : (i : Task) → i .0 < t .tasks → 1 ≤ taskOf t i .execution
   pub within : (i : Task) → i .0 < t .tasks → taskOf t i .execution ≤ taskOf t i .period
+
+-- an array of eight numbers, of which the first n are f 0, f 1, .. in 32 bits
+pub record Column (f : ℕ → ℕ) (n : ℕ) (xs : List ℕ) : Type 0 where
+  pub full : length xs ≡ 8
+  pub held : (k : ℕ) → k < n → getD xs k 0 ≡ f k
+  pub narrow : (k : ℕ) → k < n → getD xs k 0 < 2 ^ 32
+
+-- the execution time and the period of task k
+unfoldable pub executionAt : Table → ℕ → ℕ
+executionAt t k = taskOf t (numbered k) .execution
+
+unfoldable pub periodAt : Table → ℕ → ℕ
+periodAt t k = taskOf t (numbered k) .period
+
+-- execution times and periods of n tasks with 1 ≤ C ≤ P, in 32 bits
+pub record Times (Cs Ps : List ℕ) (n : ℕ) : Type 0 where
+  pub few : n ≤ 8
+  pub positive : (k : ℕ) → k < n → 1 ≤ getD Cs k 0
+  pub within : (k : ℕ) → k < n → getD Cs k 0 ≤ getD Ps k 0
+  pub narrow : (k : ℕ) → k < n → getD Ps k 0 < 2 ^ 32
+
+-- those of the n tasks of a table
+pub record TimesOf (t : Table) (Cs Ps : List ℕ) (n : ℕ) : Type 0 where
+  pub timeable : Timeable t
+  pub count : t .tasks ≡ n
+  pub executions : Column (executionAt t) n Cs
+  pub periods : Column (periodAt t) n Ps
 
 -- a task's response time as the declared enum
 unfoldable pub boundOf : Option ℕ → Bound

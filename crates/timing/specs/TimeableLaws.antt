@@ -2,8 +2,7 @@
 -- and a sum over the tasks above one is worked out task by task.
 -- Assumes nothing.
 use mathlib.Core.Path.{_≡_, refl, sym, ap, _∙_}
-use Prim.Native.Nat.{ℕ, zero, suc, _+_, _*_, _^_, _≤_, _<_}
-use native.Mathlib.Nat.{mul-le-mul-left}
+use Prim.Native.Nat.{ℕ, zero, suc, _+_, _*_, _≤_, _<_}
 use native.Mathlib.Numerals.{add-one}
 use native.Mathlib.Omega.{arith}
 use mathlib.Core.List.{List, [], _∷_, map}
@@ -17,7 +16,6 @@ use Rattle.taskfile.specs.Tables.{tasksOf, taskOf, noTask}
 use Rattle.taskfile.specs.Judgement.{numbered}
 use Rattle.timing.specs.Jobs.{jobsWithin}
 use Rattle.timing.specs.Response.{roundedUp, tasksAbove, interference, demand}
-use Rattle.timing.specs.ResponseLaws.{roundedUp-tight}
 use Rattle.timing.specs.ResponseParts.{Timeable}
 
 -- below the length, what stands at an index does not turn on the default
@@ -90,15 +88,6 @@ pub interference-next : {t : Table} → Timeable t → (k r : ℕ) {C P : ℕ} �
 unfolding interference
 interference-next timeable k r lt read =
     sum-step (timeable .shaped) (λ e. roundedUp r (e .period) * e .execution) k lt ∙ rw (read .execution, read .period)
-
--- the term fits
-pub interference-step : {t : Table} → Timeable t → (k r : ℕ) {C P u : ℕ} → k < t .tasks → r < 2 ^ 32 → P < 2 ^ 32
-    → TimesRead t k C P → u ≡ roundedUp r P
-    → (u * C < 2 ^ 33) × (interference (drop k (tasksOf t)) r ≡ u * C + interference (drop (k + 1) (tasksOf t)) r)
-interference-step timeable k r {C} {P} {u} lt small narrow read e = (
-  omega (arith, mul-le-mul-left u (read .within), rw (← e) at (roundedUp-tight r P (omega arith))),
-  rw e (interference-next timeable k r lt read),
-)
 
 pub interference-end : {t : Table} → Timeable t → (k r : ℕ) → t .tasks ≤ k → interference (drop k (tasksOf t)) r ≡ 0
 unfolding interference

@@ -1,78 +1,95 @@
 -- `response::climb` meets its contract. The loop's invariant: r is a lower bound of the solutions, at which the demand is
--- not below r. Where the demand is r, r is the least solution; else it is a higher lower bound. The measure is how far r is from
--- passing the period. Assumes nothing.
+-- not below r, for any table of these times of which that holds at the start. Where the demand is r, r is the least solution; else
+-- it is a higher lower bound. The measure is how far r is from passing the period. Assumes nothing.
 use mathlib.Core.Path.{_≡_, sym, ap, _∙_}
-use Prim.Native.Nat.{suc, _+_, _-_}
+use Prim.Native.Nat.{suc, _+_, _-_, _^_, _<_}
 use native.Mathlib.Omega.{arith}
+use lib.ListN.{getD}
+use Rattle.taskfile.specs.declared.Table.{Table}
 use Rattle.taskfile.specs.Judgement.{numbered}
 use Rattle.timing.specs.ClimbLaws.{climb-found, climb-higher, climb-past}
+use Rattle.timing.specs.LentTimesLaws.{lent-read, lent-times}
 use Rattle.timing.specs.Response.{demand}
-use Rattle.timing.specs.ResponseParts.{boundOf, LowerBound}
-use Rattle.timing.specs.TimeableLaws.{TimesRead, times-read, demand-read}
+use Rattle.timing.specs.ResponseParts.{boundOf, LowerBound, TimesOf}
+use Rattle.timing.specs.TimeableLaws.{TimesRead, demand-read}
 use Rattle.response.proofs.climb.Statement.{statement}
 use Rattle.response.proofs.climb.Tie as tie
 
 abbrev Inv-loop : tie.InvT-loop
-Inv-loop i start t at execution period r₀ r = LowerBound t (numbered i) r
+Inv-loop executions periods i start at execution period tasks r₀ r =
+    (t : Table) → TimesOf t executions periods tasks → LowerBound t (numbered i) start → LowerBound t (numbered i) r
 
 abbrev μ-loop : tie.MeasureT-loop
-μ-loop i start t at execution period r₀ r = suc period - r
+μ-loop executions periods i start at execution period tasks r₀ r = suc period - r
+
+-- where the call began
+abbrev entry : tie.At-loop Inv-loop μ-loop → tie.Start Inv-loop μ-loop
+entry c = c .before .before .before
 
 -- the times read before the loop are those of task i
-read : (c : tie.After-wide2 Inv-loop μ-loop)
-    → TimesRead (c .before .before .before .args .t1) (c .before .before .before .args .i) (c .before .wide .result) (c .wide2 .result)
-read c =
-    let given = c .before .before .before .pre in
-    times-read (given .0) _ _ (given .1) (c .before .wide .ensures .0) (c .wide2 .ensures .0)
+read : (c : tie.At-loop Inv-loop μ-loop)
+    → TimesRead (entry c .args .t) (entry c .args .i) (getD (entry c .args .executions .now) (entry c .args .i) 0)
+    (getD (entry c .args .periods .now) (entry c .args .i) 0)
+read c = lent-read (entry c .pre .0) _ (entry c .pre .1)
+
+-- the period is one of 32 bits
+narrow : (c : tie.At-loop Inv-loop μ-loop) → getD (entry c .args .periods .now) (entry c .args .i) 0 < 2 ^ 32
+narrow c = entry c .pre .0 .periods .narrow _ (entry c .pre .1)
+
+-- a lower bound of this table's solutions
+bound : (c : tie.At-loop Inv-loop μ-loop) → LowerBound (entry c .args .t) (numbered (entry c .args .i)) (c .loop .r)
+bound c = c .loop .inv _ (entry c .pre .0) (entry c .pre .2)
 
 -- where the turn began
 abbrev head : tie.After-interference-of Inv-loop μ-loop → tie.At-loop Inv-loop μ-loop
 head c = c .before .before
 
 -- what the turn works out is the demand
-next : (c : tie.After-interference-of Inv-loop μ-loop)
-    → head c .before .before .wide .result + c .interference-of .result
-    ≡ demand (head c .before .before .before .before .args .t1) (numbered (head c .before .before .before .before .args .i)) (head c .loop .r)
-next c = demand-read (read (head c .before)) _ (c .interference-of .ensures .0)
+next : (c : tie.After-interference-of Inv-loop μ-loop) {t : Table}
+    → TimesOf t (entry (head c) .args .executions .now) (entry (head c) .args .periods .now) (entry (head c) .args .t .tasks)
+    → getD (entry (head c) .args .executions .now) (entry (head c) .args .i) 0 + c .interference-of .result
+    ≡ demand t (numbered (entry (head c) .args .i)) (head c .loop .r)
+next c times = demand-read (lent-read times _ (entry (head c) .pre .1)) _ (c .interference-of .ensures .1 _ times)
 
-mul-e : tie.Need-mul-e Inv-loop μ-loop
-mul-e c = omega arith
+mul-execution : tie.Need-mul-execution Inv-loop μ-loop
+mul-execution c = omega arith
 
-element-copy-out-e : tie.Need-element-copy-out-e Inv-loop μ-loop
-element-copy-out-e c = omega arith
+element-copy-out-execution : tie.Need-element-copy-out-execution Inv-loop μ-loop
+element-copy-out-execution c = omega (arith, lent-times (c .pre .0) .few)
 
-wide-requires : tie.Need-wide-requires Inv-loop μ-loop
-wide-requires c κs = tt
+mul-period : tie.Need-mul-period Inv-loop μ-loop
+mul-period c = omega arith
 
-wide-requires-2 : tie.Need-wide-requires-2 Inv-loop μ-loop
-wide-requires-2 c κs = tt
+element-copy-out-period : tie.Need-element-copy-out-period Inv-loop μ-loop
+element-copy-out-period c = omega (arith, lent-times (c .before .pre .0) .few)
 
 loop-holds : tie.Need-loop-holds Inv-loop μ-loop
-loop-holds c = c .before .before .before .pre .2
+loop-holds c = λ t times lower. lower
 
 interference-of-requires : tie.Need-interference-of-requires Inv-loop μ-loop
 interference-of-requires c κs =
-    let given = c .before .before .before .before .before .pre in (given .0, given .1, omega arith)
+    let given = entry (c .before) .pre in (lent-times (given .0), given .1, omega (arith, narrow (c .before)))
 
 add-next : tie.Need-add-next Inv-loop μ-loop
-add-next c = omega arith
+add-next c = omega (arith, read (head c), narrow (head c))
 
 returns : tie.Need-returns Inv-loop μ-loop
 unfolding boundOf
 returns c =
-    let bound = head (c .before) .loop .inv in
-    let solves = sym (next (c .before)) ∙ c .if1 .taken in
-    sym (ap boundOf (climb-found bound solves (omega (arith, read (head (c .before) .before)))))
+    let start = head (c .before) in
+    let solves = sym (next (c .before) (entry start .pre .0)) ∙ c .if1 .taken in
+    sym (ap boundOf (climb-found (bound start) solves (omega (arith, read start))))
 
 loop-less : tie.Need-loop-less Inv-loop μ-loop
-loop-less c = omega (arith, next (c .before), head (c .before) .loop .inv .rises)
+loop-less c =
+    let start = head (c .before) in omega (arith, next (c .before) (entry start .pre .0), bound start .rises)
 
 loop-again : tie.Need-loop-again Inv-loop μ-loop
-loop-again c = rw (next (c .before)) (climb-higher (head (c .before) .loop .inv))
+loop-again c = λ t times lower. rw (next (c .before) times) (climb-higher (head (c .before) .loop .inv t times lower))
 
 returns-2 : tie.Need-returns-2 Inv-loop μ-loop
 unfolding boundOf
-returns-2 c = sym (ap boundOf (climb-past (c .before .loop .inv) (omega (arith, read (c .before .before)))))
+returns-2 c = sym (ap boundOf (climb-past (bound (c .before)) (omega (arith, read (c .before)))))
 
 pub climb-spec : {M : Type 1} → statement M
 climb-spec =
@@ -80,10 +97,10 @@ climb-spec =
     (tie.spec
     Inv-loop
     μ-loop
-    mul-e
-    element-copy-out-e
-    wide-requires
-    wide-requires-2
+    mul-execution
+    element-copy-out-execution
+    mul-period
+    element-copy-out-period
     loop-holds
     interference-of-requires
     add-next

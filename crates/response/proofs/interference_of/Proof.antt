@@ -1,75 +1,70 @@
 -- `response::interference_of` meets its contract. The loop's invariant: the total so far and the interference of the tasks
--- from k on make that of all tasks above i, and the total is below k × 2^33, since 1 ≤ C ≤ P makes each term less than r + P.
--- The measure is the number of tasks left. Assumes nothing.
-use mathlib.Core.Path.{_≡_, refl}
+-- from k on make that of all tasks above i, for any table of these times, and the total is below k × 2^33, since 1 ≤ C ≤ P makes
+-- each term less than r + P. The measure is the number of tasks left. Assumes nothing.
+use mathlib.Core.Path.{_≡_}
 use Prim.Native.Nat.{_≤_, _<_, _+_, _*_, _-_, _^_}
 use native.Mathlib.Numerals.{add-one}
 use native.Mathlib.Omega.{arith}
-use lib.ListN.{drop}
+use lib.ListN.{getD, drop}
+use Rattle.taskfile.specs.declared.Table.{Table}
 use Rattle.taskfile.specs.Tables.{tasksOf}
 use Rattle.taskfile.specs.Judgement.{numbered}
+use Rattle.timing.specs.LentTimesLaws.{lent-fits, lent-step, lent-end}
 use Rattle.timing.specs.Response.{interference, tasksAbove}
-use Rattle.timing.specs.TimeableLaws.{times-read, interference-step, interference-end}
+use Rattle.timing.specs.ResponseParts.{TimesOf}
 use Rattle.response.proofs.interference_of.Statement.{statement}
 use Rattle.response.proofs.interference_of.Tie as tie
 
 abbrev Inv-loop : tie.InvT-loop
-Inv-loop i r t total₀ k₀ end total k =
+Inv-loop executions periods tasks i r total₀ k₀ end total k =
     (k ≤ end)
     × (total < k * 2 ^ 33)
-    × (total + interference (drop k (tasksOf t)) r ≡ interference (tasksAbove t (numbered i)) r)
+    × ((t : Table) → TimesOf t executions periods tasks
+    → total + interference (drop k (tasksOf t)) r ≡ interference (tasksAbove t (numbered i)) r)
 
 abbrev μ-loop : tie.MeasureT-loop
-μ-loop i r t total₀ k₀ end total k = end - k
+μ-loop executions periods tasks i r total₀ k₀ end total k = end - k
 
 -- where the turn began
-abbrev head : tie.After-wide2 Inv-loop μ-loop → tie.At-loop Inv-loop μ-loop
-head c = c .before .before .before .before .before
+abbrev head : tie.After-rounded-up Inv-loop μ-loop → tie.At-loop Inv-loop μ-loop
+head c = c .before .before .before
 
--- the term that the turn adds fits, and is what the interference from task k on has more than that from the next task on
-term : (c : tie.After-wide2 Inv-loop μ-loop)
-    → (c .before .rounded-up .result * c .wide2 .result < 2 ^ 33)
-    × (interference (drop (head c .loop .k) (tasksOf (head c .before .args .t1))) (head c .before .args .r)
-    ≡ c .before .rounded-up .result * c .wide2 .result
-    + interference (drop (head c .loop .k + 1) (tasksOf (head c .before .args .t1))) (head c .before .args .r))
+-- the term that the turn adds fits
+term : (c : tie.After-rounded-up Inv-loop μ-loop) → c .rounded-up .result * getD (head c .before .args .executions .now) (head c .loop .k) 0 < 2 ^ 33
 term c =
     let given = head c .before .pre in
-    let below = c .before .before .before .before .loop-test .taken in
-    let period = c .before .before .wide .ensures in
-    interference-step (given .0) _ _ below (given .2) (period .1)
-    (times-read (given .0) _ _ below (c .wide2 .ensures .0) (period .0)) (c .before .rounded-up .ensures)
+    lent-fits (given .0) _ _ (c .before .before .loop-test .taken) (given .2) (c .rounded-up .ensures)
 
 add-k : tie.Need-add-k Inv-loop μ-loop
 add-k c = omega arith
 
-cast-end : tie.Need-cast-end Inv-loop μ-loop
-cast-end c = omega arith
-
 loop-holds : tie.Need-loop-holds Inv-loop μ-loop
 unfolding tasksAbove
-loop-holds c = rw add-one (omega arith)
+loop-holds c = (omega arith, omega arith, λ t times. rw add-one (omega arith))
 
-mul-e : tie.Need-mul-e Inv-loop μ-loop
-mul-e c = omega arith
+mul-rounded-up : tie.Need-mul-rounded-up Inv-loop μ-loop
+mul-rounded-up c = omega arith
 
-element-copy-out-e : tie.Need-element-copy-out-e Inv-loop μ-loop
-element-copy-out-e c = omega arith
-
-wide-requires : tie.Need-wide-requires Inv-loop μ-loop
-wide-requires c κs = tt
+element-copy-out-rounded-up : tie.Need-element-copy-out-rounded-up Inv-loop μ-loop
+element-copy-out-rounded-up c = omega arith
 
 rounded-up-requires : tie.Need-rounded-up-requires Inv-loop μ-loop
 rounded-up-requires c κs =
-    omega (arith, times-read (c .before .before .before .before .pre .0) _ _ (c .before .before .loop-test .taken) refl (c .wide .ensures .0))
-
-wide-requires-2 : tie.Need-wide-requires-2 Inv-loop μ-loop
-wide-requires-2 c κs = tt
+    let times = c .before .before .before .pre .0 in
+    let below = c .before .loop-test .taken in
+    omega (arith, times .positive _ below, times .within _ below)
 
 mul-total : tie.Need-mul-total Inv-loop μ-loop
-mul-total c = omega (arith, term c)
+mul-total c = omega arith
+
+element-copy-out-total : tie.Need-element-copy-out-total Inv-loop μ-loop
+element-copy-out-total c = omega arith
+
+mul-total-2 : tie.Need-mul-total-2 Inv-loop μ-loop
+mul-total-2 c = omega (arith, term (c .before))
 
 add-total : tie.Need-add-total Inv-loop μ-loop
-add-total c = omega (arith, term c)
+add-total c = omega (arith, term (c .before))
 
 add-k-2 : tie.Need-add-k-2 Inv-loop μ-loop
 add-k-2 c = omega arith
@@ -78,11 +73,20 @@ loop-less : tie.Need-loop-less Inv-loop μ-loop
 loop-less c = omega arith
 
 loop-again : tie.Need-loop-again Inv-loop μ-loop
-loop-again c = omega (arith, term c)
+loop-again c =
+    let start = head (c .before) in
+    let turn = c .before .before .before in (
+      omega arith,
+      omega (arith, term (c .before)),
+      λ t times. omega (arith, lent-step times (start .loop .k) (start .before .args .r) (turn .loop-test .taken) (c .before .rounded-up .ensures), start .loop .inv .2 t times),
+    )
 
 returns : tie.Need-returns Inv-loop μ-loop
 returns c =
-    omega (arith, interference-end (c .before .before .pre .0) (c .before .loop .k) (c .before .before .args .r) (c .loop-test .left))
+    let start = c .before in (
+      omega arith,
+      λ t times. omega (arith, lent-end times (start .loop .k) (start .before .args .r) (c .loop-test .left), start .loop .inv .2 t times),
+    )
 
 pub interference-of-spec : {M : Type 1} → statement M
 interference-of-spec =
@@ -91,14 +95,13 @@ interference-of-spec =
     Inv-loop
     μ-loop
     add-k
-    cast-end
     loop-holds
-    mul-e
-    element-copy-out-e
-    wide-requires
+    mul-rounded-up
+    element-copy-out-rounded-up
     rounded-up-requires
-    wide-requires-2
     mul-total
+    element-copy-out-total
+    mul-total-2
     add-total
     add-k-2
     loop-less

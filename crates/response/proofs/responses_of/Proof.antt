@@ -4,30 +4,48 @@ use mathlib.Core.Path.{_≡_, refl, sym, _∙_}
 use Prim.Native.Nat.{suc, _-_, _≤_}
 use native.Mathlib.Omega.{arith}
 use borrow.Author.Tests.{not-true, not-false}
+use Rattle.timing.specs.LentTimesLaws.{times-filled}
 use Rattle.timing.specs.TableResponseLaws.{AllFound, FoundFrom, found-none, found-fit, found-more, found-refused}
 use Rattle.response.proofs.responses_of.Statement.{statement}
 use Rattle.response.proofs.responses_of.Tie as tie
 
 abbrev Inv-loop : tie.InvT-loop
-Inv-loop t times₀ fit₀ lowest₀ i₀ times fit lowest i = (i ≤ t .tasks) × FoundFrom t i times fit lowest
+Inv-loop t executions periods times₀ fit₀ lowest₀ i₀ times fit lowest i = (i ≤ t .tasks) × FoundFrom t i times fit lowest
 
 abbrev μ-loop : tie.MeasureT-loop
-μ-loop t times₀ fit₀ lowest₀ i₀ times fit lowest i = i
+μ-loop t executions periods times₀ fit₀ lowest₀ i₀ times fit lowest i = i
+
+-- where the call began
+abbrev entry : tie.At-loop Inv-loop μ-loop → tie.Start Inv-loop μ-loop
+entry c = c .before .before .before
 
 -- what is known of the tasks above the one that a turn is at
 turn : (c : tie.In-loop Inv-loop μ-loop)
-    → FoundFrom (c .before .before .args .t) (suc (c .before .loop .i - 1)) (c .before .loop .times) (c .before .loop .fit)
+    → FoundFrom (entry (c .before) .args .t) (suc (c .before .loop .i - 1)) (c .before .loop .times) (c .before .loop .fit)
     (c .before .loop .lowest)
 turn c = let next : c .before .loop .i ≡ suc (c .before .loop .i - 1) = omega arith in rw (← next) (c .before .loop .inv .1)
 
+executions-of-requires : tie.Need-executions-of-requires Inv-loop μ-loop
+executions-of-requires c κs = c .pre
+
+periods-of-requires : tie.Need-periods-of-requires Inv-loop μ-loop
+periods-of-requires c κs = c .before .pre
+
 loop-holds : tie.Need-loop-holds Inv-loop μ-loop
-loop-holds c = (omega arith, found-none (c .pre))
+loop-holds c = (omega arith, found-none (c .before .before .pre))
 
 sub-i : tie.Need-sub-i Inv-loop μ-loop
 sub-i c = omega arith
 
 response-of-requires : tie.Need-response-of-requires Inv-loop μ-loop
-response-of-requires c κs = (c .before .before .pre, omega arith, found-fit (c .before .before .pre) (omega arith) (turn c))
+response-of-requires c κs =
+    let begun = c .before .before in
+    let given = entry (begun .before) .pre in
+    let filled = begun .before .before in (
+      times-filled given (filled .before .executions-of .ensures) (filled .periods-of .ensures),
+      omega arith,
+      found-fit given (omega arith) (turn begun),
+    )
 
 enum-known-bound : tie.Need-enum-known-bound Inv-loop μ-loop
 enum-known-bound c = c .match .keys1
@@ -46,9 +64,9 @@ loop-less c = omega arith
 
 loop-again : tie.Need-loop-again Inv-loop μ-loop
 loop-again c =
-    let begun = c .before .before .before .before in (
+    let begun = c .before .before .before .before .before .before in (
       omega arith,
-      found-more (begun .before .before .pre) (omega arith) (turn begun)
+      found-more (entry (begun .before) .pre) (omega arith) (turn begun)
           (sym (c .before .before .before .response-of .ensures) ∙ c .before .bound .given .1),
     )
 
@@ -60,9 +78,9 @@ loop-less-2 c = omega arith
 
 loop-again-2 : tie.Need-loop-again-2 Inv-loop μ-loop
 loop-again-2 c =
-    let begun = c .before .before .before in (
+    let begun = c .before .before .before .before .before in (
       omega arith,
-      found-refused (begun .before .before .pre) (omega arith) (turn begun)
+      found-refused (entry (begun .before) .pre) (omega arith) (turn begun)
           (sym (c .before .before .response-of .ensures) ∙ c .enum-told .given .1),
     )
 
@@ -76,7 +94,7 @@ returns-2 : tie.Need-returns-2 Inv-loop μ-loop
 returns-2 c =
     let head = c .before .before in
     let ended : head .loop .i ≡ 0 = omega arith in
-    let found : AllFound (head .before .args .t) 0 (head .loop .times) = rw ended at (head .loop .inv .1 .all (not-false _ (c .if1 .left))) in
+    let found : AllFound (entry head .args .t) 0 (head .loop .times) = rw ended at (head .loop .inv .1 .all (not-false _ (c .if1 .left))) in
     rw (found .outcome) (refl, found .held)
 
 pub responses-of-spec : {M : Type 1} → statement M
@@ -85,6 +103,8 @@ responses-of-spec =
     (tie.spec
     Inv-loop
     μ-loop
+    executions-of-requires
+    periods-of-requires
     loop-holds
     sub-i
     response-of-requires

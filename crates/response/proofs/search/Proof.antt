@@ -1,105 +1,135 @@
--- `response::search` meets its contract. The loop's invariant: no solution is below lo, and one is not above hi. A look at
--- the middle tells on which side of it the least solution is, since the test by scheduling points is right where the tasks above
--- meet their periods. The measure is how far lo is from hi. Assumes nothing.
+-- `response::search` meets its contract. The loop's invariant: no solution is below lo, and one is not above hi, for any table of
+-- these times with that lower bound in which the tasks above meet their periods. A look at the middle tells on which side of it the
+-- least solution is, since the test by scheduling points is right there. The measure is how far lo is from hi. Assumes nothing.
 use mathlib.Core.Path.{_≡_, sym, ap, _∙_}
 use mathlib.Core.Logic.{_↔_}
 use Prim.Native.Nat.{ℕ, _+_, _-_, _^_, _≤_, _<_}
 use native.Mathlib.Omega.{arith}
 use mathlib.Core.Bool.{Bool, true, false≢true}
-use lib.ListN.{drop}
+use lib.ListN.{getD, drop}
 use borrow.Author.Tests.{not-true, not-false}
+use Rattle.taskfile.specs.declared.Table.{Table}
 use Rattle.taskfile.specs.Judgement.{numbered}
 use Rattle.taskfile.specs.Tables.{tasksOf, taskOf}
 use Rattle.timing.specs.ClimbLaws.{climb-found, climb-past}
-use Rattle.timing.specs.ResponseParts.{boundOf, fitsFrom}
+use Rattle.timing.specs.LentTimesLaws.{lent-read, lent-times}
+use Rattle.timing.specs.Response.{tasksAbove}
+use Rattle.timing.specs.ResponseParts.{boundOf, fitsFrom, LowerBound, AllFit, TimesOf}
 use Rattle.timing.specs.SearchLaws.{DoneBy, Between, done-read, search-none, search-start, search-down, search-up, search-found}
-use Rattle.timing.specs.TimeableLaws.{TimesRead, times-read, demand-read}
+use Rattle.timing.specs.TimeableLaws.{TimesRead, demand-read}
 use Rattle.response.proofs.search.Statement.{statement}
 use Rattle.response.proofs.search.Tie as tie
 
 abbrev Inv-loop : tie.InvT-loop
-Inv-loop i start t at execution period lo₀ hi₀ lo hi = Between t (numbered i) lo hi
+Inv-loop executions periods i start at execution period tasks lo₀ hi₀ lo hi =
+    (t : Table) → TimesOf t executions periods tasks → LowerBound t (numbered i) start → AllFit (tasksAbove t (numbered i))
+    → Between t (numbered i) lo hi
 
 abbrev μ-loop : tie.MeasureT-loop
-μ-loop i start t at execution period lo₀ hi₀ lo hi = hi - lo
+μ-loop executions periods i start at execution period tasks lo₀ hi₀ lo hi = hi - lo
+
+-- where the call began
+abbrev entry : tie.After-period Inv-loop μ-loop → tie.Start Inv-loop μ-loop
+entry c = c .before .before
+
+-- the times that it reads
+abbrev execution : tie.After-period Inv-loop μ-loop → ℕ
+execution c = getD (entry c .args .executions .now) (entry c .args .i) 0
+
+abbrev period : tie.After-period Inv-loop μ-loop → ℕ
+period c = getD (entry c .args .periods .now) (entry c .args .i) 0
+
+-- a table of these times
+abbrev Timed : tie.After-period Inv-loop μ-loop → Table → Type 0
+Timed c t = TimesOf t (entry c .args .executions .now) (entry c .args .periods .now) (entry c .args .t .tasks)
 
 -- the times read are those of task i
-read : (c : tie.After-wide2 Inv-loop μ-loop)
-    → TimesRead (c .before .before .before .args .t1) (c .before .before .before .args .i) (c .before .wide .result) (c .wide2 .result)
-read c =
-    let given = c .before .before .before .pre in
-    times-read (given .0) _ _ (given .1) (c .before .wide .ensures .0) (c .wide2 .ensures .0)
+read : (c : tie.After-period Inv-loop μ-loop) {t : Table} → Timed c t → TimesRead t (entry c .args .i) (execution c) (period c)
+read c times = lent-read times _ (entry c .pre .1)
+
+-- the period is one of 32 bits
+short : (c : tie.After-period Inv-loop μ-loop) → period c < 2 ^ 32
+short c = entry c .pre .0 .periods .narrow _ (entry c .pre .1)
 
 -- what a look at an interval of length b tells
-look : (c : tie.After-wide2 Inv-loop μ-loop) {b : ℕ} {r : Bool}
-    → r ≡ fitsFrom (drop (c .before .before .before .args .i + 1) (tasksOf (c .before .before .before .args .t1))) (c .before .wide .result) b
-    → (r ≡ true) ↔ DoneBy (c .before .before .before .args .t1) (numbered (c .before .before .before .args .i)) b
-look c e = done-read (read c) (c .before .before .before .pre .3) e
+look : (c : tie.After-period Inv-loop μ-loop) {t : Table} → Timed c t → AllFit (tasksAbove t (numbered (entry c .args .i))) → {b : ℕ} {r : Bool}
+    → ((u : Table) → Timed c u → r ≡ fitsFrom (drop (entry c .args .i + 1) (tasksOf u)) (execution c) b)
+    → (r ≡ true) ↔ DoneBy t (numbered (entry c .args .i)) b
+look c times all e = done-read (read c times) all (e _ times)
 
 -- what was read before the loop
-abbrev times : tie.At-loop Inv-loop μ-loop → tie.After-wide2 Inv-loop μ-loop
-times c = c .before .before .before .before .before .before
+abbrev start : tie.At-loop Inv-loop μ-loop → tie.After-period Inv-loop μ-loop
+start c = c .before .before .before .before .before .before
+
+-- what is known of this table
+between : (c : tie.At-loop Inv-loop μ-loop)
+    → Between (entry (start c) .args .t) (numbered (entry (start c) .args .i)) (c .loop .lo) (c .loop .hi)
+between c = let given = entry (start c) .pre in c .loop .inv _ (given .0) (given .2) (given .3)
 
 -- the interval looked at is no longer than the period
 narrow : (c : tie.At-loop Inv-loop μ-loop) → c .loop .hi < 2 ^ 32
-narrow c = omega (arith, read (times c), c .loop .inv .within, times c .wide2 .ensures .1)
+narrow c = omega (arith, read (start c) (entry (start c) .pre .0), short (start c), between c .within)
 
 -- the task has an execution time
-positive : (c : tie.At-loop Inv-loop μ-loop)
-    → 1 ≤ taskOf (times c .before .before .before .args .t1) (numbered (times c .before .before .before .args .i)) .execution
-positive c = omega (arith, read (times c))
+positive : (c : tie.At-loop Inv-loop μ-loop) {t : Table} → Timed (start c) t → 1 ≤ taskOf t (numbered (entry (start c) .args .i)) .execution
+positive c times = omega (arith, read (start c) times)
 
-mul-e : tie.Need-mul-e Inv-loop μ-loop
-mul-e c = omega arith
+mul-execution : tie.Need-mul-execution Inv-loop μ-loop
+mul-execution c = omega arith
 
-element-copy-out-e : tie.Need-element-copy-out-e Inv-loop μ-loop
-element-copy-out-e c = omega arith
+element-copy-out-execution : tie.Need-element-copy-out-execution Inv-loop μ-loop
+element-copy-out-execution c = omega (arith, lent-times (c .pre .0) .few)
 
-wide-requires : tie.Need-wide-requires Inv-loop μ-loop
-wide-requires c κs = tt
+mul-period : tie.Need-mul-period Inv-loop μ-loop
+mul-period c = omega arith
 
-wide-requires-2 : tie.Need-wide-requires-2 Inv-loop μ-loop
-wide-requires-2 c κs = tt
+element-copy-out-period : tie.Need-element-copy-out-period Inv-loop μ-loop
+element-copy-out-period c = omega (arith, lent-times (c .before .pre .0) .few)
 
 returns : tie.Need-returns Inv-loop μ-loop
 unfolding boundOf
-returns c = sym (ap boundOf (climb-past (c .before .before .before .before .pre .2) (omega (arith, read (c .before)))))
+returns c =
+    let given = entry (c .before) .pre in
+    sym (ap boundOf (climb-past (given .2) (omega (arith, read (c .before) (given .0)))))
 
 interference-of-requires : tie.Need-interference-of-requires Inv-loop μ-loop
 interference-of-requires c κs =
-    let given = c .before .before .before .before .pre in (given .0, given .1, omega arith)
+    let given = entry (c .before) .pre in (lent-times (given .0), given .1, omega (arith, short (c .before)))
 
 add-if2 : tie.Need-add-if2 Inv-loop μ-loop
-add-if2 c = omega arith
+add-if2 c =
+    let times = c .before .before in omega (arith, read times (entry times .pre .0), short times)
 
 returns-2 : tie.Need-returns-2 Inv-loop μ-loop
 unfolding boundOf
 returns-2 c =
     let times = c .before .before .before in
-    let solves = sym (demand-read (read times) _ (c .before .interference-of .ensures .0)) ∙ c .if2 .taken in
-    sym (ap boundOf (climb-found (times .before .before .before .pre .2) solves (omega (arith, read times))))
+    let given = entry times .pre in
+    let solves = sym (demand-read (read times (given .0)) _ (c .before .interference-of .ensures .1 _ (given .0))) ∙ c .if2 .taken in
+    sym (ap boundOf (climb-found (given .2) solves (omega (arith, read times (given .0)))))
 
 add-fits-from : tie.Need-add-fits-from Inv-loop μ-loop
-add-fits-from c = omega arith
+add-fits-from c = omega (arith, lent-times (entry (c .before .before .before) .pre .0) .few)
 
 fits-from-requires : tie.Need-fits-from-requires Inv-loop μ-loop
 fits-from-requires c κs =
-    let given = c .before .before .before .before .before .before .pre in (given .0, omega arith, omega arith, omega arith)
+    let times = c .before .before .before in
+    let given = entry times .pre in
+    (lent-times (given .0), omega arith, omega (arith, read times (given .0), short times), short times)
 
 returns-3 : tie.Need-returns-3 Inv-loop μ-loop
 unfolding boundOf
 returns-3 c =
     let times = c .before .before .before .before .before in
-    let given = times .before .before .before .pre in
-    sym (ap boundOf (search-none _ _ (given .0 .positive _ (given .1)) (read times .period) (λ done.
-    false≢true (sym (not-true _ (c .if3 .taken)) ∙ look times (c .before .fits-from .ensures) .1 done))))
+    let given = entry times .pre in
+    sym (ap boundOf (search-none _ _ (given .0 .timeable .positive _ (given .1)) (read times (given .0) .period) (λ done.
+    false≢true (sym (not-true _ (c .if3 .taken)) ∙ look times (given .0) (given .3) (c .before .fits-from .ensures) .1 done))))
 
 loop-holds : tie.Need-loop-holds Inv-loop μ-loop
-loop-holds c =
-    let times = c .before .before .before .before .before in
-    let given = times .before .before .before .pre in
-    search-start (given .2) (read times .period) (omega arith)
-    (look times (c .before .fits-from .ensures) .0 (not-false _ (c .if3 .left)))
+loop-holds c = λ t times lower all.
+    let begun = c .before .before .before .before .before in
+    search-start lower (read begun times .period) (omega arith)
+    (look begun times all (c .before .fits-from .ensures) .0 (not-false _ (c .if3 .left)))
 
 sub-mid : tie.Need-sub-mid Inv-loop μ-loop
 sub-mid c = omega arith
@@ -108,21 +138,22 @@ add-mid : tie.Need-add-mid Inv-loop μ-loop
 add-mid c = omega (arith, narrow (c .before))
 
 add-fits-from-2 : tie.Need-add-fits-from-2 Inv-loop μ-loop
-add-fits-from-2 c = omega arith
+add-fits-from-2 c = omega (arith, lent-times (entry (start (c .before)) .pre .0) .few)
 
 fits-from-requires-2 : tie.Need-fits-from-requires-2 Inv-loop μ-loop
 fits-from-requires-2 c κs =
-    let given = times (c .before) .before .before .before .pre in
-    (given .0, omega arith, omega arith, omega (arith, narrow (c .before)))
+    let times = start (c .before) in
+    let given = entry times .pre in
+    (lent-times (given .0), omega arith, omega (arith, read times (given .0), short times), omega (arith, narrow (c .before)))
 
 loop-less : tie.Need-loop-less Inv-loop μ-loop
 loop-less c = omega arith
 
 loop-again : tie.Need-loop-again Inv-loop μ-loop
-loop-again c =
+loop-again c = λ t times lower all.
     let head = c .before .before .before in
-    let done = look (times head) (c .before .fits-from2 .ensures) .0 (c .if4 .taken) in
-    search-down (positive head) (head .loop .inv) (omega arith) (omega arith) done
+    let done = look (start head) times all (c .before .fits-from2 .ensures) .0 (c .if4 .taken) in
+    search-down (positive head times) (head .loop .inv t times lower all) (omega arith) (omega arith) done
 
 add-lo : tie.Need-add-lo Inv-loop μ-loop
 add-lo c = omega (arith, narrow (c .before .before .before))
@@ -131,14 +162,16 @@ loop-less-2 : tie.Need-loop-less-2 Inv-loop μ-loop
 loop-less-2 c = omega arith
 
 loop-again-2 : tie.Need-loop-again-2 Inv-loop μ-loop
-loop-again-2 c =
+loop-again-2 c = λ t times lower all.
     let head = c .before .before .before in
-    search-up (positive head) (head .loop .inv) (omega arith) (λ done.
-    false≢true (sym (c .if4 .left) ∙ look (times head) (c .before .fits-from2 .ensures) .1 done))
+    search-up (positive head times) (head .loop .inv t times lower all) (omega arith) (λ done.
+    false≢true (sym (c .if4 .left) ∙ look (start head) times all (c .before .fits-from2 .ensures) .1 done))
 
 returns-4 : tie.Need-returns-4 Inv-loop μ-loop
 unfolding boundOf
-returns-4 c = sym (ap boundOf (search-found (positive (c .before)) (c .before .loop .inv) (c .loop-test .left)))
+returns-4 c =
+    let head = c .before in
+    sym (ap boundOf (search-found (positive head (entry (start head) .pre .0)) (between head) (c .loop-test .left)))
 
 pub search-spec : {M : Type 1} → statement M
 search-spec =
@@ -146,10 +179,10 @@ search-spec =
     (tie.spec
     Inv-loop
     μ-loop
-    mul-e
-    element-copy-out-e
-    wide-requires
-    wide-requires-2
+    mul-execution
+    element-copy-out-execution
+    mul-period
+    element-copy-out-period
     returns
     interference-of-requires
     add-if2
