@@ -6,20 +6,17 @@ use native.Mathlib.Omega.{arith}
 use native.Mathlib.Numerals.{add-one}
 use mathlib.Core.Bool.{Bool, true, false, not}
 use mathlib.Core.List.{List, [], _∷_}
-use lib.ListN.{length, getD, drop, replicate, drop-of-length-le}
+use lib.ListN.{length, getD, drop, drop-of-length-le}
 use lib.Dec.{eqb}
 use lib.Seq.{drop-cons}
 use borrow.Author.Tests.{eq-eqb, ne-eqb, not-true, not-false}
 use Rattle.taskfile.specs.declared.Ceilings.{Ceilings}
 use Rattle.taskfile.specs.Lists.{if_then_else_, any, from, upTo}
 use Rattle.taskfile.specs.Tests.{and-first, and-second, or-left, or-second}
-use Rattle.machine.specs.declared.Local.{Local}
-use Rattle.machine.specs.Ends.{noFlags}
-use Rattle.machine.specs.Instructions.{fresh}
 use Rattle.order.specs.declared.Snapshot.{Snapshot}
 use Rattle.order.specs.declared.Stepped.{Stepped}
 use Rattle.order.specs.ReplayLaws.{replay-extra, replay-illegal, replay-on, first-on, first-stops}
-use Rattle.order.specs.SnapshotSteps.{ownerIn, noFrame, stepIn, hasUpcoming, finishedIn, replayIn, firstFrom, firstSnapshot}
+use Rattle.order.specs.SnapshotSteps.{ownerIn, stepIn, hasUpcoming, finishedIn, replayIn, firstFrom}
 
 -- ---- the first job of a task
 
@@ -122,18 +119,3 @@ module _ (program times : List ℕ) (locks : Ceilings) (start : Snapshot) (order
       → record { number = 31; place = index; state = p } ≡ replayIn program times locks start 0 order
   unfolding if_then_else_
   replay-short le h = sym (last le ∙ ended false (sym finished ∙ h))
-
--- ---- the first snapshot
-
-pub first-made : (program store : List ℕ) {a b c d e f g h : ℕ} {local : Local} → local ≡ fresh → a ≡ firstFrom program 0 0 32
-    → b ≡ firstFrom program 1 0 32 → c ≡ firstFrom program 2 0 32 → d ≡ firstFrom program 3 0 32 → e ≡ firstFrom program 4 0 32
-    → f ≡ firstFrom program 5 0 32 → g ≡ firstFrom program 6 0 32 → h ≡ firstFrom program 7 0 32
-    → record {
-      store = store;
-      upcoming = a ∷ b ∷ c ∷ d ∷ e ∷ f ∷ g ∷ h ∷ [];
-      failed = replicate 32 false;
-      depth = 0;
-      stack = replicate 8 (record { job = record { 0 = 0 }; local = local });
-    } ≡ firstSnapshot program store
-unfolding firstSnapshot upTo from noFlags noFrame
-first-made program store fr ea eb ec ed ee ef eg eh = rw (fr, ea, eb, ec, ed, ee, ef, eg, eh) refl

@@ -3,26 +3,21 @@
 -- Assumes nothing.
 use mathlib.Core.Path.{_≡_, refl, sym, ap, subst, _∙_}
 use mathlib.Core.Logic.{inl, inr}
-use Prim.Native.Nat.{ℕ, _+_, _-_, _/_, _%_, _≤_, _<_}
+use Prim.Native.Nat.{ℕ, _-_, _/_, _%_, _≤_, _<_}
 use native.Mathlib.Omega.{arith}
 use mathlib.Core.Bool.{Bool, true, false, true≢false, not, _&&_}
 use mathlib.Core.List.{List}
-use lib.ListN.{getD, set}
+use lib.ListN.{getD}
 use lib.Dec.{ltb}
 use borrow.Author.Tests.{ltb-true, lt-ltb, le-ltb, not-true, not-false}
 use Rattle.taskfile.specs.declared.Ceilings.{Ceilings}
-use Rattle.taskfile.specs.declared.Instruction.{Instruction}
-use Rattle.taskfile.specs.Lists.{if_then_else_, member}
+use Rattle.taskfile.specs.Lists.{if_then_else_}
 use Rattle.taskfile.specs.Tests.{both, and-holds, and-first, and-second, and-last, decided}
-use Rattle.timing.specs.declared.Job.{Job}
-use Rattle.machine.specs.declared.Effect.{Effect}
-use Rattle.machine.specs.Ends.{flagged}
-use Rattle.machine.specs.Instructions.{fresh, values, perform}
+use Rattle.machine.specs.Instructions.{fresh}
 use Rattle.order.specs.declared.Due.{Due}
-use Rattle.order.specs.declared.Frame.{Frame}
 use Rattle.order.specs.declared.Snapshot.{Snapshot}
 use Rattle.order.specs.declared.Stepped.{Stepped}
-use Rattle.order.specs.SnapshotSteps.{instructionIn, ownedBy, waits, nobody, startsIn, startIn, topOf, runsIn, turnIn, afterIn, stepWithIn, dueStep, stepIn}
+use Rattle.order.specs.SnapshotSteps.{ownedBy, waits, nobody, startsIn, startIn, topOf, runsIn, turnIn, stepWithIn, dueStep, stepIn}
 
 -- ---- who runs
 
@@ -120,85 +115,7 @@ module _ (program times : List ℕ) (locks : Ceilings) (p : Snapshot) (i : ℕ) 
   unfolding turnIn if_then_else_
   turn-starts e h is = rw (sym e ∙ h) is
 
--- ---- what an effect leaves
-
--- the store, the task's next job and the failed jobs after an effect, with the stack as it was
-unfoldable pub noted : Snapshot → Job → ℕ → Effect → Snapshot
-noted p x i effect =
-    record {
-      store = effect .store;
-      upcoming = set (p .upcoming) i (x .0 + 1);
-      failed = flagged (effect .failed) (x .0) (p .failed);
-      depth = p .depth;
-      stack = p .stack;
-    }
-
-module _ (p : Snapshot) (x : Job) (i : ℕ) (effect : Effect) where
-  pub noted-failed : effect .failed ≡ true
-      → record { store = effect .store; upcoming = set (p .upcoming) i (x .0 + 1); failed = set (p .failed) (x .0) true; depth = p .depth; stack = p .stack }
-      ≡ noted p x i effect
-  unfolding noted flagged if_then_else_
-  noted-failed e = rw e refl
-
-  pub noted-sound : effect .failed ≡ false
-      → record { store = effect .store; upcoming = set (p .upcoming) i (x .0 + 1); failed = p .failed; depth = p .depth; stack = p .stack }
-      ≡ noted p x i effect
-  unfolding noted flagged if_then_else_
-  noted-sound e = rw e refl
-
-  module _ (under : ℕ) {q : Snapshot} (is : q ≡ noted p x i effect) where
-    -- a job that has ended leaves the stack
-    pub after-ended : effect .ended ≡ true
-        → record { store = q .store; upcoming = q .upcoming; failed = q .failed; depth = under; stack = q .stack } ≡ afterIn p x under i effect
-    unfolding noted afterIn if_then_else_
-    after-ended e = rw (is, e) refl
-
-    -- one that goes on stays on it
-    pub after-goes : effect .ended ≡ false
-        → record { store = q .store; upcoming = q .upcoming; failed = q .failed; depth = under + 1; stack = set (q .stack) under (record { job = x; local = effect .local }) }
-        ≡ afterIn p x under i effect
-    unfolding noted afterIn if_then_else_
-    after-goes e = rw (is, e) refl
-
 -- ---- the step
-
-module _ (program : List ℕ) (p : Snapshot) (f : Frame) (under i v : ℕ) where
-  -- a job past the end of its body takes no step
-  pub with-past : 16 ≤ f .local .next → record { allowed = false; state = p } ≡ stepWithIn program p f under i v
-  unfolding stepWithIn if_then_else_
-  with-past h = rw (le-ltb (f .local .next) 16 h) refl
-
-  module _ (inside : f .local .next < 16) {instruction : Instruction} (read : instruction ≡ instructionIn program i (f .local .next))
-      {b : Bool} (offer : b ≡ member v (values instruction)) where
-    offered : member v (values (instructionIn program i (f .local .next))) ≡ b
-    offered = ap (λ (n : Instruction). member v (values n)) (sym read) ∙ sym offer
-
-    -- nor does one with a value that is not on offer
-    pub with-none : not b ≡ true → record { allowed = false; state = p } ≡ stepWithIn program p f under i v
-    unfolding stepWithIn if_then_else_
-    with-none h = rw (lt-ltb (f .local .next) 16 inside, offered ∙ not-true b h) refl
-
-    pub with-made : not b ≡ false → {effect : Effect} → effect ≡ perform instruction v (f .local) (p .store) → {q : Snapshot}
-        → q ≡ afterIn p (f .job) under i effect → record { allowed = true; state = q } ≡ stepWithIn program p f under i v
-    unfolding stepWithIn if_then_else_
-    with-made h made left =
-        rw (lt-ltb (f .local .next) 16 inside, offered ∙ not-false b h)
-        (ap (λ (q : Snapshot). record { allowed = true; state = q })
-        (left ∙ ap (afterIn p (f .job) under i) (made ∙ ap (λ (n : Instruction). perform n v (f .local) (p .store)) read)))
-
-  after-deep : (x : Job) (effect : Effect) → under < 8 → afterIn p x under i effect .depth ≤ 8
-  unfolding afterIn if_then_else_
-  after-deep x effect lt = elim (decided (effect .ended)) [ inl e ↦ rw e (omega arith) | inr e ↦ rw e (omega arith) ]
-
-  -- no more than eight are active after it
-  pub with-deep : under < 8 → p .depth ≤ 8 → stepWithIn program p f under i v .state .depth ≤ 8
-  unfolding stepWithIn if_then_else_
-  with-deep lt le =
-      let instruction = instructionIn program i (f .local .next) in
-      elim (decided (ltb (f .local .next) 16 && member v (values instruction))) [
-        | inl e ↦ rw e (after-deep (f .job) (perform instruction v (f .local) (p .store)) lt)
-        | inr e ↦ rw e le
-      ]
 
 module _ (program times : List ℕ) (locks : Ceilings) (p : Snapshot) (byte : ℕ) {d : Due}
     (is : d ≡ turnIn program times locks p (byte / 16)) where
@@ -221,8 +138,3 @@ module _ (program times : List ℕ) (locks : Ceilings) (p : Snapshot) (byte : �
       let goes : dueStep program p (byte / 16) (byte % 16) d ≡ stepWithIn program p (d .frame) (d .under) (byte / 16) (byte % 16) =
       rw (not-false (d .due) h) refl in
       made ∙ sym goes ∙ step-of
-
-  pub step-deep : p .depth ≤ 8 → not (d .due) ≡ false → {r : Stepped}
-      → r ≡ stepWithIn program p (d .frame) (d .under) (byte / 16) (byte % 16) → r .state .depth ≤ 8
-  step-deep le h made =
-      rw made (with-deep program p (d .frame) (d .under) (byte / 16) (byte % 16) (due-bounds program times locks p (byte / 16) is le (not-false (d .due) h) .0) le)

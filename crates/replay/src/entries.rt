@@ -1,5 +1,5 @@
 // The replay's entry.
-use crate::bytes::first_snapshot;
+use crate::bytes::first_state;
 use crate::bytes::replay_from;
 use crate::lending::program_of;
 use crate::lending::times_of;
@@ -31,7 +31,7 @@ pub fn replay_table(t: Table, list: JobList, order: &[u8]) -> Replayed
         ceilings: ceilings,
     };
     let store = t.store;
-    let start = first_snapshot(&program, store);
+    let start = first_state(&program, store);
     replay_from(&program, &times, locks, start, order)
 }
 

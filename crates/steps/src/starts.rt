@@ -2,41 +2,43 @@
 use crate::lent::comes_before;
 use crate::lent::may_preempt;
 use crate::lent::owned_by;
+use crate::states::eight_at;
 use machine::held::priority_of;
 use machine::locals::fresh_local;
 use order::Due;
 use order::Frame;
-use order::Snapshot;
 use taskfile::Ceilings;
+use taskfile::Task;
 use timing::Job;
 ghost use mathlib.Core.Path.{_≡_};
 ghost use Prim.Native.Nat.{_≤_, _<_};
 ghost use Rattle.taskfile.specs.Lists.{all};
 ghost use Rattle.order.specs.SnapshotSteps.{waitsFor, waits, goesOver, stackOf, nobody, startsIn, startIn};
+ghost use Rattle.steps.specs.StateBytes.{frameIn, snapshotIn, IsState};
 
 // Must job y wait for task k's first job not yet begun?
-pub fn waits_for(program: &[u8; 544], times: &[u64; 64], upcoming: [u8; 8], y: u8, k: u8) -> bool
-    requires { ⌜ (y < 32) × (k < 8) ⌝ }
-    ensures { λ b. ⌜ b ≡ waitsFor (now (program .entry)) (now (times .entry)) upcoming y k ⌝ }
+pub fn waits_for(program: &[u8; 544], times: &[u64; 64], s: &[u8; 192], y: Job, k: Task) -> bool
+    requires { ⌜ (y .0 < 32) × (k .0 < 8) ⌝ }
+    ensures { λ b. ⌜ b ≡ waitsFor (now (program .entry)) (now (times .entry)) (snapshotIn (now (s .entry)) .upcoming) (y .0) (k .0) ⌝ }
 {
-    let x = upcoming[k as usize];
+    let x = Job(s[8 + (k.0 as usize)]);
     if !owned_by(program, k, x) {
         return false;
     }
-    if x == y {
+    if x.0 == y.0 {
         return false;
     }
     comes_before(program, times, x, y)
 }
 
 // Must job y wait for a job not yet begun? The first of each task is enough: if a later one comes before y, so does that.
-pub fn must_wait(program: &[u8; 544], times: &[u64; 64], upcoming: [u8; 8], y: u8) -> bool
-    requires { ⌜ y < 32 ⌝ }
-    ensures { λ b. ⌜ b ≡ waits (now (program .entry)) (now (times .entry)) upcoming y ⌝ }
+pub fn must_wait(program: &[u8; 544], times: &[u64; 64], s: &[u8; 192], y: Job) -> bool
+    requires { ⌜ y .0 < 32 ⌝ }
+    ensures { λ b. ⌜ b ≡ waits (now (program .entry)) (now (times .entry)) (snapshotIn (now (s .entry)) .upcoming) (y .0) ⌝ }
 {
     let mut k: u8 = 0;
     while k < 8 {
-        if waits_for(program, times, upcoming, y, k) {
+        if waits_for(program, times, s, y, Task(k)) {
             return true;
         }
         k += 1;
@@ -44,24 +46,31 @@ pub fn must_wait(program: &[u8; 544], times: &[u64; 64], upcoming: [u8; 8], y: u
     false
 }
 
-// May job y start over an active job: may it preempt that, and is its base above that one's present priority?
-pub fn goes_over(program: &[u8; 544], times: &[u64; 64], locks: Ceilings, y: u8, f: Frame) -> bool
-    requires { ⌜ (locks .count ≤ 8) × (y < 32) ⌝ }
-    ensures { λ b. ⌜ b ≡ goesOver (now (program .entry)) (now (times .entry)) locks y f ⌝ }
+// May job y start over the active job at position k: may it preempt that, and is its base above that one's present priority?
+pub fn goes_over(
+    program: &[u8; 544],
+    times: &[u64; 64],
+    locks: Ceilings,
+    s: &[u8; 192],
+    y: Job,
+    k: u8,
+) -> bool
+    requires { ⌜ (locks .count ≤ 8) × (y .0 < 32) × (k < 8) ⌝ }
+    ensures { λ b. ⌜ b ≡ goesOver (now (program .entry)) (now (times .entry)) locks (y .0) (frameIn (now (s .entry)) k) ⌝ }
 {
-    let x = f.job.0;
-    if 32 <= x {
+    let at = 64 + 16 * (k as usize);
+    let x = Job(s[at]);
+    if 32 <= x.0 {
         return false;
     }
     if !may_preempt(program, times, y, x) {
         return false;
     }
     let ceilings = locks.ceilings;
-    let local = f.local;
-    let held = local.held;
-    let base = program[512 + (x as usize)];
+    let held = eight_at(s, at + 8);
+    let base = program[512 + (x.0 as usize)];
     let priority = priority_of(ceilings, locks.count, base, held);
-    priority < program[512 + (y as usize)]
+    priority < program[512 + (y.0 as usize)]
 }
 
 // May it start over every active job?
@@ -69,16 +78,16 @@ pub fn goes_over_all(
     program: &[u8; 544],
     times: &[u64; 64],
     locks: Ceilings,
-    y: u8,
-    s: Snapshot,
+    s: &[u8; 192],
+    y: Job,
 ) -> bool
-    requires { ⌜ (locks .count ≤ 8) × (y < 32) × (s .depth ≤ 8) ⌝ }
-    ensures { λ b. ⌜ b ≡ all (goesOver (now (program .entry)) (now (times .entry)) locks y) (stackOf s) ⌝ }
+    requires { ⌜ (locks .count ≤ 8) × (y .0 < 32) × IsState (now s) ⌝ }
+    ensures { λ b. ⌜ b ≡ all (goesOver (now (program .entry)) (now (times .entry)) locks (y .0)) (stackOf (snapshotIn (now (s .entry)))) ⌝ }
 {
+    let depth = s[48];
     let mut k: u8 = 0;
-    while k < s.depth {
-        let f = s.stack[k as usize];
-        if !goes_over(program, times, locks, y, f) {
+    while k < depth {
+        if !goes_over(program, times, locks, s, y, k) {
             return false;
         }
         k += 1;
@@ -91,27 +100,26 @@ pub fn may_start(
     program: &[u8; 544],
     times: &[u64; 64],
     locks: Ceilings,
-    s: Snapshot,
-    i: u8,
+    s: &[u8; 192],
+    i: Task,
 ) -> bool
-    requires { ⌜ (locks .count ≤ 8) × (s .depth ≤ 8) ⌝ }
-    ensures { λ b. ⌜ b ≡ startsIn (now (program .entry)) (now (times .entry)) locks s i ⌝ }
+    requires { ⌜ (locks .count ≤ 8) × IsState (now s) ⌝ }
+    ensures { λ b. ⌜ b ≡ startsIn (now (program .entry)) (now (times .entry)) locks (snapshotIn (now (s .entry))) (i .0) ⌝ }
 {
-    if 8 <= i {
+    if 8 <= i.0 {
         return false;
     }
-    if 8 <= s.depth {
+    if 8 <= s[48] {
         return false;
     }
-    let upcoming = s.upcoming;
-    let y = upcoming[i as usize];
+    let y = Job(s[8 + (i.0 as usize)]);
     if !owned_by(program, i, y) {
         return false;
     }
-    if must_wait(program, times, upcoming, y) {
+    if must_wait(program, times, s, y) {
         return false;
     }
-    goes_over_all(program, times, locks, y, s)
+    goes_over_all(program, times, locks, s, y)
 }
 
 // It is nobody's turn.
@@ -129,23 +137,29 @@ pub fn no_turn() -> Due
 }
 
 // The start of task i's first job not yet begun, if it may start.
-pub fn start_of(program: &[u8; 544], times: &[u64; 64], locks: Ceilings, s: Snapshot, i: u8) -> Due
-    requires { ⌜ (locks .count ≤ 8) × (s .depth ≤ 8) ⌝ }
-    ensures { λ d. ⌜ d ≡ startIn (now (program .entry)) (now (times .entry)) locks s i ⌝ }
+pub fn start_of(
+    program: &[u8; 544],
+    times: &[u64; 64],
+    locks: Ceilings,
+    s: &[u8; 192],
+    i: Task,
+) -> Due
+    requires { ⌜ (locks .count ≤ 8) × IsState (now s) ⌝ }
+    ensures { λ d. ⌜ d ≡ startIn (now (program .entry)) (now (times .entry)) locks (snapshotIn (now (s .entry))) (i .0) ⌝ }
 {
-    if 8 <= i {
+    if 8 <= i.0 {
         return no_turn();
     }
     if !may_start(program, times, locks, s, i) {
         return no_turn();
     }
-    let y = s.upcoming[i as usize];
+    let y = Job(s[8 + (i.0 as usize)]);
     Due {
         due: true,
         frame: Frame {
-            job: Job(y),
+            job: y,
             local: fresh_local(),
         },
-        under: s.depth,
+        under: s[48],
     }
 }

@@ -2,129 +2,132 @@
 use crate::lent::instruction_at;
 use crate::lent::owned_by;
 use crate::starts::start_of;
+use crate::states::frame_at;
+use crate::states::put_eight;
+use crate::states::put_frame;
 use machine::Effect;
 use machine::operations::perform_instruction;
 use machine::values::on_offer;
 use order::Due;
 use order::Frame;
-use order::Snapshot;
-use order::Stepped;
 use taskfile::Ceilings;
+use taskfile::Task;
 use timing::Job;
 ghost use mathlib.Core.Path.{_≡_};
 ghost use Prim.Native.Nat.{_/_, _%_, _≤_, _<_};
 ghost use mathlib.Core.Bool.{true};
-ghost use Rattle.order.specs.SnapshotSteps.{turnIn, runsIn, afterIn, stepWithIn, stepIn};
+ghost use Rattle.order.specs.SnapshotSteps.{turnIn, runsIn, afterIn, stepIn};
+ghost use Rattle.steps.specs.StateBytes.{snapshotIn, IsState};
+ghost use Rattle.steps.specs.StepParts.{offeredIn, madeIn};
 
 // Is the active job started last one of task i? Tasks are below 8, so that no other number is taken for an index.
-pub fn runs(program: &[u8; 544], s: Snapshot, i: u8) -> bool
-    requires { ⌜ s .depth ≤ 8 ⌝ }
-    ensures { λ b. ⌜ b ≡ runsIn (now (program .entry)) s i ⌝ }
+pub fn runs(program: &[u8; 544], s: &[u8; 192], i: Task) -> bool
+    requires { ⌜ IsState (now s) ⌝ }
+    ensures { λ b. ⌜ b ≡ runsIn (now (program .entry)) (snapshotIn (now (s .entry))) (i .0) ⌝ }
 {
-    if 8 <= i {
+    if 8 <= i.0 {
         return false;
     }
-    if s.depth == 0 {
+    let depth = s[48];
+    if depth == 0 {
         return false;
     }
-    let top = (s.depth - 1) as usize;
-    let f = s.stack[top];
-    owned_by(program, i, f.job.0)
+    let top = (depth - 1) as usize;
+    owned_by(program, i, Job(s[64 + 16 * top]))
 }
 
 // The turn that a byte of task i takes: the active job started last, if it is of that task, else a start.
-pub fn turn_of(program: &[u8; 544], times: &[u64; 64], locks: Ceilings, s: Snapshot, i: u8) -> Due
-    requires { ⌜ (locks .count ≤ 8) × (s .depth ≤ 8) ⌝ }
-    ensures turn { λ d. ⌜ d ≡ turnIn (now (program .entry)) (now (times .entry)) locks s i ⌝ }
+pub fn turn_of(
+    program: &[u8; 544],
+    times: &[u64; 64],
+    locks: Ceilings,
+    s: &[u8; 192],
+    i: Task,
+) -> Due
+    requires { ⌜ (locks .count ≤ 8) × IsState (now s) ⌝ }
+    ensures turn { λ d. ⌜ d ≡ turnIn (now (program .entry)) (now (times .entry)) locks (snapshotIn (now (s .entry))) (i .0) ⌝ }
     ensures bounds { λ d. ⌜ (d .due ≡ true → (d .under < 8) × (d .frame .job .0 < 32)) ⌝ }
 {
     if runs(program, s, i) {
-        let top = s.depth - 1;
-        let f = s.stack[top as usize];
+        let top = s[48] - 1;
         return Due {
             due: true,
-            frame: f,
+            frame: frame_at(s, top),
             under: top,
         };
     }
     start_of(program, times, locks, s, i)
 }
 
-// The state after job x of task i has had an effect, with so many active jobs under it.
-pub fn after_effect(s: Snapshot, x: Job, under: u8, i: u8, effect: Effect) -> Snapshot
-    requires { ⌜ (x .0 < 32) × (under < 8) × (i < 8) ⌝ }
-    ensures { λ r. ⌜ r ≡ afterIn s x under i effect ⌝ }
-{
-    let mut after = s;
-    let store = effect.store;
-    after.store = store;
-    after.upcoming[i as usize] = x.0 + 1;
-    if effect.failed {
-        after.failed[x.0 as usize] = true;
-    }
-    if effect.ended {
-        after.depth = under;
-        return after;
-    }
-    let local = effect.local;
-    let frame = Frame {
-        job: x,
-        local: local,
-    };
-    after.stack[under as usize] = frame;
-    after.depth = under + 1;
-    after
-}
-
-// The step of the job in the frame, with the value v, if that value is on offer.
-pub fn step_with(program: &[u8; 544], s: Snapshot, f: Frame, under: u8, i: u8, v: u8) -> Stepped
-    requires { ⌜ (f .job .0 < 32) × (under < 8) × (i < 8) ⌝ }
-    ensures { λ r. ⌜ r ≡ stepWithIn (now (program .entry)) s f under i v ⌝ }
+// May the job in the frame, of task i, take a step with the value v?
+pub fn offered(program: &[u8; 544], f: Frame, i: Task, v: u8) -> bool
+    requires { ⌜ i .0 < 8 ⌝ }
+    ensures { λ b. ⌜ b ≡ offeredIn (now (program .entry)) f (i .0) v ⌝ }
 {
     let local = f.local;
     let next = local.next;
     if 16 <= next {
-        return Stepped {
-            allowed: false,
-            state: s,
-        };
+        return false;
     }
-    let instruction = instruction_at(program, i, next);
-    if !on_offer(instruction, v) {
-        return Stepped {
-            allowed: false,
-            state: s,
-        };
-    }
-    let store = s.store;
-    let effect = perform_instruction(instruction, v, local, store);
-    let x = f.job;
-    Stepped {
-        allowed: true,
-        state: after_effect(s, x, under, i, effect),
-    }
+    on_offer(instruction_at(program, i, next), v)
 }
 
-// The step that a byte asks for: 16 times the task and the value.
+// Makes of a state what it is after job x of task i has had an effect, with so many active jobs under it.
+pub fn put_effect(s: &mut [u8; 192], x: Job, under: u8, i: Task, effect: Effect)
+    requires { ⌜ IsState (now s) × (x .0 < 32) × (under < 8) × (i .0 < 8) ⌝ }
+    ensures made { λ _. ⌜ snapshotIn (now (s .exit)) ≡ afterIn (snapshotIn (now (s .entry))) x under (i .0) effect ⌝ }
+    ensures whole { λ _. ⌜ IsState (now (s .exit)) ⌝ }
+{
+    let store = effect.store;
+    put_eight(s, 0, store);
+    s[8 + (i.0 as usize)] = x.0 + 1;
+    if effect.failed {
+        s[16 + (x.0 as usize)] = 1;
+    }
+    if effect.ended {
+        s[48] = under;
+        return;
+    }
+    s[48] = under + 1;
+    put_frame(s, under, x, effect.local);
+}
+
+// Makes the step of the job in the frame, of task i, with the value v.
+pub fn step_with(program: &[u8; 544], s: &mut [u8; 192], f: Frame, under: u8, i: Task, v: u8)
+    requires { ⌜ IsState (now s) × (f .job .0 < 32) × (f .local .next < 16) × (under < 8) × (i .0 < 8) ⌝ }
+    ensures made { λ _. ⌜ snapshotIn (now (s .exit)) ≡ madeIn (now (program .entry)) (snapshotIn (now (s .entry))) f under (i .0) v ⌝ }
+    ensures whole { λ _. ⌜ IsState (now (s .exit)) ⌝ }
+{
+    let local = f.local;
+    let instruction = instruction_at(program, i, local.next);
+    let store = [s[0], s[1], s[2], s[3], s[4], s[5], s[6], s[7]];
+    let effect = perform_instruction(instruction, v, local, store);
+    let x = f.job;
+    put_effect(s, x, under, i, effect);
+}
+
+// The step that a byte asks for, 16 times the task and the value, if it is allowed; else nothing changes.
 pub fn step(
     program: &[u8; 544],
     times: &[u64; 64],
     locks: Ceilings,
-    s: Snapshot,
+    s: &mut [u8; 192],
     byte: u8,
-) -> Stepped
-    requires { ⌜ (locks .count ≤ 8) × (s .depth ≤ 8) ⌝ }
-    ensures made { λ r. ⌜ r ≡ stepIn (now (program .entry)) (now (times .entry)) locks s byte ⌝ }
-    ensures bounded { λ r. ⌜ r .state .depth ≤ 8 ⌝ }
+) -> bool
+    requires { ⌜ (locks .count ≤ 8) × IsState (now s) ⌝ }
+    ensures allowed { λ b. ⌜ b ≡ stepIn (now (program .entry)) (now (times .entry)) locks (snapshotIn (now (s .entry))) byte .allowed ⌝ }
+    ensures made { λ _. ⌜ snapshotIn (now (s .exit)) ≡ stepIn (now (program .entry)) (now (times .entry)) locks (snapshotIn (now (s .entry))) byte .state ⌝ }
+    ensures whole { λ _. ⌜ IsState (now (s .exit)) ⌝ }
 {
-    let i = byte / 16;
+    let i = Task(byte / 16);
     let d = turn_of(program, times, locks, s, i);
     if !d.due {
-        return Stepped {
-            allowed: false,
-            state: s,
-        };
+        return false;
     }
     let f = d.frame;
-    step_with(program, s, f, d.under, i, byte % 16)
+    if !offered(program, f, i, byte % 16) {
+        return false;
+    }
+    step_with(program, s, f, d.under, i, byte % 16);
+    true
 }

@@ -7,6 +7,7 @@ pub mod Moves
 pub mod NextLaws
 pub mod PathLaws
 pub mod Paths
+pub mod StateLaws
 pub mod TrialLaws
 pub mod WalkEntry
 pub mod WalkEntryLaws

@@ -1,22 +1,19 @@
 -- Laws of the next move: after a byte that is no step, which bytes of its task are none either, and after a step, where the next may be.
--- And laws of a complete order: whether a job failed, and what the walk then comes to.
+-- And what the walk comes to at a complete order.
 -- Assumes nothing.
 use mathlib.Core.Path.{_≡_, refl, sym, ap, subst, _∙_}
 use mathlib.Core.Logic.{inl, inr}
 use Prim.Native.Nat.{ℕ, _+_, _*_, _/_, _%_, _≤_, _<_}
 use native.Mathlib.Decide.{ℕ-discrete, decLt}
-use native.Mathlib.Numerals.{add-one}
 use native.Mathlib.Omega.{arith}
 use mathlib.Core.Bool.{Bool, true, false, not, _&&_}
 use mathlib.Core.List.{List}
 use lib.Dec.{ltb, eqb}
-use lib.ListN.{length, getD, drop, drop-of-length-le}
-use lib.Seq.{drop-cons}
-use borrow.Author.Tests.{ltb-true, ltb-false, leb-false, eqb-false, eq-eqb, ne-eqb, lt-ltb, le-ltb, lt-leb, not-true, not-false}
+use borrow.Author.Tests.{ltb-false, leb-false, eqb-false, eq-eqb, ne-eqb, lt-ltb, le-ltb, lt-leb, not-true, not-false}
 use Rattle.taskfile.specs.declared.Ceilings.{Ceilings}
 use Rattle.taskfile.specs.declared.Instruction.{Instruction}
 use Rattle.taskfile.specs.Lists.{if_then_else_, any, member}
-use Rattle.taskfile.specs.Tests.{both, and-holds, and-first, and-last, or-left, or-second, other-fails, decided}
+use Rattle.taskfile.specs.Tests.{and-holds, and-first, and-last, other-fails, decided}
 use Rattle.machine.specs.Instructions.{values}
 use Rattle.machine.specs.ValueLaws.{pick-offers, zero-offered}
 use Rattle.order.specs.declared.Due.{Due}
@@ -25,26 +22,13 @@ use Rattle.order.specs.declared.Snapshot.{Snapshot}
 use Rattle.order.specs.declared.Stepped.{Stepped}
 use Rattle.order.specs.SnapshotSteps.{instructionIn, turnIn, stepWithIn, stepIn}
 use Rattle.order.specs.TurnLaws.{step-none, step-due}
+use Rattle.steps.specs.StepParts.{offeredIn}
 use Rattle.walk.specs.declared.Outcome.{Outcome}
 use Rattle.walk.specs.WalkParts.{NoStep, NextStep, heldAt, endedAt, valueAfter}
 
--- ---- a failed job
+-- ---- a complete order
 
-module _ (flags : List Bool) (x : ℕ) (on : any (λ flag. flag) flags ≡ any (λ flag. flag) (drop x flags)) where
-  -- where those before x are not raised, the flag at x decides, or else those behind it
-  pub flag-raised : x < length flags → getD flags x false ≡ true → true ≡ any (λ flag. flag) flags
-  unfolding any
-  flag-raised lt h = sym (on ∙ rw (drop-cons flags x false lt) (or-left (getD flags x false) _ h))
-
-  pub flag-passed : x < length flags → getD flags x false ≡ false → any (λ flag. flag) flags ≡ any (λ flag. flag) (drop (x + 1) flags)
-  unfolding any
-  flag-passed lt h = on ∙ rw (drop-cons flags x false lt, add-one) (or-second (getD flags x false) _ h)
-
-  pub none-raised : length flags ≤ x → false ≡ any (λ flag. flag) flags
-  unfolding any
-  none-raised le = sym (on ∙ rw (drop-of-length-le flags le) refl)
-
--- a complete order, by whether a job failed
+-- by whether a job failed
 module _ (p : Snapshot) (count at : ℕ) {b : Bool} (e : b ≡ any (λ flag. flag) (p .failed)) where
   pub ended-held : not b ≡ true → {r : Outcome} → r ≡ heldAt count → r ≡ endedAt p count at
   unfolding endedAt if_then_else_
@@ -73,26 +57,25 @@ unfolding if_then_else_
 chosen true r s h k = h
 chosen false r s h k = k
 
-module _ (program : List ℕ) (p : Snapshot) (f : Frame) (under i : ℕ) where
-  -- a step is allowed exactly if the job is inside its body and the value on offer
-  with-allowed : (v : ℕ) → stepWithIn program p f under i v .allowed ≡ (ltb (f .local .next) 16 && member v (values (instructionIn program i (f .local .next))))
-  unfolding stepWithIn
-  with-allowed v = chosen (ltb (f .local .next) 16 && member v (values (instructionIn program i (f .local .next)))) _ _ refl refl
+module _ (program : List ℕ) (f : Frame) (i : ℕ) where
+  -- a step is allowed exactly if its value is on offer
+  with-allowed : (p : Snapshot) (under v : ℕ) → stepWithIn program p f under i v .allowed ≡ offeredIn program f i v
+  unfolding stepWithIn offeredIn
+  with-allowed p under v = chosen (ltb (f .local .next) 16 && member v (values (instructionIn program i (f .local .next)))) _ _ refl refl
 
-  -- where it is not with a value, it is not with any above
-  with-refused : (v w : ℕ) → v ≤ w → stepWithIn program p f under i v .allowed ≡ false → stepWithIn program p f under i w .allowed ≡ false
-  with-refused v w le h =
+  -- where a value is not on offer, none above it is
+  none-offered : (v w : ℕ) → v ≤ w → offeredIn program f i v ≡ false → offeredIn program f i w ≡ false
+  unfolding offeredIn
+  none-offered v w le h =
       let o = instructionIn program i (f .local .next) in
-      let test = sym (with-allowed v) ∙ h in
-      with-allowed w ∙ elim (decided (ltb (f .local .next) 16)) [
-        | inl inside ↦ and-last (ltb (f .local .next) 16) _ (none-above o v w le (other-fails (ltb (f .local .next) 16) _ test inside))
+      elim (decided (ltb (f .local .next) 16)) [
+        | inl inside ↦ and-last (ltb (f .local .next) 16) _ (none-above o v w le (other-fails (ltb (f .local .next) 16) _ h inside))
         | inr past ↦ and-first (ltb (f .local .next) 16) _ past
       ]
 
-  -- a job that steps is inside its body
-  pub with-inside : (v : ℕ) {r : Stepped} → r ≡ stepWithIn program p f under i v → r .allowed ≡ true → f .local .next < 16
-  with-inside v is h =
-      ltb-true (f .local .next) 16 (both (ltb (f .local .next) 16) _ (sym (with-allowed v) ∙ ap (λ (s : Stepped). s .allowed) (sym is) ∙ h) .0)
+  not-offered : (v : ℕ) → member v (values (instructionIn program i (f .local .next))) ≡ false → offeredIn program f i v ≡ false
+  unfolding offeredIn
+  not-offered v h = and-last (ltb (f .local .next) 16) _ h
 
 -- ---- where the next value is looked for
 
@@ -193,51 +176,53 @@ module _ (program times : List ℕ) (locks : Ceilings) (p : Snapshot) (at : ℕ)
       pass first before
       (λ k le e. ap (λ (r : Stepped). r .allowed) (sym (step-none program times locks p k (turn-at k e) (ap not h))))
 
-  module _ (due : d .due ≡ true) {r : Stepped} (made : r ≡ stepWithIn program p (d .frame) (d .under) (at / 16) (at % 16)) where
+  module _ (due : d .due ≡ true) {b : Bool} (test : b ≡ offeredIn program (d .frame) (at / 16) (at % 16)) where
     -- else a byte is a step if its value is on offer
-    due-allowed : (k : ℕ) → k / 16 ≡ at / 16
-        → stepIn program times locks p k .allowed ≡ stepWithIn program p (d .frame) (d .under) (at / 16) (k % 16) .allowed
+    due-allowed : (k : ℕ) → k / 16 ≡ at / 16 → stepIn program times locks p k .allowed ≡ offeredIn program (d .frame) (at / 16) (k % 16)
     due-allowed k e =
         ap (λ (r : Stepped). r .allowed) (sym (step-due program times locks p k (turn-at k e) (ap not due) refl))
-        ∙ ap (λ (n : ℕ). stepWithIn program p (d .frame) (d .under) n (k % 16) .allowed) e
+        ∙ with-allowed program (d .frame) (k / 16) p (d .under) (k % 16)
+        ∙ ap (λ (n : ℕ). offeredIn program (d .frame) n (k % 16)) e
 
     -- where the job that is due may not step at this byte, it may not at a later one of the task
-    pub passed-refused : (first : ℕ) → NoStep program times locks p first at → r .allowed ≡ false
+    pub passed-refused : (first : ℕ) → NoStep program times locks p first at → b ≡ false
         → NoStep program times locks p first (16 * (at / 16 + 1))
     passed-refused first before h =
         pass first before
-        (λ k le e. due-allowed k e
-        ∙ with-refused program p (d .frame) (d .under) (at / 16) (at % 16) (k % 16) (omega arith) (ap (λ (r : Stepped). r .allowed) (sym made) ∙ h))
+        (λ k le e. due-allowed k e ∙ none-offered program (d .frame) (at / 16) (at % 16) (k % 16) (omega arith) (sym test ∙ h))
 
     -- and where it steps, that is the next move
-    pub step-found : (first : ℕ) → at < 128 → first ≤ at → NoStep program times locks p first at → r .allowed ≡ true → {next : ℕ}
-        → next ≡ valueAfter program (d .frame) at → NextStep program times locks p first (record { byte = at; next = next; state = r .state })
+    pub step-found : (first : ℕ) → at < 128 → first ≤ at → NoStep program times locks p first at → b ≡ true → {next : ℕ}
+        → next ≡ valueAfter program (d .frame) at → NextStep program times locks p first (record { byte = at; next = next; turn = d })
     step-found first small low before h {next} e =
-        let step = step-due program times locks p at is (ap not due) made in
         let onward = subst (Onward (instructionIn program (at / 16) (d .frame .local .next)) at) (sym e) (after-onward program (d .frame) at small) in
         record {
           none-before = before;
           ahead = low;
           below = omega arith;
-          allowed = λ _. ap (λ (r : Stepped). r .allowed) (sym step) ∙ h;
-          state = λ _. ap (λ (r : Stepped). r .state) step;
+          allowed = λ _. due-allowed at refl ∙ sym test ∙ h;
+          turn = λ _. is;
+          due = λ _. due;
+          offered = λ _. sym test ∙ h;
           onward = λ _. onward .0;
           bounded = onward .1;
           none-between = λ _ k above lt.
               let value = onward .2 k (omega arith) lt in
-              due-allowed k (value .0) ∙ with-allowed program p (d .frame) (d .under) (at / 16) (k % 16) ∙ and-last (ltb (d .frame .local .next) 16) _ (value .1);
+              due-allowed k (value .0) ∙ not-offered program (d .frame) (at / 16) (k % 16) (value .1);
         }
 
 -- where no byte below 128 is a step, there is no move left
 pub no-move : (program times : List ℕ) (locks : Ceilings) (p : Snapshot) (first at : ℕ) → first ≤ 128 → NoStep program times locks p first at → 128 ≤ at
-    → NextStep program times locks p first (record { byte = 128; next = 128; state = p })
-no-move program times locks p first at low before high =
+    → {d : Due} → NextStep program times locks p first (record { byte = 128; next = 128; turn = d })
+no-move program times locks p first at low before high {d} =
     record {
       none-before = λ k le lt. before k le (omega arith);
       ahead = low;
       below = omega arith;
       allowed = λ lt. absurd (omega arith);
-      state = λ lt. absurd (omega arith);
+      turn = λ lt. absurd (omega arith);
+      due = λ lt. absurd (omega arith);
+      offered = λ lt. absurd (omega arith);
       onward = λ lt. absurd (omega arith);
       bounded = omega arith;
       none-between = λ lt. absurd (omega arith);

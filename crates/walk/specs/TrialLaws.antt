@@ -1,15 +1,15 @@
 -- Laws of the walk on snapshots: a complete order, a state with moves, and the trial of the moves one after the other.
 -- Assumes nothing.
 use mathlib.Core.Path.{_≡_, refl, sym, ap, subst, _∙_}
-use mathlib.Core.Logic.{_⊎_, inl, inr}
-use Prim.Native.Nat.{ℕ, zero, suc, _+_, _-_, _/_, _≤_, _<_}
+use mathlib.Core.Logic.{inl, inr}
+use Prim.Native.Nat.{ℕ, zero, suc, _+_, _-_, _/_, _%_, _≤_, _<_}
 use native.Mathlib.Decide.{decLe}
 use native.Mathlib.Omega.{arith}
 use native.Mathlib.Numerals.{add-one}
-use mathlib.Core.Bool.{Bool, true, false, true≢false}
+use mathlib.Core.Bool.{Bool, true, false, not}
 use mathlib.Core.List.{List, [], _∷_, _++_, append-assoc, append-nil}
 use mathlib.Core.Option.{Option, none, some}
-use lib.ListN.{length, take, drop, set, length-set}
+use lib.ListN.{length, take, set, length-set}
 use lib.Seq.{take-suc-set, drop-set-lt, length-take-le, take-take, take-at}
 use Rattle.taskfile.specs.declared.Ceilings.{Ceilings}
 use Rattle.taskfile.specs.Lists.{if_then_else_, any}
@@ -17,13 +17,15 @@ use Rattle.taskfile.specs.Tests.{decided, not-both}
 use Rattle.timing.specs.Accepted.{Accepted}
 use Rattle.timing.specs.AcceptedLaws.{IsAccepted}
 use Rattle.order.specs.declared.Snapshot.{Snapshot}
+use Rattle.order.specs.declared.Stepped.{Stepped}
 use Rattle.order.specs.Invariant.{Invariant}
 use Rattle.order.specs.Orders.{endOf, step}
 use Rattle.order.specs.SnapshotLaws.{Lends, Shows, step-agreed, finished-agreed}
-use Rattle.order.specs.SnapshotSteps.{finishedIn, turnIn, dueStep, stepIn}
+use Rattle.order.specs.SnapshotSteps.{finishedIn, stepIn}
 use Rattle.order.specs.States.{State, allEnded}
 use Rattle.order.specs.StepLaws.{step-keeps}
-use Rattle.order.specs.TurnLaws.{due-bounds, with-deep}
+use Rattle.order.specs.TurnLaws.{due-bounds, step-due}
+use Rattle.steps.specs.StepParts.{madeIn, offered-inside, with-offered}
 use Rattle.walk.specs.ByteLaws.{stepsFrom, moves-steps, steps-skip, steps-some}
 use Rattle.walk.specs.declared.Candidate.{Candidate}
 use Rattle.walk.specs.declared.Outcome.{Outcome}
@@ -332,7 +334,9 @@ from-itself next = record {
   ahead = omega arith;
   below = next .below;
   allowed = next .allowed;
-  state = next .state;
+  turn = next .turn;
+  due = next .due;
+  offered = next .offered;
   onward = next .onward;
   bounded = next .bounded;
   none-between = next .none-between;
@@ -358,12 +362,10 @@ module _ {program times : List ℕ} {locks : Ceilings} {p : Snapshot} {left coun
 
     module _ (lt : m .byte < 128) where
       abbrev MovedTo : (a : Accepted) (s : State) → Type 0
-      MovedTo a s = (after : State) × (step a s (m .byte) ≡ some after) × Shows a (m .state) after
+      MovedTo a s = (after : State) × (step a s (m .byte) ≡ some after) × Shows a (stepIn program times locks p (m .byte) .state) after
 
       moved : (a : Accepted) (s : State) → IsAccepted a → Lends a program times locks → Invariant a s → Shows a p s → MovedTo a s
-      moved a s ok lends inv shows =
-          let made-it = step-agreed ok lends inv shows (m .byte) .0 (trying .next .allowed lt) in
-          (made-it .0, made-it .1, subst (λ (q : Snapshot). Shows a q (made-it .0)) (sym (trying .next .state lt)) (made-it .2))
+      moved a s ok lends inv shows = step-agreed ok lends inv shows (m .byte) .0 (trying .next .allowed lt)
 
       -- it stops where the allowance is spent
       pub trying-stops : allowance ≤ made → TriesAs program times locks p left count allowance before now (stoppedAt made)
@@ -371,7 +373,7 @@ module _ {program times : List ℕ} {locks : Ceilings} {p : Snapshot} {left coun
           trial-stops few (trying .within) (trying .rest a s ok lends inv shows) (trying .path) lt (moved a s ok lends inv shows .1) spent
 
       module _ {out : List ℕ} {r : Outcome} (room : 512 ≤ length now)
-          (child : WalksAs program times locks (m .state) left (made + 1) allowance (set now (511 - left) (m .byte)) out r) where
+          (child : WalksAs program times locks (stepIn program times locks p (m .byte) .state) left (made + 1) allowance (set now (511 - left) (m .byte)) out r) where
         below-came : (a : Accepted) (s : State) (ok : IsAccepted a) (lends : Lends a program times locks) (inv : Invariant a s) (shows : Shows a p s)
             → Came (walkFrom a left (moved a s ok lends inv shows .0)) (made + 1) allowance (512 - left) (set now (511 - left) (m .byte)) out r
         below-came a s ok lends inv shows =
@@ -408,14 +410,21 @@ module _ {program times : List ℕ} {locks : Ceilings} {p : Snapshot} {left coun
 
 -- ---- the answers
 
--- a step leaves no more than eight active jobs
-pub deep-step : (program times : List ℕ) (locks : Ceilings) (p : Snapshot) (byte : ℕ) → p .depth ≤ 8 → stepIn program times locks p byte .state .depth ≤ 8
-unfolding stepIn dueStep if_then_else_
-deep-step program times locks p byte le =
-    elim (decided (turnIn program times locks p (byte / 16) .due)) [
-      | inl e ↦ rw e (with-deep program p _ _ _ _ (due-bounds program times locks p (byte / 16) refl le e .0) le)
-      | inr e ↦ rw e le
-    ]
+-- the step that a move makes
+move-made : {program times : List ℕ} {locks : Ceilings} {p : Snapshot} {byte : ℕ} {m : Candidate} → NextStep program times locks p byte m
+    → m .byte < 128
+    → stepIn program times locks p (m .byte) .state ≡ madeIn program p (m .turn .frame) (m .turn .under) (m .byte / 16) (m .byte % 16)
+move-made {program} {times} {locks} {p} {m = m} next lt =
+    ap (λ (r : Stepped). r .state)
+    (sym (step-due program times locks p (m .byte) (next .turn lt) (ap not (next .due lt))
+    (sym (with-offered program p (m .turn .frame) (m .turn .under) (m .byte / 16) (m .byte % 16) (next .offered lt)))))
+
+-- whose turn it is has a number below 32, at most seven active jobs under it, and an instruction to run
+pub move-bounds : {program times : List ℕ} {locks : Ceilings} {p : Snapshot} {byte : ℕ} {m : Candidate} → NextStep program times locks p byte m
+    → m .byte < 128 → p .depth ≤ 8 → (m .turn .under < 8) × (m .turn .frame .job .0 < 32) × (m .turn .frame .local .next < 16)
+move-bounds {program} {times} {locks} {p} {m = m} next lt le =
+    let bounds = due-bounds program times locks p (m .byte / 16) (next .turn lt) le (next .due lt) in
+    (bounds .0, bounds .1, offered-inside program (m .turn .frame) (m .byte / 16) (m .byte % 16) (next .offered lt))
 
 -- what a trial leaves beside its outcome
 abbrev pub Left : ℕ → ℕ → List ℕ → List ℕ → Outcome → Type 0
@@ -439,9 +448,16 @@ module _ {program times : List ℕ} {locks : Ceilings} {p : Snapshot} {left coun
     λ a s ok lends inv shows. subst (Came _ count allowance (511 - left) before now) (sym is) (trying-stops few trying lt spent a s ok lends inv shows),
   )
 
-  module _ (lt : m .byte < 128) (room : 512 ≤ length before) {out : List ℕ} {r : Outcome}
+  module _ (lt : m .byte < 128) (room : 512 ≤ length before) {below : Snapshot}
+      (step : below ≡ madeIn program p (m .turn .frame) (m .turn .under) (m .byte / 16) (m .byte % 16)) {out : List ℕ} {r : Outcome}
       (child : Left (512 - left) allowance (set now (511 - left) (m .byte)) out r
-      × WalksAs program times locks (m .state) left (made + 1) allowance (set now (511 - left) (m .byte)) out r) where
+      × WalksAs program times locks below left (made + 1) allowance (set now (511 - left) (m .byte)) out r) where
+    -- the walk below is that of the state after the step
+    walked-below : WalksAs program times locks (stepIn program times locks p (m .byte) .state) left (made + 1) allowance (set now (511 - left) (m .byte)) out r
+    walked-below =
+        subst (λ (q : Snapshot). WalksAs program times locks q left (made + 1) allowance (set now (511 - left) (m .byte)) out r)
+        (step ∙ sym (move-made (trying .next) lt)) (child .1)
+
     room-now : 512 ≤ length now
     room-now = omega (arith, trying .same)
 
@@ -453,14 +469,14 @@ module _ {program times : List ℕ} {locks : Ceilings} {p : Snapshot} {left coun
     )
 
     pub finds-answer : r .found ≡ true → Left (511 - left) allowance before out r × TriesAs program times locks p left count allowance before out r
-    finds-answer found = (left-on, trying-finds few trying lt room-now (child .1) found)
+    finds-answer found = (left-on, trying-finds few trying lt room-now walked-below found)
 
     pub cut-answer : r .stopped ≡ true → Left (511 - left) allowance before out r × TriesAs program times locks p left count allowance before out r
-    cut-answer stopped = (left-on, trying-cut few trying lt room-now (child .1) stopped)
+    cut-answer stopped = (left-on, trying-cut few trying lt room-now walked-below stopped)
 
     pub on-answer : r .found ≡ false → r .stopped ≡ false → {n : Candidate} → NextStep program times locks p (m .next) n
         → Trying program times locks p left count (r .count) allowance n before out
-    on-answer lost going next = trying-on few trying lt room-now (child .1) lost going (child .0 .1) (left-on .0) next (left-on .2)
+    on-answer lost going next = trying-on few trying lt room-now walked-below lost going (child .0 .1) (left-on .0) next (left-on .2)
 
 -- the walk's answers
 

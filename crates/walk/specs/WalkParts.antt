@@ -16,8 +16,9 @@ use Rattle.order.specs.declared.Frame.{Frame}
 use Rattle.order.specs.declared.Snapshot.{Snapshot}
 use Rattle.order.specs.Invariant.{Invariant}
 use Rattle.order.specs.SnapshotLaws.{Lends, Shows}
-use Rattle.order.specs.SnapshotSteps.{ownerIn, ownedBy, instructionIn, topOf, stepIn}
+use Rattle.order.specs.SnapshotSteps.{ownerIn, ownedBy, instructionIn, topOf, turnIn, stepIn}
 use Rattle.order.specs.States.{State}
+use Rattle.steps.specs.StepParts.{offeredIn}
 use Rattle.walk.specs.declared.Candidate.{Candidate}
 use Rattle.walk.specs.declared.Outcome.{Outcome}
 use Rattle.walk.specs.Moves.{moves}
@@ -27,13 +28,15 @@ use Rattle.walk.specs.Walks.{Found, Walked, trial, walkFrom}
 abbrev pub NoStep : List ℕ → List ℕ → Ceilings → Snapshot → ℕ → ℕ → Type 0
 NoStep program times locks p first last = (k : ℕ) → first ≤ k → k < last → stepIn program times locks p k .allowed ≡ false
 
--- the first byte from `byte` on that is a step, if one below 128 is, and from where on the next may be
+-- the first byte from `byte` on that is a step, if one below 128 is, whose turn that is, and from where on the next may be
 pub record NextStep (program times : List ℕ) (locks : Ceilings) (p : Snapshot) (byte : ℕ) (m : Candidate) : Type 0 where
   pub none-before : NoStep program times locks p byte (m .byte)
   pub ahead : byte ≤ m .byte
   pub below : m .byte ≤ 128
   pub allowed : m .byte < 128 → stepIn program times locks p (m .byte) .allowed ≡ true
-  pub state : m .byte < 128 → m .state ≡ stepIn program times locks p (m .byte) .state
+  pub turn : m .byte < 128 → m .turn ≡ turnIn program times locks p (m .byte / 16)
+  pub due : m .byte < 128 → m .turn .due ≡ true
+  pub offered : m .byte < 128 → offeredIn program (m .turn .frame) (m .byte / 16) (m .byte % 16) ≡ true
   pub onward : m .byte < 128 → m .byte < m .next
   pub bounded : m .next ≤ 128
   pub none-between : m .byte < 128 → NoStep program times locks p (m .byte + 1) (m .next)

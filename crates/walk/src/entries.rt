@@ -4,7 +4,7 @@ use crate::Verdict;
 use crate::WalkAnswer;
 use crate::search::walk;
 use acceptance::entries::accept_file;
-use replay::bytes::first_snapshot;
+use replay::bytes::first_state;
 use replay::lending::program_of;
 use replay::lending::times_of;
 use taskfile::Ceilings;
@@ -103,8 +103,8 @@ pub fn walk_table(t: Table, list: JobList, allowance: u64, out: &mut [u8]) -> Ou
         ceilings: ceilings,
     };
     let store = t.store;
-    let start = first_snapshot(&program, store);
-    walk(&program, &times, locks, start, 512, 0, allowance, out)
+    let start = first_state(&program, store);
+    walk(&program, &times, locks, &start, 512, 0, allowance, out)
 }
 
 // The walk's entry: the file's numbers, then 20, then 21 or the verdict. The buffer's first 512 bytes hold the failing order

@@ -4,7 +4,7 @@ pub mod entries;
 pub mod moves;
 pub mod search;
 
-use order::Snapshot;
+use order::Due;
 
 // Whether some complete order fails. A walk that was refused has no verdict.
 pub enum Verdict {
@@ -25,12 +25,11 @@ pub struct WalkAnswer {
     pub failed: [bool; 32],
 }
 
-// A move: its order byte, or 128 if there is none, the byte from which on the next move is looked for, and the state
-// after it.
+// A move: its order byte, or 128 if there is none, the byte from which on the next move is looked for, and whose turn it is.
 pub struct Candidate {
     pub byte: u8,
     pub next: u8,
-    pub state: Snapshot,
+    pub turn: Due,
 }
 
 // What a walk comes to: whether a failing order was found, whether the allowance stopped it before, and the moves made

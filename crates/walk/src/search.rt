@@ -2,22 +2,26 @@
 use crate::Outcome;
 use crate::moves::next_move;
 use crate::moves::top_job;
-use order::Snapshot;
+use replay::bytes::failed_in;
 use replay::bytes::finished;
+use steps::states::eight_at;
+use steps::step::step_with;
 use taskfile::Ceilings;
+use taskfile::Task;
 ghost use mathlib.Core.Path.{_≡_};
 ghost use Prim.Native.Nat.{_-_, _≤_, _<_};
 ghost use lib.ListN.{length};
 ghost use Rattle.taskfile.specs.Lists.{any};
+ghost use Rattle.steps.specs.StateBytes.{snapshotIn, IsState};
 ghost use Rattle.walk.specs.WalkParts.{Path, WalksAs, TriesAs, heldAt, stoppedAt, endedAt};
 
 // Has a job failed?
-pub fn some_failed(failed: [bool; 32]) -> bool
-    ensures { λ b. ⌜ b ≡ any (λ flag. flag) failed ⌝ }
+pub fn some_failed(s: &[u8; 192]) -> bool
+    ensures { λ b. ⌜ b ≡ any (λ flag. flag) (snapshotIn (now (s .entry)) .failed) ⌝ }
 {
     let mut x: usize = 0;
     while x < 32 {
-        if failed[x] {
+        if s[16 + x] != 0 {
             return true;
         }
         x += 1;
@@ -54,14 +58,14 @@ pub fn stopped(count: u64) -> Outcome
 }
 
 // A complete order, which fails if a job has.
-pub fn ended(s: Snapshot, count: u64, length: u64) -> Outcome
-    ensures { λ r. ⌜ r ≡ endedAt s count length ⌝ }
+pub fn ended(s: &[u8; 192], count: u64, length: u64) -> Outcome
+    ensures { λ r. ⌜ r ≡ endedAt (snapshotIn (now (s .entry))) count length ⌝ }
 {
-    let failed = s.failed;
-    if !some_failed(failed) {
+    if !some_failed(s) {
         return held(count);
     }
-    let store = s.store;
+    let store = eight_at(s, 0);
+    let failed = failed_in(s);
     Outcome {
         found: true,
         stopped: false,
@@ -77,15 +81,15 @@ pub fn walk(
     program: &[u8; 544],
     times: &[u64; 64],
     locks: Ceilings,
-    s: Snapshot,
+    s: &[u8; 192],
     left: usize,
     count: u64,
     allowance: u64,
     out: &mut [u8],
 ) -> Outcome
-    requires { ⌜ (locks .count ≤ 8) × (s .depth ≤ 8) × (left ≤ 512) × (count ≤ allowance) × (512 ≤ length (now out)) ⌝ }
+    requires { ⌜ (locks .count ≤ 8) × IsState (now s) × (left ≤ 512) × (count ≤ allowance) × (512 ≤ length (now out)) ⌝ }
     ensures room { λ r. ⌜ (length (now (out .exit)) ≡ length (now (out .entry))) × (r .count ≤ allowance) × Path (512 - left) (now (out .entry)) (now (out .exit)) ⌝ }
-    ensures came { λ r. ⌜ WalksAs (now (program .entry)) (now (times .entry)) locks s left count allowance (now (out .entry)) (now (out .exit)) r ⌝ }
+    ensures came { λ r. ⌜ WalksAs (now (program .entry)) (now (times .entry)) locks (snapshotIn (now (s .entry))) left count allowance (now (out .entry)) (now (out .exit)) r ⌝ }
 {
     if finished(program, s) {
         return ended(s, count, (512 - left) as u64);
@@ -101,15 +105,15 @@ pub fn trial(
     program: &[u8; 544],
     times: &[u64; 64],
     locks: Ceilings,
-    s: Snapshot,
+    s: &[u8; 192],
     left: usize,
     count: u64,
     allowance: u64,
     out: &mut [u8],
 ) -> Outcome
-    requires { ⌜ (locks .count ≤ 8) × (s .depth ≤ 8) × (left < 512) × (count ≤ allowance) × (512 ≤ length (now out)) ⌝ }
+    requires { ⌜ (locks .count ≤ 8) × IsState (now s) × (left < 512) × (count ≤ allowance) × (512 ≤ length (now out)) ⌝ }
     ensures room { λ r. ⌜ (length (now (out .exit)) ≡ length (now (out .entry))) × (r .count ≤ allowance) × Path (511 - left) (now (out .entry)) (now (out .exit)) ⌝ }
-    ensures came { λ r. ⌜ TriesAs (now (program .entry)) (now (times .entry)) locks s left count allowance (now (out .entry)) (now (out .exit)) r ⌝ }
+    ensures came { λ r. ⌜ TriesAs (now (program .entry)) (now (times .entry)) locks (snapshotIn (now (s .entry))) left count allowance (now (out .entry)) (now (out .exit)) r ⌝ }
 {
     let mut made = count;
     let top = top_job(s);
@@ -119,8 +123,18 @@ pub fn trial(
             return stopped(made);
         }
         out[511 - left] = m.byte;
-        let next = m.state;
-        let r = walk(program, times, locks, next, left, made + 1, allowance, out);
+        let d = m.turn;
+        let f = d.frame;
+        let mut next = *s;
+        step_with(
+            program,
+            &mut next,
+            f,
+            d.under,
+            Task(m.byte / 16),
+            m.byte % 16,
+        );
+        let r = walk(program, times, locks, &next, left, made + 1, allowance, out);
         if r.found {
             return r;
         }

@@ -10,7 +10,7 @@ use Rattle.replay.proofs.bytes.first_upcoming.Statement.{statement}
 use Rattle.replay.proofs.bytes.first_upcoming.Tie as tie
 
 abbrev Inv-loop : tie.InvT-loop
-Inv-loop program i x₀ x = (x ≤ 32) × (firstFrom program i 0 32 ≡ firstFrom program i x (32 - x))
+Inv-loop program i x₀ x = (x ≤ 32) × (firstFrom program (i .0) 0 32 ≡ firstFrom program (i .0) x (32 - x))
 
 abbrev μ-loop : tie.MeasureT-loop
 μ-loop program i x₀ x = 32 - x
@@ -29,7 +29,7 @@ element-copy-out-owner c = omega arith
 
 returns : tie.Need-returns Inv-loop μ-loop
 unfolding ownerIn
-returns c = first-found _ _ _ (c .before .before .before .loop .inv .1) (c .before .before .loop-test .taken) (c .if1 .taken)
+returns c = first-found _ _ _ (c .before .before .before .before .loop .inv .1) (c .before .before .before .loop-test .taken) (c .if1 .taken)
 
 add-x : tie.Need-add-x Inv-loop μ-loop
 add-x c = omega arith
@@ -39,7 +39,7 @@ loop-less c = omega arith
 
 loop-again : tie.Need-loop-again Inv-loop μ-loop
 unfolding ownerIn
-loop-again c = (omega arith, first-later _ _ _ (c .before .before .before .loop .inv .1) (c .before .before .loop-test .taken) (c .if1 .left))
+loop-again c = (omega arith, first-later _ _ _ (c .before .before .before .before .loop .inv .1) (c .before .before .before .loop-test .taken) (c .if1 .left))
 
 returns-2 : tie.Need-returns-2 Inv-loop μ-loop
 returns-2 c = first-missing _ _ _ (c .before .loop .inv .1) (c .loop-test .left)

@@ -2,15 +2,17 @@
 -- replay of the bytes left, from the state in hand. The measure is the number of bytes left.
 -- Assumes nothing.
 use mathlib.Core.Path.{refl, _∙_}
-use Prim.Native.Nat.{_≤_, _-_}
+use Prim.Native.Nat.{_-_}
 use native.Mathlib.Omega.{arith}
 use lib.ListN.{length}
-use Rattle.order.specs.ReplayLoopLaws.{Reached, replay-past, replay-refused, replay-goes, replay-whole, replay-short}
+use Rattle.order.specs.ReplayLoopLaws.{Reached, replay-past, replay-whole, replay-short}
+use Rattle.steps.specs.StateBytes.{snapshotIn, IsState}
+use Rattle.replay.specs.StepBytes.{step-refused, step-goes}
 use Rattle.replay.proofs.bytes.replay_from.Statement.{statement}
 use Rattle.replay.proofs.bytes.replay_from.Tie as tie
 
 abbrev Inv-loop : tie.InvT-loop
-Inv-loop program times locks order s₀ index₀ s index = (s .depth ≤ 8) × Reached program times locks s₀ order s index
+Inv-loop program times locks order s₀ index₀ s index = IsState s × Reached program times locks (snapshotIn s₀) order (snapshotIn s) index
 
 abbrev μ-loop : tie.MeasureT-loop
 μ-loop program times locks order s₀ index₀ s index = length order - index
@@ -26,24 +28,28 @@ outcome-requires c κs = tt
 
 returns : tie.Need-returns Inv-loop μ-loop
 returns c =
+    let done = c .before .before .before in
     c .outcome .ensures
-    ∙ replay-past _ _ _ _ _ _ _ (c .before .before .before .before .loop .inv .1) (c .before .before .finished .ensures) (c .before .before .before .loop-test .taken) (c .before .if1 .taken)
+    ∙ replay-past _ _ _ _ _ _ _ (done .before .before .before .loop .inv .1) (done .finished .ensures) (done .before .before .loop-test .taken)
+    (c .before .before .if1 .taken)
 
 shared-slice-read-step : tie.Need-shared-slice-read-step Inv-loop μ-loop
 shared-slice-read-step c = omega arith
 
 step-requires : tie.Need-step-requires Inv-loop μ-loop
-step-requires c κs = (c .before .before .before .before .before .before .pre .0, c .before .before .before .before .loop .inv .0)
+step-requires c κs =
+    let at = c .before .before .before .before .before .before in (at .before .before .pre .0, at .loop .inv .0)
 
 outcome-requires-2 : tie.Need-outcome-requires-2 Inv-loop μ-loop
 outcome-requires-2 c κs = tt
 
 returns-2 : tie.Need-returns-2 Inv-loop μ-loop
 returns-2 c =
-    let done = c .before .before .before .before .before .before in
+    let made = c .before .before .before in
+    let done = made .before .before .before .before in
     c .outcome2 .ensures
-    ∙ replay-refused _ _ _ _ _ _ _ (done .before .before .loop .inv .1) (done .finished .ensures) (done .before .loop-test .taken)
-    (c .before .before .before .before .before .if1 .left) (c .before .before .before .step .ensures .0) (c .before .if2 .taken)
+    ∙ step-refused _ _ _ _ _ _ _ (done .before .before .before .loop .inv .1) (done .finished .ensures) (done .before .before .loop-test .taken)
+    (made .before .before .before .if1 .left) (made .step .ensures .0) (made .step .ensures .1 .0) (c .before .before .if2 .taken)
 
 add-index : tie.Need-add-index Inv-loop μ-loop
 add-index c = omega arith
@@ -53,10 +59,11 @@ loop-less c = omega arith
 
 loop-again : tie.Need-loop-again Inv-loop μ-loop
 loop-again c =
-    let done = c .before .before .before .before .before .before in (
-      c .before .before .before .step .ensures .1,
-      replay-goes _ _ _ _ _ _ _ (done .before .before .loop .inv .1) (done .finished .ensures) (done .before .loop-test .taken)
-          (c .before .before .before .before .before .if1 .left) (c .before .before .before .step .ensures .0) (c .before .if2 .left),
+    let made = c .before in
+    let done = made .before .before .before .before in (
+      made .step .ensures .1 .1,
+      step-goes _ _ _ _ _ _ _ (done .before .before .before .loop .inv .1) (done .finished .ensures) (done .before .before .loop-test .taken)
+          (made .before .before .before .if1 .left) (made .step .ensures .0) (made .step .ensures .1 .0) (c .if2 .left),
     )
 
 finished-requires-2 : tie.Need-finished-requires-2 Inv-loop μ-loop
@@ -67,16 +74,20 @@ outcome-requires-3 c κs = tt
 
 returns-3 : tie.Need-returns-3 Inv-loop μ-loop
 returns-3 c =
+    let done = c .before .before .before in
     c .outcome3 .ensures
-    ∙ replay-whole _ _ _ _ _ _ _ (c .before .before .before .before .loop .inv .1) (c .before .before .finished2 .ensures) (c .before .before .before .loop-test .left) (c .before .if3 .taken)
+    ∙ replay-whole _ _ _ _ _ _ _ (done .before .before .before .loop .inv .1) (done .finished2 .ensures) (done .before .before .loop-test .left)
+    (c .before .before .if3 .taken)
 
 outcome-requires-4 : tie.Need-outcome-requires-4 Inv-loop μ-loop
 outcome-requires-4 c κs = tt
 
 returns-4 : tie.Need-returns-4 Inv-loop μ-loop
 returns-4 c =
+    let done = c .before .before .before in
     c .outcome4 .ensures
-    ∙ replay-short _ _ _ _ _ _ _ (c .before .before .before .before .loop .inv .1) (c .before .before .finished2 .ensures) (c .before .before .before .loop-test .left) (c .before .if3 .left)
+    ∙ replay-short _ _ _ _ _ _ _ (done .before .before .before .loop .inv .1) (done .finished2 .ensures) (done .before .before .loop-test .left)
+    (c .before .before .if3 .left)
 
 pub replay-from-spec : {M : Type 1} → statement M
 replay-from-spec =

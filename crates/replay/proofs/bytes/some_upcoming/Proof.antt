@@ -7,32 +7,39 @@ use native.Mathlib.Omega.{arith}
 use Rattle.taskfile.specs.Lists.{any, from, upTo}
 use Rattle.order.specs.ReplayLoopLaws.{any-found, any-later, any-missing}
 use Rattle.order.specs.SnapshotSteps.{hasUpcoming}
+use Rattle.steps.specs.StateBytes.{snapshotIn}
+use Rattle.replay.specs.ReadLaws.{upcoming-at}
 use Rattle.replay.proofs.bytes.some_upcoming.Statement.{statement}
 use Rattle.replay.proofs.bytes.some_upcoming.Tie as tie
 
 abbrev Inv-loop : tie.InvT-loop
-Inv-loop program upcoming k₀ k =
-    (k ≤ 8) × (any (hasUpcoming program upcoming) (upTo 8) ≡ any (hasUpcoming program upcoming) (from k (8 - k)))
+Inv-loop program s k₀ k =
+    (k ≤ 8)
+    × (any (hasUpcoming program (snapshotIn s .upcoming)) (upTo 8) ≡ any (hasUpcoming program (snapshotIn s .upcoming)) (from k (8 - k)))
 
 abbrev μ-loop : tie.MeasureT-loop
-μ-loop program upcoming k₀ k = 8 - k
+μ-loop program s k₀ k = 8 - k
 
 loop-holds : tie.Need-loop-holds Inv-loop μ-loop
 unfolding upTo
 loop-holds c = (omega arith, refl)
 
-cast-x : tie.Need-cast-x Inv-loop μ-loop
-cast-x c = omega arith
+cast-t6 : tie.Need-cast-t6 Inv-loop μ-loop
+cast-t6 c = omega arith
 
-array-read-x : tie.Need-array-read-x Inv-loop μ-loop
-array-read-x c = omega arith
+add-t7 : tie.Need-add-t7 Inv-loop μ-loop
+add-t7 c = omega arith
+
+element-copy-out-t10 : tie.Need-element-copy-out-t10 Inv-loop μ-loop
+element-copy-out-t10 c = omega arith
 
 owned-by-requires : tie.Need-owned-by-requires Inv-loop μ-loop
 owned-by-requires c κs = tt
 
 returns : tie.Need-returns Inv-loop μ-loop
-unfolding hasUpcoming
-returns c = any-found _ _ (c .before .before .before .loop .inv .1) (c .before .before .loop-test .taken) (c .before .owned-by .ensures) (c .if1 .taken)
+returns c =
+    let lt = c .before .before .before .loop-test .taken in
+    any-found _ _ (c .before .before .before .before .loop .inv .1) lt (upcoming-at _ _ _ lt (c .before .owned-by .ensures)) (c .if1 .taken)
 
 add-k : tie.Need-add-k Inv-loop μ-loop
 add-k c = omega arith
@@ -41,8 +48,9 @@ loop-less : tie.Need-loop-less Inv-loop μ-loop
 loop-less c = omega arith
 
 loop-again : tie.Need-loop-again Inv-loop μ-loop
-unfolding hasUpcoming
-loop-again c = (omega arith, any-later _ _ (c .before .before .before .loop .inv .1) (c .before .before .loop-test .taken) (c .before .owned-by .ensures) (c .if1 .left))
+loop-again c =
+    let lt = c .before .before .before .loop-test .taken in
+    (omega arith, any-later _ _ (c .before .before .before .before .loop .inv .1) lt (upcoming-at _ _ _ lt (c .before .owned-by .ensures)) (c .if1 .left))
 
 returns-2 : tie.Need-returns-2 Inv-loop μ-loop
 returns-2 c = any-missing _ _ (c .before .loop .inv .1) (c .loop-test .left)
@@ -54,8 +62,9 @@ some-upcoming-spec =
     Inv-loop
     μ-loop
     loop-holds
-    cast-x
-    array-read-x
+    cast-t6
+    add-t7
+    element-copy-out-t10
     owned-by-requires
     returns
     add-k

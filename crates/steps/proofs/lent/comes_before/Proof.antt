@@ -8,6 +8,12 @@ use borrow.Author.Needs.{needs}
 use Rattle.steps.proofs.lent.comes_before.Statement.{statement}
 use Rattle.steps.proofs.lent.comes_before.Tie as tie
 
+cast-first : tie.Need-cast-first
+cast-first c = search needs
+
+cast-second : tie.Need-cast-second
+cast-second c = search needs
+
 mul-arrival : tie.Need-mul-arrival
 mul-arrival c = search needs
 
@@ -57,6 +63,8 @@ pub comes-before-spec : {M : Type 1} → statement M
 comes-before-spec =
     tie.close
     (tie.spec
+    cast-first
+    cast-second
     mul-arrival
     element-copy-out-arrival
     add-if1

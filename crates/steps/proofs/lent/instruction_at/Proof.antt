@@ -6,6 +6,9 @@ use borrow.Author.Needs.{needs}
 use Rattle.steps.proofs.lent.instruction_at.Statement.{statement}
 use Rattle.steps.proofs.lent.instruction_at.Tie as tie
 
+cast-at : tie.Need-cast-at
+cast-at c = search needs
+
 mul-at : tie.Need-mul-at
 mul-at c = search needs
 
@@ -44,6 +47,7 @@ pub instruction-at-spec : {M : Type 1} → statement M
 instruction-at-spec =
     tie.close
     (tie.spec
+    cast-at
     mul-at
     mul-at-2
     add-at

@@ -9,6 +9,12 @@ use borrow.Author.Needs.{needs}
 use Rattle.steps.proofs.lent.may_preempt.Statement.{statement}
 use Rattle.steps.proofs.lent.may_preempt.Tie as tie
 
+cast-lower : tie.Need-cast-lower
+cast-lower c = search needs
+
+cast-upper : tie.Need-cast-upper
+cast-upper c = search needs
+
 add-if1 : tie.Need-add-if1
 add-if1 c = search needs
 
@@ -58,6 +64,8 @@ pub may-preempt-spec : {M : Type 1} → statement M
 may-preempt-spec =
     tie.close
     (tie.spec
+    cast-lower
+    cast-upper
     add-if1
     element-copy-out-if1
     add-if1-2

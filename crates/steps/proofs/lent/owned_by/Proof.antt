@@ -12,6 +12,9 @@ returns : tie.Need-returns
 unfolding ownedBy
 returns c = sym (and-first _ _ (le-ltb _ _ (c .if1 .taken)))
 
+cast-result : tie.Need-cast-result
+cast-result c = search needs
+
 add-result : tie.Need-add-result
 add-result c = search needs
 
@@ -20,7 +23,8 @@ element-copy-out-result c = search needs
 
 returns-2 : tie.Need-returns-2
 unfolding ownedBy ownerIn
-returns-2 c = sym (and-second _ _ (lt-ltb _ _ (c .before .if1 .left)))
+returns-2 c = sym (and-second _ _ (lt-ltb _ _ (c .before .before .before .if1 .left)))
 
 pub owned-by-spec : {M : Type 1} → statement M
-owned-by-spec = tie.close (tie.spec returns add-result element-copy-out-result returns-2)
+owned-by-spec =
+    tie.close (tie.spec returns cast-result add-result element-copy-out-result returns-2)

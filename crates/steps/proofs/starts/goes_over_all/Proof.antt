@@ -4,46 +4,40 @@
 use Prim.Native.Nat.{_≤_, _-_}
 use native.Mathlib.Omega.{arith}
 use mathlib.Core.Path.{_≡_, refl, sym, _∙_}
-use lib.ListN.{length, drop, length-map}
+use lib.ListN.{drop}
 use Rattle.taskfile.specs.Lists.{all}
-use Rattle.order.specs.SnapshotSteps.{goesOver, stackOf, noFrame}
-use Rattle.order.specs.StartLaws.{all-fails, all-next, all-end}
+use Rattle.order.specs.SnapshotSteps.{goesOver, stackOf}
+use Rattle.steps.specs.StateBytes.{snapshotIn}
+use Rattle.steps.specs.StateReads.{over-fails, over-next, over-end}
+use borrow.Author.Needs.{needs}
 use Rattle.steps.proofs.starts.goes_over_all.Statement.{statement}
 use Rattle.steps.proofs.starts.goes_over_all.Tie as tie
 
 abbrev Inv-loop : tie.InvT-loop
-Inv-loop program times locks y s k₀ k = (k ≤ s .depth) × (all (goesOver program times locks y) (stackOf s) ≡ all (goesOver program times locks y) (drop k (stackOf s)))
+Inv-loop program times locks s y depth k₀ k =
+    (k ≤ depth)
+    × (all (goesOver program times locks (y .0)) (stackOf (snapshotIn s))
+    ≡ all (goesOver program times locks (y .0)) (drop k (stackOf (snapshotIn s))))
 
 abbrev μ-loop : tie.MeasureT-loop
-μ-loop program times locks y s k₀ k = s .depth - k
+μ-loop program times locks s y depth k₀ k = depth - k
 
--- the array of active jobs has eight places
-stack-length : (c : tie.Start Inv-loop μ-loop) → length (c .args .t5 .stack) ≡ 8
-stack-length c = sym (length-map (c .args .t5 .stack) _) ∙ c .good .1 .1 .1 .1 .0 .1 .1 .1 .1 .1 .1 .0 .1 .0 .1
+element-copy-out-depth : tie.Need-element-copy-out-depth Inv-loop μ-loop
+element-copy-out-depth c = search needs
 
 loop-holds : tie.Need-loop-holds Inv-loop μ-loop
-unfolding stackOf
 loop-holds c = (omega arith, refl)
 
-cast-f : tie.Need-cast-f Inv-loop μ-loop
-cast-f c = omega arith
-
-mul-f : tie.Need-mul-f Inv-loop μ-loop
-mul-f c = omega arith
-
-element-copy-out-f : tie.Need-element-copy-out-f Inv-loop μ-loop
-element-copy-out-f c = omega arith
-
 goes-over-requires : tie.Need-goes-over-requires Inv-loop μ-loop
-goes-over-requires c κs = omega arith
+goes-over-requires c κs =
+    let start = c .before .before .before .pre in
+    (start .0, start .1, omega (arith, start .2 .few))
 
 returns : tie.Need-returns Inv-loop μ-loop
-unfolding stackOf
 returns c =
-    let s = c .before .before .before .before .before .args .t5 in
-    let k = c .before .before .before .before .loop .k in
-    let full = stack-length (c .before .before .before .before .before) in
-    sym (c .before .before .before .before .loop .inv .1 ∙ all-fails _ _ (s .stack) k (s .depth) (omega arith) (omega arith) _ (c .before .goes-over .ensures) (c .if1 .taken))
+    let entered = c .before .before in
+    sym (entered .before .loop .inv .1
+    ∙ over-fails _ _ _ _ _ _ (entered .before .before .before .pre .2 .few) (entered .loop-test .taken) (c .before .goes-over .ensures) (c .if1 .taken))
 
 add-k : tie.Need-add-k Inv-loop μ-loop
 add-k c = omega arith
@@ -52,18 +46,15 @@ loop-less : tie.Need-loop-less Inv-loop μ-loop
 loop-less c = omega arith
 
 loop-again : tie.Need-loop-again Inv-loop μ-loop
-unfolding stackOf
 loop-again c =
-    let s = c .before .before .before .before .before .args .t5 in
-    let k = c .before .before .before .before .loop .k in
-    let full = stack-length (c .before .before .before .before .before) in
-    (omega arith, c .before .before .before .before .loop .inv .1 ∙ all-next _ _ (s .stack) k (s .depth) (omega arith) (omega arith) _ (c .before .goes-over .ensures) (c .if1 .left))
+    let entered = c .before .before in (
+      omega arith,
+      entered .before .loop .inv .1
+          ∙ over-next _ _ _ _ _ _ (entered .before .before .before .pre .2 .few) (entered .loop-test .taken) (c .before .goes-over .ensures) (c .if1 .left),
+    )
 
 returns-2 : tie.Need-returns-2 Inv-loop μ-loop
-unfolding stackOf
-returns-2 c =
-    let s = c .before .before .args .t5 in
-    sym (c .before .loop .inv .1 ∙ all-end _ noFrame (s .stack) (c .before .loop .k) (s .depth) (omega arith))
+returns-2 c = sym (c .before .loop .inv .1 ∙ over-end _ _ _ _ _ _ (c .loop-test .left))
 
 pub goes-over-all-spec : {M : Type 1} → statement M
 goes-over-all-spec =
@@ -71,10 +62,8 @@ goes-over-all-spec =
     (tie.spec
     Inv-loop
     μ-loop
+    element-copy-out-depth
     loop-holds
-    cast-f
-    mul-f
-    element-copy-out-f
     goes-over-requires
     returns
     add-k

@@ -7,21 +7,24 @@ use mathlib.Core.Path.{_≡_, refl, sym, _∙_}
 use Rattle.taskfile.specs.Lists.{any, from, upTo}
 use Rattle.order.specs.SnapshotSteps.{waitsFor, waits}
 use Rattle.order.specs.StartLaws.{any-here, any-next, any-end}
+use Rattle.steps.specs.StateBytes.{snapshotIn}
 use Rattle.steps.proofs.starts.must_wait.Statement.{statement}
 use Rattle.steps.proofs.starts.must_wait.Tie as tie
 
 abbrev Inv-loop : tie.InvT-loop
-Inv-loop program times upcoming y k₀ k = (k ≤ 8) × (waits program times upcoming y ≡ any (waitsFor program times upcoming y) (from k (8 - k)))
+Inv-loop program times s y k₀ k =
+    (k ≤ 8)
+    × (waits program times (snapshotIn s .upcoming) (y .0) ≡ any (waitsFor program times (snapshotIn s .upcoming) (y .0)) (from k (8 - k)))
 
 abbrev μ-loop : tie.MeasureT-loop
-μ-loop program times upcoming y k₀ k = 8 - k
+μ-loop program times s y k₀ k = 8 - k
 
 loop-holds : tie.Need-loop-holds Inv-loop μ-loop
 unfolding waits upTo
 loop-holds c = (omega arith, refl)
 
 waits-for-requires : tie.Need-waits-for-requires Inv-loop μ-loop
-waits-for-requires c κs = omega arith
+waits-for-requires c κs = (c .before .before .pre, c .loop-test .taken)
 
 returns : tie.Need-returns Inv-loop μ-loop
 returns c = sym (c .before .before .before .loop .inv .1 ∙ any-here _ _ 8 (omega arith) (sym (c .before .waits-for .ensures) ∙ c .if1 .taken))

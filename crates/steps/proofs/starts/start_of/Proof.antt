@@ -1,8 +1,9 @@
 -- `steps::starts::start_of` meets its contract: each return is one case of the definition.
 -- Assumes nothing.
 use mathlib.Core.Path.{sym, _∙_}
-use borrow.Author.Tests.{not-true, not-false}
-use Rattle.order.specs.StartLaws.{starts-no-task, start-none, start-due}
+use Rattle.order.specs.StartLaws as start
+use Rattle.order.specs.StartLaws.{starts-no-task}
+use Rattle.steps.specs.StateReads.{start-none, start-due}
 use borrow.Author.Needs.{needs}
 use Rattle.steps.proofs.starts.start_of.Statement.{statement}
 use Rattle.steps.proofs.starts.start_of.Tie as tie
@@ -11,7 +12,7 @@ no-turn-requires : tie.Need-no-turn-requires
 no-turn-requires c κs = search needs
 
 returns : tie.Need-returns
-returns c = c .no-turn .ensures ∙ sym (start-none _ _ _ _ _ (starts-no-task _ _ _ _ _ (c .before .if1 .taken)))
+returns c = c .no-turn .ensures ∙ sym (start.start-none _ _ _ _ _ (starts-no-task _ _ _ _ _ (c .before .if1 .taken)))
 
 may-start-requires : tie.Need-may-start-requires
 may-start-requires c κs = search needs
@@ -20,17 +21,27 @@ no-turn-requires-2 : tie.Need-no-turn-requires-2
 no-turn-requires-2 c κs = search needs
 
 returns-2 : tie.Need-returns-2
-returns-2 c = c .no-turn2 .ensures ∙ sym (start-none _ _ _ _ _ (sym (c .before .before .may-start .ensures) ∙ not-true _ (c .before .if2 .taken)))
+returns-2 c = c .no-turn2 .ensures ∙ sym (start-none _ _ _ _ _ (c .before .before .may-start .ensures) (c .before .if2 .taken))
 
-element-copy-out-y : tie.Need-element-copy-out-y
-element-copy-out-y c = search needs
+cast-t9 : tie.Need-cast-t9
+cast-t9 c = search needs
+
+add-t10 : tie.Need-add-t10
+add-t10 c = search needs
+
+element-copy-out-t13 : tie.Need-element-copy-out-t13
+element-copy-out-t13 c = search needs
 
 fresh-local-requires : tie.Need-fresh-local-requires
 fresh-local-requires c κs = search needs
 
+element-copy-out-t13-2 : tie.Need-element-copy-out-t13-2
+element-copy-out-t13-2 c = search needs
+
 returns-3 : tie.Need-returns-3
 returns-3 c =
-    rw (c .fresh-local .ensures) (sym (start-due _ _ _ _ _ (sym (c .before .before .before .may-start .ensures) ∙ not-false _ (c .before .before .if2 .left))))
+    let starts = c .before .before .before .before in
+    start-due _ _ _ _ _ (starts .before .before .if1 .left) (starts .before .may-start .ensures) (starts .if2 .left) (c .before .fresh-local .ensures)
 
 pub start-of-spec : {M : Type 1} → statement M
 start-of-spec =
@@ -41,6 +52,9 @@ start-of-spec =
     may-start-requires
     no-turn-requires-2
     returns-2
-    element-copy-out-y
+    cast-t9
+    add-t10
+    element-copy-out-t13
     fresh-local-requires
+    element-copy-out-t13-2
     returns-3)

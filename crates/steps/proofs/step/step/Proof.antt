@@ -1,8 +1,10 @@
--- `steps::step::step` meets its contract: where the turn is due its job steps, and else nothing changes. The bounds are laws of the turn.
+-- `steps::step::step` meets its contract: where the turn is due and the value on offer its job steps, and else nothing changes.
 -- Assumes nothing.
-use borrow.Author.Needs.{needs}
+use mathlib.Core.Path.{sym, _∙_}
 use borrow.Author.Tests.{not-false}
-use Rattle.order.specs.TurnLaws.{due-task, step-none, step-due, step-deep}
+use borrow.Author.Needs.{needs}
+use Rattle.steps.specs.StepParts.{offered-inside}
+use Rattle.steps.specs.StepCases.{task-small, step-nobody, step-refused, step-made}
 use Rattle.steps.proofs.step.step.Statement.{statement}
 use Rattle.steps.proofs.step.step.Tie as tie
 
@@ -10,19 +12,48 @@ turn-of-requires : tie.Need-turn-of-requires
 turn-of-requires c κs = search needs
 
 returns : tie.Need-returns
-returns c = (step-none _ _ _ _ _ (c .before .before .turn-of .ensures .0) (c .if1 .taken), c .before .before .before .pre .1)
+returns c =
+    let none = step-nobody _ _ _ _ _ (c .before .before .turn-of .ensures .0) (c .if1 .taken) in
+    (none .0, (none .1, c .before .before .before .before .pre .1))
 
-step-with-requires : tie.Need-step-with-requires
-step-with-requires c κs =
-    let turn = c .before .before .before .turn-of .ensures in
-    let due = not-false _ (c .before .if1 .left) in
-    (turn .1 due .1, turn .1 due .0, due-task _ _ _ _ _ (turn .0) (c .before .before .before .before .pre .1) due)
+offered-requires : tie.Need-offered-requires
+offered-requires c κs =
+    task-small _ _ _ _ _ (c .before .before .before .turn-of .ensures .0) (c .before .before .before .before .before .pre .1) (c .before .if1 .left)
 
 returns-2 : tie.Need-returns-2
 returns-2 c =
-    let turn = c .before .before .before .before .turn-of .ensures .0 in
-    let due = c .before .before .if1 .left in
-    (step-due _ _ _ _ _ turn due (c .step-with .ensures), step-deep _ _ _ _ _ turn (c .before .before .before .before .before .pre .1) due (c .step-with .ensures))
+    let due = c .before .before .before in
+    let turned = due .before .before in
+    let none = step-refused _ _ _ _ _ (turned .turn-of .ensures .0) (due .if1 .left) (c .before .offered .ensures) (c .if2 .taken) in
+    (none .0, (none .1, turned .before .before .pre .1))
+
+step-with-requires : tie.Need-step-with-requires
+step-with-requires c κs =
+    let offer = c .before .before in
+    let due = offer .before .before in
+    let turned = due .before .before in
+    let start = turned .before .before in
+    let bounds = turned .turn-of .ensures .1 (not-false _ (due .if1 .left)) in
+    let inside = offered-inside _ _ _ _ (sym (offer .offered .ensures) ∙ not-false _ (c .before .if2 .left)) in
+    let task = task-small _ _ _ _ _ (turned .turn-of .ensures .0) (start .pre .1) (due .if1 .left) in
+    (start .pre .1, bounds .1, inside, bounds .0, task)
+
+returns-3 : tie.Need-returns-3
+returns-3 c =
+    let offer = c .before .before .before in
+    let due = offer .before .before in
+    let turned = due .before .before in
+    let put = c .step-with .ensures in
+    let made = step-made _ _ _ _ _ (turned .turn-of .ensures .0) (due .if1 .left) (offer .offered .ensures) (c .before .before .if2 .left) (put .0) in
+    (made .0, (made .1, put .1))
 
 pub step-spec : {M : Type 1} → statement M
-step-spec = tie.close (tie.spec turn-of-requires returns step-with-requires returns-2)
+step-spec =
+    tie.close
+    (tie.spec
+    turn-of-requires
+    returns
+    offered-requires
+    returns-2
+    step-with-requires
+    returns-3)

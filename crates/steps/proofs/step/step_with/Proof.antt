@@ -1,44 +1,64 @@
--- `steps::step::step_with` meets its contract: each return is one case of the step of the job in the frame.
+-- `steps::step::step_with` meets its contract: the effect that it writes is the one of the definition's instruction on the state's store.
 -- Assumes nothing.
 use borrow.Author.Needs.{needs}
-use Rattle.order.specs.TurnLaws.{with-past, with-none, with-made}
+use Rattle.steps.specs.StepCases.{made-so}
 use Rattle.steps.proofs.step.step_with.Statement.{statement}
 use Rattle.steps.proofs.step.step_with.Tie as tie
-
-returns : tie.Need-returns
-returns c = with-past _ _ _ _ _ _ (c .if1 .taken)
 
 instruction-at-requires : tie.Need-instruction-at-requires
 instruction-at-requires c κs = search needs
 
-on-offer-requires : tie.Need-on-offer-requires
-on-offer-requires c κs = search needs
+element-copy-out-t14 : tie.Need-element-copy-out-t14
+element-copy-out-t14 c = search needs
 
-returns-2 : tie.Need-returns-2
-returns-2 c =
-    with-none _ _ _ _ _ _ (c .before .before .before .if1 .left) (c .before .before .instruction-at .ensures) (c .before .on-offer .ensures)
-    (c .if2 .taken)
+element-copy-out-t17 : tie.Need-element-copy-out-t17
+element-copy-out-t17 c = search needs
+
+element-copy-out-t20 : tie.Need-element-copy-out-t20
+element-copy-out-t20 c = search needs
+
+element-copy-out-t23 : tie.Need-element-copy-out-t23
+element-copy-out-t23 c = search needs
+
+element-copy-out-t26 : tie.Need-element-copy-out-t26
+element-copy-out-t26 c = search needs
+
+element-copy-out-t29 : tie.Need-element-copy-out-t29
+element-copy-out-t29 c = search needs
+
+element-copy-out-t32 : tie.Need-element-copy-out-t32
+element-copy-out-t32 c = search needs
+
+element-copy-out-t35 : tie.Need-element-copy-out-t35
+element-copy-out-t35 c = search needs
 
 perform-instruction-requires : tie.Need-perform-instruction-requires
 perform-instruction-requires c κs = search needs
 
-after-effect-requires : tie.Need-after-effect-requires
-after-effect-requires c κs = search needs
+put-effect-requires : tie.Need-put-effect-requires
+put-effect-requires c κs = search needs
 
-returns-3 : tie.Need-returns-3
-returns-3 c =
-    let offered = c .before .before .before .before .before in
-    with-made _ _ _ _ _ _ (offered .before .before .if1 .left) (offered .before .instruction-at .ensures) (offered .on-offer .ensures)
-    (c .before .before .before .before .if2 .left) (c .before .before .perform-instruction .ensures) (c .after-effect .ensures)
+returns : tie.Need-returns
+returns c =
+    let performed = c .before .before .before in
+    let read = performed .before .before .before .before .before .before .before .before .before in
+    let start = read .before .before in
+    let put = c .put-effect .ensures in
+    (made-so _ _ (start .args .f) _ _ _ (read .instruction-at .ensures) (performed .perform-instruction .ensures) (put .0), put .1)
 
 pub step-with-spec : {M : Type 1} → statement M
 step-with-spec =
     tie.close
     (tie.spec
-    returns
     instruction-at-requires
-    on-offer-requires
-    returns-2
+    element-copy-out-t14
+    element-copy-out-t17
+    element-copy-out-t20
+    element-copy-out-t23
+    element-copy-out-t26
+    element-copy-out-t29
+    element-copy-out-t32
+    element-copy-out-t35
     perform-instruction-requires
-    after-effect-requires
-    returns-3)
+    put-effect-requires
+    returns)

@@ -1,8 +1,6 @@
 -- `walk::entries::walk_table` meets its contract: the filled arrays hold the table, so the walk on snapshots is that of the definition.
 -- Assumes nothing.
-use native.Mathlib.Omega.{arith}
 use borrow.Author.Needs.{needs}
-use Rattle.order.specs.SnapshotSteps.{firstSnapshot}
 use Rattle.walk.specs.WalkEntryLaws.{walk-lent}
 use Rattle.walk.proofs.entries.walk_table.Statement.{statement}
 use Rattle.walk.proofs.entries.walk_table.Tie as tie
@@ -13,23 +11,21 @@ program-of-requires c κs = search needs
 times-of-requires : tie.Need-times-of-requires
 times-of-requires c κs = search needs
 
-first-snapshot-requires : tie.Need-first-snapshot-requires
-first-snapshot-requires c κs = search needs
+first-state-requires : tie.Need-first-state-requires
+first-state-requires c κs = search needs
 
 walk-requires : tie.Need-walk-requires
-unfolding firstSnapshot
-walk-requires c κs =
-    let given = c .before .before .before .before .before .before .before .before .before .before .pre in
-    (given .0 .locksWithin, rw (c .before .before .before .first-snapshot .ensures) (omega arith), omega arith, omega arith, given .2)
+walk-requires c κs = search needs
 
 same-length : tie.Need-same-length
 same-length c = search needs
 
 returns : tie.Need-returns
 returns c =
-    let filled = c .before .before .before .before .before .before .before .before .before .before in
     let walked = c .before .before .walk .ensures in
-    (walked .0 .0, walk-lent (filled .before .program-of .ensures) (filled .times-of .ensures) (c .before .before .before .before .before .before .first-snapshot .ensures) (walked .1))
+    let first = c .before .before .before .before .before .before .before in
+    let filled = first .before .before .before .before in
+    (walked .0 .0, walk-lent (filled .before .program-of .ensures) (filled .times-of .ensures) (first .first-state .ensures .0) (walked .1))
 
 pub walk-table-spec : {M : Type 1} → statement M
 walk-table-spec =
@@ -37,7 +33,7 @@ walk-table-spec =
     (tie.spec
     program-of-requires
     times-of-requires
-    first-snapshot-requires
+    first-state-requires
     walk-requires
     same-length
     returns)

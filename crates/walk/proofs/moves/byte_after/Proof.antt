@@ -15,20 +15,20 @@ mul-next-task : tie.Need-mul-next-task
 mul-next-task c = search needs
 
 returns : tie.Need-returns
-returns c = after-other _ _ _ (c .before .before .instruction-at .ensures) (c .if1 .taken)
+returns c = after-other _ _ _ (c .before .before .before .instruction-at .ensures) (c .if1 .taken)
 
 returns-2 : tie.Need-returns-2
-returns-2 c = after-last _ _ _ (c .before .before .before .before .instruction-at .ensures) (c .if2 .taken)
+returns-2 c = after-last _ _ _ (c .before .before .before .before .before .instruction-at .ensures) (c .if2 .taken)
 
 returns-3 : tie.Need-returns-3
-returns-3 c = after-fifteen _ _ _ (c .before .before .before .before .before .instruction-at .ensures) (c .if3 .taken)
+returns-3 c = after-fifteen _ _ _ (c .before .before .before .before .before .before .instruction-at .ensures) (c .if3 .taken)
 
 add-result : tie.Need-add-result
 add-result c = search needs
 
 returns-4 : tie.Need-returns-4
 returns-4 c =
-    after-value _ _ _ (c .before .before .before .before .before .instruction-at .ensures) (c .before .before .before .if1 .left)
+    after-value _ _ _ (c .before .before .before .before .before .before .instruction-at .ensures) (c .before .before .before .if1 .left)
     (c .before .if2 .left) (c .if3 .left)
 
 pub byte-after-spec : {M : Type 1} → statement M

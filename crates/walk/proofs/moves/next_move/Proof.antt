@@ -1,26 +1,25 @@
 -- `walk::moves::next_move` meets its contract. The loop's invariant: no byte from `byte` up to `at` is a step. The measure is the number of
 -- bytes left.
 -- Assumes nothing.
-use mathlib.Core.Path.{_≡_, refl, sym, _∙_}
+use mathlib.Core.Path.{refl, sym, _∙_}
 use mathlib.Core.Logic.{inl, inr}
 use Prim.Native.Nat.{_≤_, _-_}
 use native.Mathlib.Omega.{arith}
-use lib.ListN.{length, length-map}
+use Rattle.steps.specs.StateBytes.{snapshotIn}
 use Rattle.walk.specs.DueLaws.{not-due}
-use Rattle.walk.specs.NextLaws.{with-inside, passed-idle, passed-refused, step-found, no-move}
+use Rattle.walk.specs.NextLaws.{passed-idle, passed-refused, step-found, no-move}
+use Rattle.steps.specs.StateReads.{stack-length}
+use Rattle.steps.specs.StepParts.{offered-inside}
+use Rattle.walk.specs.StateLaws.{few-deep}
 use Rattle.walk.specs.WalkParts.{NoStep}
 use Rattle.walk.proofs.moves.next_move.Statement.{statement}
 use Rattle.walk.proofs.moves.next_move.Tie as tie
 
 abbrev Inv-loop : tie.InvT-loop
-Inv-loop program times locks s top byte upcoming at₀ at = (byte ≤ at) × (at ≤ 128) × NoStep program times locks s byte at
+Inv-loop program times locks s top byte at₀ at = (byte ≤ at) × (at ≤ 128) × NoStep program times locks (snapshotIn s) byte at
 
 abbrev μ-loop : tie.MeasureT-loop
-μ-loop program times locks s top byte upcoming at₀ at = 128 - at
-
--- the stack's array has eight frames
-stack-length : (c : tie.Start Inv-loop μ-loop) → length (c .args .s .stack) ≡ 8
-stack-length c = sym (length-map (c .args .s .stack) _) ∙ c .good .1 .1 .1 .0 .1 .1 .1 .1 .1 .1 .0 .1 .0 .1
+μ-loop program times locks s top byte at₀ at = 128 - at
 
 loop-holds : tie.Need-loop-holds Inv-loop μ-loop
 loop-holds c = (omega arith, omega arith, λ k low high. absurd (omega arith))
@@ -29,22 +28,20 @@ may-be-due-requires : tie.Need-may-be-due-requires Inv-loop μ-loop
 may-be-due-requires c κs = omega arith
 
 turn-of-requires : tie.Need-turn-of-requires Inv-loop μ-loop
-turn-of-requires c κs = (c .before .before .before .before .before .pre .0, c .before .before .before .before .before .pre .1)
+turn-of-requires c κs = (c .before .before .before .before .pre .0, c .before .before .before .before .pre .1)
 
-step-with-requires : tie.Need-step-with-requires Inv-loop μ-loop
-step-with-requires c κs =
-    let bounds = c .before .before .turn-of .ensures .1 (c .before .if2 .taken) in
-    (bounds .1, bounds .0, omega arith)
+offered-requires : tie.Need-offered-requires Inv-loop μ-loop
+offered-requires c κs = omega arith
 
 byte-after-requires : tie.Need-byte-after-requires Inv-loop μ-loop
-byte-after-requires c κs = (omega arith, with-inside _ _ _ _ _ _ (c .before .before .step-with .ensures) (c .before .if3 .taken))
+byte-after-requires c κs = (omega arith, offered-inside _ _ _ _ (sym (c .before .offered .ensures) ∙ c .if3 .taken))
 
 returns : tie.Need-returns Inv-loop μ-loop
 returns c =
-    let due = c .before .before .before .before .before in
-    let head = due .before .before .before .before .before .loop .inv in
-    step-found _ _ _ _ _ (due .before .turn-of .ensures .0) (due .if2 .taken) (c .before .before .before .step-with .ensures) _
-    (due .before .before .before .before .loop-test .taken) (head .0) (head .2) (c .before .before .if3 .taken) (c .byte-after .ensures)
+    let due = c .before .before .before .before in
+    let head = due .before .before .before .before in
+    step-found _ _ _ _ _ (due .before .turn-of .ensures .0) (due .if2 .taken) (c .before .before .offered .ensures) _
+    (head .loop-test .taken) (head .before .loop .inv .0) (head .before .loop .inv .2) (c .before .if3 .taken) (c .byte-after .ensures)
 
 add-at : tie.Need-add-at Inv-loop μ-loop
 add-at c = omega arith
@@ -58,7 +55,7 @@ loop-less c = omega arith
 loop-again : tie.Need-loop-again Inv-loop μ-loop
 loop-again c =
     let head = c .before .before .before .loop .inv in
-    let start = c .before .before .before .before .before in (
+    let start = c .before .before .before .before in (
       omega arith,
       omega arith,
       elim (c .if1 .came) [
@@ -66,12 +63,16 @@ loop-again c =
         | inr (inl idle) ↦ passed-idle _ _ _ _ _ (idle .1 .ensures .0) _ (head .2) (idle .2 .left)
         | inr (inr skipped) ↦
             passed-idle _ _ _ _ _ refl _ (head .2)
-            (not-due _ _ _ _ _ (start .pre .1) (stack-length start) (start .pre .3) (c .before .may-be-due .ensures) (skipped .left))
+            (not-due _ _ _ _ _ (few-deep (start .pre .1)) (stack-length _) (start .pre .3) (c .before .may-be-due .ensures) (skipped .left))
       ],
     )
 
+no-turn-requires : tie.Need-no-turn-requires Inv-loop μ-loop
+no-turn-requires c κs = tt
+
 returns-2 : tie.Need-returns-2 Inv-loop μ-loop
-returns-2 c = no-move _ _ _ _ _ _ (c .before .before .before .pre .2) (c .before .loop .inv .2) (c .loop-test .left)
+returns-2 c =
+    no-move _ _ _ _ _ _ (c .before .before .before .pre .2) (c .before .before .loop .inv .2) (c .before .loop-test .left)
 
 pub next-move-spec : {M : Type 1} → statement M
 next-move-spec =
@@ -82,11 +83,12 @@ next-move-spec =
     loop-holds
     may-be-due-requires
     turn-of-requires
-    step-with-requires
+    offered-requires
     byte-after-requires
     returns
     add-at
     mul-at
     loop-less
     loop-again
+    no-turn-requires
     returns-2)

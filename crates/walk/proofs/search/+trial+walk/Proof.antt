@@ -1,8 +1,9 @@
 use Prim.Native.Nat.{ℕ, _+_, _-_, _*_, _<_}
-use Rattle.walk.specs.TrialLaws.{Trying, trying-starts, stops-answer, ends-answer, finds-answer, cut-answer, on-answer, ended-answer, none-left-answer, tried-answer, deep-step}
+use Rattle.walk.specs.TrialLaws.{Trying, trying-starts, stops-answer, ends-answer, finds-answer, cut-answer, on-answer, ended-answer, none-left-answer, tried-answer, move-bounds}
 use mathlib.Core.Path.{sym, _∙_}
 use lib.ListN.{length-set}
 use native.Mathlib.Omega.{arith}
+use Rattle.steps.specs.StateBytes.{snapshotIn}
 use borrow.Fn.Kinds.{In}
 use borrow.Fn.PlainCycle.{Measures, is, falls, and}
 use Rattle.walk.proofs.search.trial.Reads as trial
@@ -14,39 +15,40 @@ use Rattle.walk.proofs.search.+trial+walk.Lts-walk as walk-lts
 use Rattle.replay.proofs.bytes.finished.Reads as finished-reads
 use Rattle.walk.proofs.moves.next_move.Reads as next-move-reads
 use Rattle.walk.proofs.moves.top_job.Reads as top-job-reads
+use Rattle.steps.proofs.step.step_with.Reads as step-with-reads
 use Rattle.walk.proofs.search.ended.Reads as ended-reads
 use Rattle.walk.proofs.search.held.Reads as held-reads
 use Rattle.walk.proofs.search.stopped.Reads as stopped-reads
 use Rattle.walk.proofs.search.+trial+walk.{statement}
 use Rattle.walk.proofs.search.+trial+walk.Tie.{close}
 
-abbrev μ-trial : Measures 3 trial-kinds.ps ℕ
+abbrev μ-trial : Measures 4 trial-kinds.ps ℕ
 μ-trial κs a = 2 * a .1 .1 .1 .1 .0 + 1
 
-abbrev μ-walk : Measures 3 walk-kinds.ps ℕ
+abbrev μ-walk : Measures 4 walk-kinds.ps ℕ
 μ-walk κs a = 2 * a .1 .1 .1 .1 .0
 
-abbrev trial-at : ℕ → In 3 trial-kinds.ps
-trial-at t = and 3 trial-kinds.ps (is 3 trial-kinds.ps μ-trial t) trial.Pre
+abbrev trial-at : ℕ → In 4 trial-kinds.ps
+trial-at t = and 4 trial-kinds.ps (is 4 trial-kinds.ps μ-trial t) trial.Pre
 
-abbrev trial-below : ℕ → In 3 trial-kinds.ps
-trial-below t = and 3 trial-kinds.ps (falls 3 trial-kinds.ps _<_ μ-trial t) trial.Pre
+abbrev trial-below : ℕ → In 4 trial-kinds.ps
+trial-below t = and 4 trial-kinds.ps (falls 4 trial-kinds.ps _<_ μ-trial t) trial.Pre
 
-abbrev walk-at : ℕ → In 3 walk-kinds.ps
-walk-at t = and 3 walk-kinds.ps (is 3 walk-kinds.ps μ-walk t) walk.Pre
+abbrev walk-at : ℕ → In 4 walk-kinds.ps
+walk-at t = and 4 walk-kinds.ps (is 4 walk-kinds.ps μ-walk t) walk.Pre
 
-abbrev walk-below : ℕ → In 3 walk-kinds.ps
-walk-below t = and 3 walk-kinds.ps (falls 3 walk-kinds.ps _<_ μ-walk t) walk.Pre
+abbrev walk-below : ℕ → In 4 walk-kinds.ps
+walk-below t = and 4 walk-kinds.ps (falls 4 walk-kinds.ps _<_ μ-walk t) walk.Pre
 
 -- what the functions called ask and give, calls inside the cycle below the measure t
 abbrev trial-claims : ℕ → trial-lts.Claims
-trial-claims t = (top-job-reads.Asked, top-job-reads.Learnt, next-move-reads.Asked, next-move-reads.Learnt, stopped-reads.Asked, stopped-reads.Learnt, walk-below t, walk.Post, held-reads.Asked, held-reads.Learnt)
+trial-claims t = (top-job-reads.Asked, top-job-reads.Learnt, next-move-reads.Asked, next-move-reads.Learnt, stopped-reads.Asked, stopped-reads.Learnt, step-with-reads.Asked, step-with-reads.Learnt, walk-below t, walk.Post, held-reads.Asked, held-reads.Learnt)
 
 abbrev walk-claims : ℕ → walk-lts.Claims
 walk-claims t = (finished-reads.Asked, finished-reads.Learnt, ended-reads.Asked, ended-reads.Learnt, held-reads.Asked, held-reads.Learnt, trial-below t, trial.Post)
 
 abbrev trial-Inv-loop : trial-lts.InvT-loop
-trial-Inv-loop program times locks s left count allowance out₀ made₀ top m₀ out made m = Trying program times locks s left count made allowance m out₀ out
+trial-Inv-loop program times locks s left count allowance out₀ made₀ top m₀ out made m = Trying program times locks (snapshotIn s) left count made allowance m out₀ out
 
 abbrev trial-μ-loop : trial-lts.MeasureT-loop
 trial-μ-loop program times locks s left count allowance out₀ made₀ top m₀ out made m = 128 - m .byte
@@ -79,68 +81,76 @@ trial-slice-write-out t c =
     let head = c .before .before .before in
     omega (arith, head .loop .inv .same, head .before .before .before .before .pre .1 .4)
 
+trial-step-with-requires : (t : ℕ) → trial-lts.Need-step-with-requires (trial-claims t) (trial-at t) trial.Post trial-Inv-loop trial-μ-loop
+unfolding snapshotIn
+trial-step-with-requires t c κs =
+    let head = c .before .before .before .before .before .before .before .before .before in
+    let start = head .before .before .before .before in
+    let lt = c .before .before .before .before .before .before .before .if1 .taken in
+    let bounds = move-bounds (head .loop .inv .next) lt (start .pre .1 .1 .few) in
+    (start .pre .1 .1, bounds .1, bounds .2, bounds .0, omega arith)
+
 trial-add-walk : (t : ℕ) → trial-lts.Need-add-walk (trial-claims t) (trial-at t) trial.Post trial-Inv-loop trial-μ-loop
-trial-add-walk t c = omega (arith, c .before .if2 .left)
+trial-add-walk t c = omega (arith, c .before .before .before .before .before .before .before .before .if2 .left, c .before .before .before .before .before .before .before .before .before .before .before .before .before .before .before .fits .allowance)
 
 trial-walk-requires : (t : ℕ) → trial-lts.Need-walk-requires (trial-claims t) (trial-at t) trial.Post trial-Inv-loop trial-μ-loop
 trial-walk-requires t c κs =
-    let head = c .before .before .before .before .before in
+    let head = c .before .before .before .before .before .before .before .before .before .before .before .before in
     let start = head .before .before .before .before in
-    let trying = head .loop .inv in
-    let lt = c .before .before .before .if1 .taken in (
+    let trying = head .loop .inv in (
       omega (arith, start .pre .0),
       (
         start .pre .1 .0,
-        rw (trying .next .state lt) (deep-step _ _ _ _ _ (start .pre .1 .1)),
+        c .before .before .step-with .ensures .1,
         omega (arith, start .pre .1 .2),
-        omega (arith, c .before .before .if2 .left),
+        omega (arith, c .before .before .before .before .before .before .before .before .before .if2 .left),
         simp length-set (omega (arith, trying .same, start .pre .1 .4)),
       ),
     )
 
 trial-same-length-2 : (t : ℕ) → trial-lts.Need-same-length-2 (trial-claims t) (trial-at t) trial.Post trial-Inv-loop trial-μ-loop
 trial-same-length-2 t c =
-    let head = c .before .before .before .before .before .before .before .before .before in
+    let head = c .before .before .before .before .before .before .before .before .before .before .before .before .before .before .before .before in
     let start = head .before .before .before .before in
-    let answer = finds-answer (start .pre .1 .2) (head .loop .inv) (c .before .before .before .before .before .before .before .if1 .taken) (start .pre .1 .4) (c .before .before .before .walk .ensures) (c .if3 .taken) in
+    let answer = finds-answer (start .pre .1 .2) (head .loop .inv) (c .before .before .before .before .before .before .before .before .before .before .before .before .before .before .if1 .taken) (start .pre .1 .4) (c .before .before .before .before .before .before .step-with .ensures .0) (c .before .before .before .walk .ensures) (c .if3 .taken) in
     answer .0 .0
 
 trial-returns-2 : (t : ℕ) → trial-lts.Need-returns-2 (trial-claims t) (trial-at t) trial.Post trial-Inv-loop trial-μ-loop
 trial-returns-2 t c =
-    let head = c .before .before .before .before .before .before .before .before .before in
+    let head = c .before .before .before .before .before .before .before .before .before .before .before .before .before .before .before .before in
     let start = head .before .before .before .before in
-    finds-answer (start .pre .1 .2) (head .loop .inv) (c .before .before .before .before .before .before .before .if1 .taken) (start .pre .1 .4) (c .before .before .before .walk .ensures) (c .if3 .taken)
+    finds-answer (start .pre .1 .2) (head .loop .inv) (c .before .before .before .before .before .before .before .before .before .before .before .before .before .before .if1 .taken) (start .pre .1 .4) (c .before .before .before .before .before .before .step-with .ensures .0) (c .before .before .before .walk .ensures) (c .if3 .taken)
 
 trial-same-length-3 : (t : ℕ) → trial-lts.Need-same-length-3 (trial-claims t) (trial-at t) trial.Post trial-Inv-loop trial-μ-loop
 trial-same-length-3 t c =
-    let head = c .before .before .before .before .before .before .before .before .before .before in
+    let head = c .before .before .before .before .before .before .before .before .before .before .before .before .before .before .before .before .before in
     let start = head .before .before .before .before in
-    let answer = cut-answer (start .pre .1 .2) (head .loop .inv) (c .before .before .before .before .before .before .before .before .if1 .taken) (start .pre .1 .4) (c .before .before .before .before .walk .ensures) (c .if4 .taken) in
+    let answer = cut-answer (start .pre .1 .2) (head .loop .inv) (c .before .before .before .before .before .before .before .before .before .before .before .before .before .before .before .if1 .taken) (start .pre .1 .4) (c .before .before .before .before .before .before .before .step-with .ensures .0) (c .before .before .before .before .walk .ensures) (c .if4 .taken) in
     answer .0 .0
 
 trial-returns-3 : (t : ℕ) → trial-lts.Need-returns-3 (trial-claims t) (trial-at t) trial.Post trial-Inv-loop trial-μ-loop
 trial-returns-3 t c =
-    let head = c .before .before .before .before .before .before .before .before .before .before in
+    let head = c .before .before .before .before .before .before .before .before .before .before .before .before .before .before .before .before .before in
     let start = head .before .before .before .before in
-    cut-answer (start .pre .1 .2) (head .loop .inv) (c .before .before .before .before .before .before .before .before .if1 .taken) (start .pre .1 .4) (c .before .before .before .before .walk .ensures) (c .if4 .taken)
+    cut-answer (start .pre .1 .2) (head .loop .inv) (c .before .before .before .before .before .before .before .before .before .before .before .before .before .before .before .if1 .taken) (start .pre .1 .4) (c .before .before .before .before .before .before .before .step-with .ensures .0) (c .before .before .before .before .walk .ensures) (c .if4 .taken)
 
 trial-next-move-requires-2 : (t : ℕ) → trial-lts.Need-next-move-requires-2 (trial-claims t) (trial-at t) trial.Post trial-Inv-loop trial-μ-loop
 trial-next-move-requires-2 t c κs =
-    let head = c .before .before .before .before .before .before .before .before .before .before in
+    let head = c .before .before .before .before .before .before .before .before .before .before .before .before .before .before .before .before .before in
     let start = head .before .before .before .before in
     (start .pre .1 .0, start .pre .1 .1, head .loop .inv .next .bounded, head .before .before .top-job .ensures)
 
 trial-loop-less : (t : ℕ) → trial-lts.Need-loop-less (trial-claims t) (trial-at t) trial.Post trial-Inv-loop trial-μ-loop
 trial-loop-less t c =
-    let head = c .before .before .before .before .before .before .before .before .before .before .before in
-    let lt = c .before .before .before .before .before .before .before .before .before .if1 .taken in
+    let head = c .before .before .before .before .before .before .before .before .before .before .before .before .before .before .before .before .before .before in
+    let lt = c .before .before .before .before .before .before .before .before .before .before .before .before .before .before .before .before .if1 .taken in
     omega (arith, lt, head .loop .inv .next .onward lt, c .next-move2 .ensures .ahead)
 
 trial-loop-again : (t : ℕ) → trial-lts.Need-loop-again (trial-claims t) (trial-at t) trial.Post trial-Inv-loop trial-μ-loop
 trial-loop-again t c =
-    let head = c .before .before .before .before .before .before .before .before .before .before .before in
+    let head = c .before .before .before .before .before .before .before .before .before .before .before .before .before .before .before .before .before .before in
     let start = head .before .before .before .before in
-    on-answer (start .pre .1 .2) (head .loop .inv) (c .before .before .before .before .before .before .before .before .before .if1 .taken) (start .pre .1 .4) (c .before .before .before .before .before .walk .ensures) (c .before .before .if3 .left) (c .before .if4 .left) (c .next-move2 .ensures)
+    on-answer (start .pre .1 .2) (head .loop .inv) (c .before .before .before .before .before .before .before .before .before .before .before .before .before .before .before .before .if1 .taken) (start .pre .1 .4) (c .before .before .before .before .before .before .before .before .step-with .ensures .0) (c .before .before .before .before .before .walk .ensures) (c .before .before .if3 .left) (c .before .if4 .left) (c .next-move2 .ensures)
 
 trial-held-requires : (t : ℕ) → trial-lts.Need-held-requires (trial-claims t) (trial-at t) trial.Post trial-Inv-loop trial-μ-loop
 trial-held-requires t c κs = tt
@@ -207,6 +217,7 @@ pub +trial+walk-spec : {M : Type 1} → statement M
     (trial-returns t)
     (trial-sub-out t)
     (trial-slice-write-out t)
+    (trial-step-with-requires t)
     (trial-add-walk t)
     (trial-walk-requires t)
     (trial-same-length-2 t)

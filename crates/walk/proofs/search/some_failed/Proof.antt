@@ -1,29 +1,31 @@
 -- `walk::search::some_failed` meets its contract. The loop's invariant: some flag is raised if one from x on is. The measure is the number of
 -- flags left.
 -- Assumes nothing.
-use mathlib.Core.Path.{_≡_, refl}
 use Prim.Native.Nat.{_≤_, _-_}
 use native.Mathlib.Omega.{arith}
-use lib.ListN.{drop}
-use Rattle.taskfile.specs.Lists.{any}
-use Rattle.walk.specs.NextLaws.{flag-raised, flag-passed, none-raised}
+use Rattle.walk.specs.StateLaws.{FlagsFrom, flags-all, raised-found, raised-later, raised-missing}
 use Rattle.walk.proofs.search.some_failed.Statement.{statement}
 use Rattle.walk.proofs.search.some_failed.Tie as tie
 
 abbrev Inv-loop : tie.InvT-loop
-Inv-loop failed x₀ x = (x ≤ 32) × (any (λ flag. flag) failed ≡ any (λ flag. flag) (drop x failed))
+Inv-loop s x₀ x = (x ≤ 32) × FlagsFrom s x
 
 abbrev μ-loop : tie.MeasureT-loop
-μ-loop failed x₀ x = 32 - x
+μ-loop s x₀ x = 32 - x
 
 loop-holds : tie.Need-loop-holds Inv-loop μ-loop
-loop-holds c = (omega arith, refl)
+loop-holds c = (omega arith, flags-all _)
 
-array-read-if1 : tie.Need-array-read-if1 Inv-loop μ-loop
-array-read-if1 c = omega arith
+add-if1 : tie.Need-add-if1 Inv-loop μ-loop
+add-if1 c = omega arith
+
+element-copy-out-if1 : tie.Need-element-copy-out-if1 Inv-loop μ-loop
+element-copy-out-if1 c = omega arith
 
 returns : tie.Need-returns Inv-loop μ-loop
-returns c = flag-raised _ _ (c .before .before .loop .inv .1) (omega (arith, c .before .before .before .good .0)) (c .if1 .taken)
+returns c =
+    let head = c .before .before in
+    raised-found _ _ (head .before .loop .inv .1) (head .loop-test .taken) (c .if1 .taken)
 
 add-x : tie.Need-add-x Inv-loop μ-loop
 add-x c = omega arith
@@ -32,10 +34,12 @@ loop-less : tie.Need-loop-less Inv-loop μ-loop
 loop-less c = omega arith
 
 loop-again : tie.Need-loop-again Inv-loop μ-loop
-loop-again c = (omega arith, flag-passed _ _ (c .before .before .loop .inv .1) (omega (arith, c .before .before .before .good .0)) (c .if1 .left))
+loop-again c =
+    let head = c .before .before in
+    (omega arith, raised-later _ _ (head .before .loop .inv .1) (head .loop-test .taken) (c .if1 .left))
 
 returns-2 : tie.Need-returns-2 Inv-loop μ-loop
-returns-2 c = none-raised _ (c .before .loop .x) (c .before .loop .inv .1) (omega (arith, c .before .before .good .0))
+returns-2 c = raised-missing _ (c .before .loop .x) (c .before .loop .inv .1) (c .loop-test .left)
 
 pub some-failed-spec : {M : Type 1} → statement M
 some-failed-spec =
@@ -44,7 +48,8 @@ some-failed-spec =
     Inv-loop
     μ-loop
     loop-holds
-    array-read-if1
+    add-if1
+    element-copy-out-if1
     returns
     add-x
     loop-less

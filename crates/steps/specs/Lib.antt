@@ -1,0 +1,9 @@
+pub mod EffectWrites
+pub mod FrameReads
+pub mod FrameWrites
+pub mod StateBytes
+pub mod StateReads
+pub mod StateWrites
+pub mod StepCases
+pub mod StepParts
+pub mod ValueLists
