@@ -5,17 +5,28 @@ use conformance::cases::{accepted, full_table, table_x, ORDER_OF_X};
 use conformance::orders::random_order;
 use generator::hostile::{nearly_full, tasks_of, WIDEST};
 use generator::{Random, TableDescription};
+use std::cmp::Ordering;
+
+/// Whether a row's files are made to take long.
+#[derive(Debug, Clone, Copy, PartialEq, Eq)]
+pub enum Kind {
+    Plain,
+    /// Of the family that is measured whole.
+    Family,
+    /// Chosen by hand or at random.
+    Other,
+}
 
 /// A row of the benchmark: one input, or the slowest of several.
 pub struct Row {
     pub name: String,
     pub inputs: Vec<Input>,
-    pub hostile: bool,
+    pub kind: Kind,
 }
 
 /// A row of one input that is not hostile.
 fn plain(name: &str, input: Input) -> Row {
-    Row { name: name.into(), inputs: vec![input], hostile: false }
+    Row { name: name.into(), inputs: vec![input], kind: Kind::Plain }
 }
 
 /// The reader's rows in the order of the table. Table X comes first.
@@ -28,6 +39,7 @@ pub fn read_rows() -> Vec<Row> {
         plain(largest, Input::Read(full_table().write())),
         plain("256 records: the same and 111 never reached", Input::Read(refused)),
     ];
+    rows.extend(family_rows());
     rows.extend(heavy_tables().into_iter().map(heavy_row));
     rows.extend(random_rows());
     rows
@@ -44,8 +56,46 @@ pub fn replay_rows() -> Vec<Row> {
     ]
 }
 
-/// Times C and P of hostile tables, lowest task first: utilisation at, just below and above 1 above
-/// the task with the longest period.
+/// The periods of the family that is measured whole, longest first.
+const PERIODS: [u32; 6] = [1807, 43, 7, 3, 2, 1];
+/// The largest number of tasks above the lowest.
+const MOST_ABOVE: usize = 7;
+
+/// Every choice of so many periods from these on, none shorter before a longer one.
+fn choices(periods: &[u32], count: usize) -> Vec<Vec<u32>> {
+    if count == 0 {
+        return vec![Vec::new()];
+    }
+    let from = |first: usize| {
+        let rest = choices(&periods[first..], count - 1);
+        rest.into_iter().map(move |rest| [&[periods[first]], &rest[..]].concat())
+    };
+    (0..periods.len()).flat_map(from).collect()
+}
+
+/// Every choice of up to seven tasks with C 1 and one of the periods, above the task with the longest
+/// period; by whether their utilisation is above, at or below 1.
+fn family_rows() -> Vec<Row> {
+    let whole: u64 = PERIODS.iter().map(|period| u64::from(*period)).product();
+    let part = |period: &u32| whole / u64::from(*period);
+    let share = |periods: &[u32]| periods.iter().map(part).sum::<u64>();
+    let all: Vec<Vec<u32>> = (0..=MOST_ABOVE).flat_map(|count| choices(&PERIODS, count)).collect();
+    let row = |side: &str, order: Ordering| {
+        let chosen = all.iter().filter(|periods| share(periods).cmp(&whole) == order);
+        let times = |periods: &Vec<u32>| {
+            let above = periods.iter().map(|period| (1, *period));
+            std::iter::once((1, WIDEST)).chain(above).collect::<Vec<_>>()
+        };
+        let file = |periods| Input::Read(tasks_of(&times(periods)).write());
+        let inputs: Vec<Input> = chosen.map(file).collect();
+        let name = format!("slowest of the family's {}, utilisation {side} 1", inputs.len());
+        Row { name, inputs, kind: Kind::Family }
+    };
+    vec![row("above", Ordering::Greater), row("at", Ordering::Equal), row("below", Ordering::Less)]
+}
+
+/// Times C and P of other hostile tables, lowest task first: utilisation at, just below and above 1
+/// above the task with the longest period.
 fn heavy_tables() -> Vec<Vec<(u32, u32)>> {
     let lowest = (1, WIDEST);
     let sylvester = [(1, 1807), (1, 43), (1, 7), (1, 3), (1, 2)];
@@ -74,7 +124,7 @@ fn heavy_row(times: Vec<(u32, u32)>) -> Row {
     Row {
         name: format!("C/P {}", words.join(", ")),
         inputs: vec![Input::Read(tasks_of(&times).write())],
-        hostile: true,
+        kind: Kind::Other,
     }
 }
 
@@ -83,7 +133,7 @@ fn random_rows() -> Vec<Row> {
     let family = |name: &str, seed: u64, count: usize, make: fn(&mut Random) -> TableDescription| {
         let mut random = Random::new(seed);
         let inputs = (0..count).map(|_| Input::Read(make(&mut random).write())).collect();
-        Row { name: format!("slowest of {count}: {name}"), inputs, hostile: true }
+        Row { name: format!("slowest of {count}: {name}"), inputs, kind: Kind::Other }
     };
     vec![
         family("8 tasks, P 500 to 1000, utilisation just below 1", 200, 200, eight_tasks),

@@ -32,7 +32,7 @@ fn measure_row(row: Row) -> std::io::Result<Timing> {
     }
     let [proved, interpreter] = time_both(slowest);
     let number = slowest.number();
-    Ok(Timing { name: row.name, hostile: row.hostile, number, proved, interpreter })
+    Ok(Timing { name: row.name, kind: row.kind, number, proved, interpreter })
 }
 
 fn measure_rows(rows: Vec<Row>) -> std::io::Result<Vec<Timing>> {

@@ -1,5 +1,6 @@
 //! The benchmark's tables as text.
 
+use crate::files::Kind;
 use crate::measure::{Time, AT_ONCE, LIMIT, MOST_SAMPLES, TURNS};
 use crate::stack::PAGE_KIB;
 use crate::walks::{WalkTiming, WALK_TURNS};
@@ -8,7 +9,7 @@ use std::process::Command;
 /// A row's times.
 pub struct Timing {
     pub name: String,
-    pub hostile: bool,
+    pub kind: Kind,
     /// What the input earns: 0 if it is accepted.
     pub number: u64,
     pub proved: Time,
@@ -49,9 +50,11 @@ fn ratio(time: Time, by: Time) -> String {
     }
 }
 
-/// The reader's table, and below it the slowest hostile file against the first row.
+/// The reader's table, and below it the slowest hostile files against the first row.
 pub fn read_table(timings: &[Timing]) -> String {
-    format!("{}\n{}\n", table("file", timings), slowest(timings))
+    let family = slowest(timings, Kind::Family, "file of the family");
+    let other = slowest(timings, Kind::Other, "of the other hostile files here");
+    format!("{}\n{family}\n{other}\n", table("file", timings))
 }
 
 /// The replay's table.
@@ -104,17 +107,17 @@ fn table(input: &str, timings: &[Timing]) -> String {
     text
 }
 
-/// The sentence on the slowest hostile file. Of several that were stopped none is known to be it.
-fn slowest(timings: &[Timing]) -> String {
-    let hostile = || timings.iter().filter(|timing| timing.hostile);
+/// The sentence on the slowest file of a kind. Of several that were stopped none is known to be it.
+fn slowest(timings: &[Timing], kind: Kind, files: &str) -> String {
+    let hostile = || timings.iter().filter(|timing| timing.kind == kind);
     let by_time = |one: &&Timing, other: &&Timing| {
         one.proved.nanoseconds().total_cmp(&other.proved.nanoseconds())
     };
-    let most = hostile().max_by(by_time).expect("some file is hostile");
+    let most = hostile().max_by(by_time).expect("some file is of this kind");
     let stopped = hostile().filter(|timing| timing.proved == Time::Over).count();
     let which = match stopped {
-        0 => format!("The slowest hostile file here ({})", most.name),
-        _ => format!("The slowest hostile file here, one of {stopped} that were stopped,"),
+        0 => format!("The slowest {files} ({})", most.name),
+        _ => format!("The slowest {files}, one of {stopped} that were stopped,"),
     };
     let ratio = ratio(most.proved, timings[0].proved);
     format!("{which} takes the proved entry {ratio} times as long as {}.", timings[0].name)
@@ -153,9 +156,11 @@ by the interpreter's.
 
 ## Reading a file
 
-The lowest task stands first in a list of C/P. Of several random tables the one that is slowest by
-the proved entry is shown; the interpreter may be slower on another. The hostile files are chosen by
-hand or at random; none is known to be the slowest that there is.
+The family of hostile files is every choice of up to seven tasks with C 1 and a period of 1, 2, 3, 7,
+43 or 1807 above a task with C 1 and P 4,294,967,295. The other hostile files are chosen by hand or
+at random; none is known to be the slowest that there is. The lowest task stands first in a list of
+C/P. Of several tables the one that is slowest by the proved entry is shown; the interpreter may be
+slower on another.
 
 {read_table}
 ## Replaying an order
