@@ -10,7 +10,6 @@ ghost use mathlib.Core.Path.{_≡_};
 ghost use mathlib.Core.List.{List, [], _∷_, _++_, map};
 ghost use Prim.Native.Nat.{_+_, _^_, _≤_, _<_};
 ghost use Rattle.taskfile.specs.Lists.{upTo};
-ghost use Rattle.taskfile.specs.Judgement.{numbered};
 ghost use Rattle.timing.specs.declared.JobRecord.{JobRecord};
 ghost use Rattle.timing.specs.Jobs.{jobsWithin, jobCount, jobOf, jobsOf};
 ghost use Rattle.timing.specs.JobParts.{jobListOf, WithinPeriods};
@@ -73,11 +72,11 @@ pub fn with_job(list: JobList, job: JobRecord) -> JobList
 }
 
 // The list with the first n jobs of task i at its end, whose response time is `response`.
-pub fn with_jobs(list: JobList, i: u8, e: TaskEntry, response: u64, n: u64) -> JobList
+pub fn with_jobs(list: JobList, i: Task, e: TaskEntry, response: u64, n: u64) -> JobList
     requires { ⌜ (list .count + n ≤ 32) × (response ≤ e .period) ⌝ }
     ensures counted { λ x. ⌜ x .count ≡ list .count + n ⌝ }
     ensures added { λ x. ⌜ ((l : List JobRecord) → list ≡ jobListOf l
-        → x ≡ jobListOf (l ++ map (jobOf (numbered i) e response) (upTo n))) ⌝ }
+        → x ≡ jobListOf (l ++ map (jobOf i e response) (upTo n))) ⌝ }
 {
     let first = wide(e.arrival);
     let period = wide(e.period);
@@ -88,7 +87,7 @@ pub fn with_jobs(list: JobList, i: u8, e: TaskEntry, response: u64, n: u64) -> J
         longer = with_job(
             longer,
             JobRecord {
-                task: Task(i),
+                task: i,
                 arrival: arrival,
                 latest: arrival + response,
             },
@@ -108,7 +107,7 @@ pub fn jobs_of(t: Table, times: [u64; 8]) -> JobList
     while i < t.tasks {
         let at = i as usize;
         let e = t.entries[at];
-        list = with_jobs(list, i, e, times[at], jobs_within(t.window, e));
+        list = with_jobs(list, Task(i), e, times[at], jobs_within(t.window, e));
         i += 1;
     }
     list

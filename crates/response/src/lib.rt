@@ -12,7 +12,7 @@ ghost use mathlib.Core.Bool.{true};
 ghost use Prim.Native.Nat.{_^_, _≤_, _<_, _∣_};
 ghost use lib.ListN.{drop};
 ghost use Rattle.taskfile.specs.declared.Table.{Table};
-ghost use Rattle.taskfile.specs.Judgement.{numbered, taskNumbers};
+ghost use Rattle.taskfile.specs.Judgement.{taskNumbers};
 ghost use Rattle.taskfile.specs.Tables.{tasksOf};
 ghost use Rattle.timing.specs.Accepted.{responsesOf};
 ghost use Rattle.timing.specs.Response.{roundedUp, tasksAbove, interference, responseOf};
@@ -67,13 +67,13 @@ pub fn periods_of(t: Table) -> [u64; 8]
 }
 
 // How long tasks above task i keep the processor in an interval of length r.
-pub fn interference_of(executions: &[u64; 8], periods: &[u64; 8], tasks: u8, i: u8, r: u64) -> u64
-    requires { ⌜ Times (now executions) (now periods) tasks × (i < tasks) × (r < 2 ^ 32) ⌝ }
+pub fn interference_of(executions: &[u64; 8], periods: &[u64; 8], tasks: u8, i: Task, r: u64) -> u64
+    requires { ⌜ Times (now executions) (now periods) tasks × (i .0 < tasks) × (r < 2 ^ 32) ⌝ }
     ensures { λ x. ⌜ (x < 2 ^ 36) × ((t : Table) → TimesOf t (now (executions .entry)) (now (periods .entry)) tasks
-        → x ≡ interference (tasksAbove t (numbered i)) r) ⌝ }
+        → x ≡ interference (tasksAbove t i) r) ⌝ }
 {
     let mut total: u64 = 0;
-    let mut k = (i as usize) + 1;
+    let mut k = (i.0 as usize) + 1;
     let end = tasks as usize;
     while k < end {
         total += rounded_up(r, periods[k]) * executions[k];
@@ -131,30 +131,30 @@ pub fn with_task(s: Share, c: u64, p: u64, cap: u64) -> Share
 }
 
 // A share of the processor that the tasks above task i need at least, in at most cap parts.
-pub fn share_above(t: Table, i: u8, cap: u64) -> Share
-    requires { ⌜ Timeable t × (i < t .tasks) × (1 ≤ cap) × (cap < 2 ^ 63) ⌝ }
-    ensures { λ s. ⌜ ShareOf (tasksAbove t (numbered i)) cap s ⌝ }
+pub fn share_above(executions: &[u64; 8], periods: &[u64; 8], tasks: u8, i: Task, cap: u64) -> Share
+    requires { ⌜ Times (now executions) (now periods) tasks × (i .0 < tasks) × (1 ≤ cap) × (cap < 2 ^ 63) ⌝ }
+    ensures { λ s. ⌜ ((t : Table) → TimesOf t (now (executions .entry)) (now (periods .entry)) tasks
+        → ShareOf (tasksAbove t i) cap s) ⌝ }
 {
     let mut s = Share { part: 0, whole: 1 };
-    let mut k = (i as usize) + 1;
-    let end = t.tasks as usize;
+    let mut k = (i.0 as usize) + 1;
+    let end = tasks as usize;
     while k < end {
         if s.whole <= s.part {
             return s;
         }
-        let e = t.entries[k];
-        s = with_task(s, wide(e.execution), wide(e.period), cap);
+        s = with_task(s, executions[k], periods[k], cap);
         k += 1;
     }
     s
 }
 
 // Climbs from a lower bound of every solution to the least solution, or past the period.
-pub fn climb(t: Table, executions: &[u64; 8], periods: &[u64; 8], i: u8, start: u64) -> Bound
-    requires { ⌜ TimesOf t (now executions) (now periods) (t .tasks) × (i < t .tasks) × LowerBound t (numbered i) start ⌝ }
-    ensures { λ x. ⌜ x ≡ boundOf (responseOf t (numbered i)) ⌝ }
+pub fn climb(t: Table, executions: &[u64; 8], periods: &[u64; 8], i: Task, start: u64) -> Bound
+    requires { ⌜ TimesOf t (now executions) (now periods) (t .tasks) × (i .0 < t .tasks) × LowerBound t i start ⌝ }
+    ensures { λ x. ⌜ x ≡ boundOf (responseOf t i) ⌝ }
 {
-    let at = i as usize;
+    let at = i.0 as usize;
     let execution = executions[at];
     let period = periods[at];
     let tasks = t.tasks;
@@ -206,14 +206,14 @@ pub fn climb_some(
     t: Table,
     executions: &[u64; 8],
     periods: &[u64; 8],
-    i: u8,
+    i: Task,
     start: u64,
     turns: u8,
 ) -> u64
-    requires { ⌜ TimesOf t (now executions) (now periods) (t .tasks) × (i < t .tasks) × LowerBound t (numbered i) start ⌝ }
-    ensures { λ r. ⌜ LowerBound t (numbered i) r ⌝ }
+    requires { ⌜ TimesOf t (now executions) (now periods) (t .tasks) × (i .0 < t .tasks) × LowerBound t i start ⌝ }
+    ensures { λ r. ⌜ LowerBound t i r ⌝ }
 {
-    let at = i as usize;
+    let at = i.0 as usize;
     let execution = executions[at];
     let period = periods[at];
     let tasks = t.tasks;
@@ -235,12 +235,12 @@ pub fn climb_some(
 
 // The response time of task i from a lower bound, where every task above meets its period: found by halving between
 // the lower bound and the period.
-pub fn search(t: Table, executions: &[u64; 8], periods: &[u64; 8], i: u8, start: u64) -> Bound
-    requires { ⌜ TimesOf t (now executions) (now periods) (t .tasks) × (i < t .tasks) × LowerBound t (numbered i) start
-        × AllFit (tasksAbove t (numbered i)) ⌝ }
-    ensures { λ x. ⌜ x ≡ boundOf (responseOf t (numbered i)) ⌝ }
+pub fn search(t: Table, executions: &[u64; 8], periods: &[u64; 8], i: Task, start: u64) -> Bound
+    requires { ⌜ TimesOf t (now executions) (now periods) (t .tasks) × (i .0 < t .tasks) × LowerBound t i start
+        × AllFit (tasksAbove t i) ⌝ }
+    ensures { λ x. ⌜ x ≡ boundOf (responseOf t i) ⌝ }
 {
-    let at = i as usize;
+    let at = i.0 as usize;
     let execution = executions[at];
     let period = periods[at];
     let tasks = t.tasks;
@@ -250,14 +250,14 @@ pub fn search(t: Table, executions: &[u64; 8], periods: &[u64; 8], i: u8, start:
     if execution + interference_of(executions, periods, tasks, i, start) == start {
         return Bound::Within(start);
     }
-    if !fits_from(executions, periods, tasks, i + 1, execution, period) {
+    if !fits_from(executions, periods, tasks, i.0 + 1, execution, period) {
         return Bound::Overload;
     }
     let mut lo = start;
     let mut hi = period;
     while lo < hi {
         let mid = lo + (hi - lo) / 2;
-        if fits_from(executions, periods, tasks, i + 1, execution, mid) {
+        if fits_from(executions, periods, tasks, i.0 + 1, execution, mid) {
             hi = mid;
         } else {
             lo = mid + 1;
@@ -269,14 +269,20 @@ pub fn search(t: Table, executions: &[u64; 8], periods: &[u64; 8], i: u8, start:
 // The response time of task i, if it is at most the period. No interval shorter than the start can be a solution:
 // each solution R has R × (whole − part) ≥ C × whole, where the tasks above need part of whole.
 // Where `fit` says that the tasks above all meet their periods, what a short climb leaves is found by halving.
-pub fn response_of(t: Table, executions: &[u64; 8], periods: &[u64; 8], i: u8, fit: bool) -> Bound
-    requires { ⌜ TimesOf t (now executions) (now periods) (t .tasks) × (i < t .tasks)
-        × (fit ≡ true → AllFit (tasksAbove t (numbered i))) ⌝ }
-    ensures { λ x. ⌜ x ≡ boundOf (responseOf t (numbered i)) ⌝ }
+pub fn response_of(t: Table, executions: &[u64; 8], periods: &[u64; 8], i: Task, fit: bool) -> Bound
+    requires { ⌜ TimesOf t (now executions) (now periods) (t .tasks) × (i .0 < t .tasks)
+        × (fit ≡ true → AllFit (tasksAbove t i)) ⌝ }
+    ensures { λ x. ⌜ x ≡ boundOf (responseOf t i) ⌝ }
 {
-    let at = i as usize;
+    let at = i.0 as usize;
     let execution = executions[at];
-    let s = share_above(t, i, 9223372036854775807 / execution);
+    let s = share_above(
+        executions,
+        periods,
+        t.tasks,
+        i,
+        9223372036854775807 / execution,
+    );
     if s.whole <= s.part {
         return Bound::Overload;
     }
@@ -302,7 +308,7 @@ pub fn responses_of(t: Table) -> Responses
     let mut i = t.tasks;
     while 0 < i {
         i -= 1;
-        let bound = response_of(t, &executions, &periods, i, fit);
+        let bound = response_of(t, &executions, &periods, Task(i), fit);
         match bound {
             Bound::Within(r) => {
                 let at = i as usize;

@@ -15,6 +15,7 @@ use lib.Dec.{leb, eqb}
 use borrow.Author.Tests.{leb-true, leb-false, le-leb, lt-leb, eqb-true, eq-eqb, ne-eqb}
 use Rattle.taskfile.specs.declared.Table.{Table}
 use Rattle.taskfile.specs.declared.TaskEntry.{TaskEntry}
+use Rattle.taskfile.specs.Judgement.{numbered}
 use Rattle.taskfile.specs.Lists.{sum}
 use Rattle.taskfile.specs.Tables.{tasksOf}
 use Rattle.timing.specs.Response.{roundedUp, interference}
@@ -184,7 +185,7 @@ fits-decided (e ∷ above) all base b one =
 
 -- ---- the test from task j on
 
-module _ {t : Table} (timeable : Timeable t) {j C P base b : ℕ} (lt : j < t .tasks) (read : TimesRead t j C P) (le : base ≤ b) where
+module _ {t : Table} (timeable : Timeable t) {j C P base b : ℕ} (lt : j < t .tasks) (read : TimesRead t (numbered j) C P) (le : base ≤ b) where
   -- one step of the test, with the times as read
   from-step : fitsFrom (drop j (tasksOf t)) base b
       ≡ (not (eqb (b % P) 0) && fitsFrom (drop (j + 1) (tasksOf t)) (base + (b / P + 1) * C) b

@@ -9,7 +9,9 @@ use mathlib.Core.List.{List}
 use lib.ListN.{getD, drop, set, replicate, length-set}
 use lib.Seq.{getD-set-same, getD-set-other}
 use Rattle.taskfile.specs.declared.Table.{Table}
+use Rattle.taskfile.specs.declared.Task.{Task}
 use Rattle.taskfile.specs.declared.TaskEntry.{TaskEntry}
+use Rattle.taskfile.specs.Judgement.{numbered}
 use Rattle.taskfile.specs.Tables.{tasksOf}
 use Rattle.timing.specs.Response.{roundedUp, interference}
 use Rattle.timing.specs.ResponseLaws.{roundedUp-tight}
@@ -61,32 +63,32 @@ times-filled timeable executions periods = record { timeable = timeable; count =
 -- ---- what is read
 
 module _ {t : Table} {Cs Ps : List ℕ} {n : ℕ} (times : TimesOf t Cs Ps n) where
-  -- the times of task k
-  pub lent-read : (k : ℕ) → k < n → TimesRead t k (getD Cs k 0) (getD Ps k 0)
+  -- the times of task i
+  pub lent-read : (i : Task) → i .0 < n → TimesRead t i (getD Cs (i .0) 0) (getD Ps (i .0) 0)
   unfolding executionAt periodAt
-  lent-read k lt =
-      let below : k < t .tasks = omega (arith, times .count) in
-      let execution = times .executions .held k lt in
-      let period = times .periods .held k lt in
+  lent-read i lt =
+      let below : i .0 < t .tasks = omega (arith, times .count) in
+      let execution = times .executions .held (i .0) lt in
+      let period = times .periods .held (i .0) lt in
       record {
         execution = execution;
         period = period;
-        positive = omega (arith, times .timeable .positive (record { 0 = k }) below);
-        within = omega (arith, times .timeable .within (record { 0 = k }) below);
+        positive = omega (arith, times .timeable .positive i below);
+        within = omega (arith, times .timeable .within i below);
       }
 
   pub lent-times : Times Cs Ps n
   lent-times = record {
     few = omega (arith, times .count, times .timeable .shaped .tasksWithin);
-    positive = λ k lt. lent-read k lt .positive;
-    within = λ k lt. lent-read k lt .within;
+    positive = λ k lt. lent-read (numbered k) lt .positive;
+    within = λ k lt. lent-read (numbered k) lt .within;
     narrow = times .periods .narrow;
   }
 
   -- the interference from task k on: what task k adds, and that from the next task on
   pub lent-step : (k r : ℕ) {u : ℕ} → k < n → u ≡ roundedUp r (getD Ps k 0)
       → interference (drop k (tasksOf t)) r ≡ u * getD Cs k 0 + interference (drop (k + 1) (tasksOf t)) r
-  lent-step k r lt e = rw e (interference-next (times .timeable) k r (omega (arith, times .count)) (lent-read k lt))
+  lent-step k r lt e = rw e (interference-next (times .timeable) k r (omega (arith, times .count)) (lent-read (numbered k) lt))
 
   pub lent-end : (k r : ℕ) → n ≤ k → interference (drop k (tasksOf t)) r ≡ 0
   lent-end k r le = interference-end (times .timeable) k r (omega (arith, times .count))

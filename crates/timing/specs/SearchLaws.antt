@@ -13,7 +13,6 @@ use mathlib.Core.Option.{none, some}
 use lib.ListN.{drop}
 use Rattle.taskfile.specs.declared.Table.{Table}
 use Rattle.taskfile.specs.declared.Task.{Task}
-use Rattle.taskfile.specs.Judgement.{numbered}
 use Rattle.taskfile.specs.Tables.{tasksOf, taskOf}
 use Rattle.timing.specs.FitLaws.{fits-decided}
 use Rattle.timing.specs.Response.{tasksAbove, demand, responseOf}
@@ -103,9 +102,9 @@ module _ {t : Table} {i : Task} (positive : 1 ≤ taskOf t i .execution) {lo hi 
       )
 
 -- the test as the code calls it
-pub done-read : {t : Table} {i C P b : ℕ} {r : Bool} → TimesRead t i C P → AllFit (tasksAbove t (numbered i))
-    → r ≡ fitsFrom (drop (i + 1) (tasksOf t)) C b → (r ≡ true) ↔ DoneBy t (numbered i) b
+pub done-read : {t : Table} {i : Task} {C P b : ℕ} {r : Bool} → TimesRead t i C P → AllFit (tasksAbove t i)
+    → r ≡ fitsFrom (drop (i .0 + 1) (tasksOf t)) C b → (r ≡ true) ↔ DoneBy t i b
 unfolding tasksAbove
 done-read {t} {i} {C} {P} {b} read all e =
     rw (e, add-one, read .execution)
-    (fits-decided (tasksAbove t (numbered i)) all (taskOf t (numbered i) .execution) b (omega (arith, read .positive)))
+    (fits-decided (tasksAbove t i) all (taskOf t i .execution) b (omega (arith, read .positive)))

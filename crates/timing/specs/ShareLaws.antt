@@ -8,6 +8,7 @@ use native.Mathlib.Numerals.{add-one}
 use native.Mathlib.Omega.{arith}
 use lib.ListN.{drop}
 use Rattle.taskfile.specs.declared.Table.{Table}
+use Rattle.taskfile.specs.declared.Task.{Task}
 use Rattle.taskfile.specs.Tables.{tasksOf}
 use Rattle.taskfile.specs.Judgement.{numbered}
 use Rattle.timing.specs.declared.Share.{Share}
@@ -103,21 +104,21 @@ module _ {s : Share} {c p cap : ℕ} (fits : SumFits s c p cap) where
 
 -- ---- the tasks above, one by one
 
--- a share in at most cap parts that the tasks above task i need at least without those from task k on
-pub record ShareBefore (t : Table) (i k cap : ℕ) (s : Share) : Type 0 where
+-- a share in at most cap parts that the tasks from task j on need at least without those from task k on
+pub record ShareBefore (t : Table) (j k cap : ℕ) (s : Share) : Type 0 where
   pub positive : 1 ≤ s .whole
   pub few : s .whole ≤ cap
   pub needed : (R : ℕ) → R * s .part + interference (drop k (tasksOf t)) R * s .whole
-      ≤ interference (tasksAbove t (numbered i)) R * s .whole
+      ≤ interference (drop j (tasksOf t)) R * s .whole
 
--- before the first task above, nothing is needed
-pub share-none : (t : Table) (i : ℕ) {cap : ℕ} → 1 ≤ cap → ShareBefore t i (i + 1) cap (record { part = 0; whole = 1 })
+-- before the first of them, nothing is needed
+pub share-none : (t : Table) (j : ℕ) {cap : ℕ} → 1 ≤ cap → ShareBefore t j j cap (record { part = 0; whole = 1 })
+share-none t j h = record { positive = omega arith; few = h; needed = λ R. omega arith }
+
+-- what those passed need, all tasks above task i need
+pub share-found : {t : Table} (i : Task) {k cap : ℕ} {s : Share} → ShareBefore t (i .0 + 1) k cap s → ShareOf (tasksAbove t i) cap s
 unfolding tasksAbove
-share-none t i h = record { positive = omega arith; few = h; needed = λ R. rw add-one (omega arith) }
-
--- what the tasks passed need, all need
-pub share-found : {t : Table} {i k cap : ℕ} {s : Share} → ShareBefore t i k cap s → ShareOf (tasksAbove t (numbered i)) cap s
-share-found share = record { positive = share .positive; few = share .few; needed = λ R. omega (arith, share .needed R) }
+share-found i share = record { positive = share .positive; few = share .few; needed = λ R. rw (← add-one (i .0)) (omega (arith, share .needed R)) }
 
 -- one task more: what was covered by n of d stays covered by m of w, which is at most n of d and c of p
 covered-more : (R n d c p m w u J I : ℕ) → 1 ≤ d → 1 ≤ p → R ≤ u * p → m * (d * p) ≤ (n * p + c * d) * w
@@ -127,9 +128,9 @@ covered-more R n d c p m w u J I some positive long most covered =
     (omega (arith, mul-le-mul-left R most, mul-le-mul-right (p * w) covered, mul-le-mul-right (c * d * w) long))
     (one-le-mul some positive)
 
-pub share-more : {t : Table} {i k C P cap : ℕ} {s r : Share} → Timeable t → k < t .tasks → TimesRead t k C P
-    → ShareBefore t i k cap s → WithTask s C P cap r → ShareBefore t i (k + 1) cap r
-share-more {t} {i} {k} {C} {P} {cap} {s} {r} timeable lt read share more = record {
+pub share-more : {t : Table} {j k C P cap : ℕ} {s r : Share} → Timeable t → k < t .tasks → TimesRead t (numbered k) C P
+    → ShareBefore t j k cap s → WithTask s C P cap r → ShareBefore t j (k + 1) cap r
+share-more {t} {j} {k} {C} {P} {cap} {s} {r} timeable lt read share more = record {
   positive = more .positive;
   few = more .few;
   needed = λ R.

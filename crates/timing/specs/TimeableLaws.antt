@@ -1,7 +1,7 @@
 -- Laws of a table whose times can be worked out: a task read from the array is the table's task, its times are bounded,
 -- and a sum over the tasks above one is worked out task by task.
 -- Assumes nothing.
-use mathlib.Core.Path.{_≡_, refl, sym, ap, _∙_}
+use mathlib.Core.Path.{_≡_, refl, sym, _∙_}
 use Prim.Native.Nat.{ℕ, zero, suc, _+_, _*_, _≤_, _<_}
 use native.Mathlib.Numerals.{add-one}
 use native.Mathlib.Omega.{arith}
@@ -9,6 +9,7 @@ use mathlib.Core.List.{List, [], _∷_, map}
 use lib.ListN.{length, getD, drop, drop-of-length-le}
 use lib.Seq.{drop-cons, getD-take, length-take-le}
 use Rattle.taskfile.specs.declared.Table.{Table}
+use Rattle.taskfile.specs.declared.Task.{Task}
 use Rattle.taskfile.specs.declared.TaskEntry.{TaskEntry}
 use Rattle.taskfile.specs.JudgingParts.{Shaped}
 use Rattle.taskfile.specs.Lists.{sum}
@@ -35,29 +36,17 @@ unfolding taskOf tasksOf
 task-read {t} s k d lt =
     getD-default (t .entries) k d noTask (omega arith) ∙ sym (getD-take (t .tasks) (t .entries) k noTask lt)
 
--- the times of task k as a function reads them from the array
-pub record TimesRead (t : Table) (k C P : ℕ) : Type 0 where
-  pub execution : C ≡ taskOf t (numbered k) .execution
-  pub period : P ≡ taskOf t (numbered k) .period
+-- the times of task i as a function reads them from arrays
+pub record TimesRead (t : Table) (i : Task) (C P : ℕ) : Type 0 where
+  pub execution : C ≡ taskOf t i .execution
+  pub period : P ≡ taskOf t i .period
   pub positive : 1 ≤ C
   pub within : C ≤ P
 
-pub times-read : {t : Table} → Timeable t → (k : ℕ) (d : TaskEntry) → k < t .tasks → {C P : ℕ}
-    → C ≡ getD (t .entries) k d .execution → P ≡ getD (t .entries) k d .period → TimesRead t k C P
-times-read timeable k d lt c p =
-    let same = task-read (timeable .shaped) k d lt in
-    let execution = c ∙ ap (λ (e : TaskEntry). e .execution) same in
-    let period = p ∙ ap (λ (e : TaskEntry). e .period) same in
-    record {
-      execution = execution;
-      period = period;
-      positive = omega (arith, timeable .positive (numbered k) lt);
-      within = omega (arith, timeable .within (numbered k) lt);
-    }
-
 -- a task read from the array has a positive period
 pub period-read : {t : Table} → Timeable t → (k : ℕ) (d : TaskEntry) → k < t .tasks → 1 ≤ getD (t .entries) k d .period
-period-read timeable k d lt = let read = times-read timeable k d lt refl refl in omega arith
+period-read timeable k d lt =
+    rw (task-read (timeable .shaped) k d lt) (omega (arith, timeable .positive (numbered k) lt, timeable .within (numbered k) lt))
 
 -- the tasks from task k on: task k, and the later ones
 pub tasks-next : {t : Table} → Shaped t → (k : ℕ) → k < t .tasks
@@ -83,7 +72,7 @@ unfolding sum
 sum-end s g k le = rw (tasks-end s k le)
 
 -- interference: the first task's term, and what the later tasks add
-pub interference-next : {t : Table} → Timeable t → (k r : ℕ) {C P : ℕ} → k < t .tasks → TimesRead t k C P
+pub interference-next : {t : Table} → Timeable t → (k r : ℕ) {C P : ℕ} → k < t .tasks → TimesRead t (numbered k) C P
     → interference (drop k (tasksOf t)) r ≡ roundedUp r P * C + interference (drop (k + 1) (tasksOf t)) r
 unfolding interference
 interference-next timeable k r lt read =
@@ -99,9 +88,9 @@ pub jobs-step : {t : Table} → Timeable t → (k : ℕ) (d : TaskEntry) {n : �
 jobs-step {t} timeable k d lt e =
     sum-step (timeable .shaped) (jobsWithin (t .window)) k lt ∙ rw (e, task-read (timeable .shaped) k d lt)
 
--- ---- demand of task k, with its execution time as read
+-- ---- demand of task i, with its execution time as read
 
-pub demand-read : {t : Table} {k C P : ℕ} → TimesRead t k C P → (r : ℕ) {x : ℕ} → x ≡ interference (tasksAbove t (numbered k)) r
-    → C + x ≡ demand t (numbered k) r
+pub demand-read : {t : Table} {i : Task} {C P : ℕ} → TimesRead t i C P → (r : ℕ) {x : ℕ} → x ≡ interference (tasksAbove t i) r
+    → C + x ≡ demand t i r
 unfolding demand
 demand-read read r e = rw (e, read .execution)

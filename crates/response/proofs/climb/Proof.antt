@@ -6,7 +6,6 @@ use Prim.Native.Nat.{suc, _+_, _-_, _^_, _<_}
 use native.Mathlib.Omega.{arith}
 use lib.ListN.{getD}
 use Rattle.taskfile.specs.declared.Table.{Table}
-use Rattle.taskfile.specs.Judgement.{numbered}
 use Rattle.timing.specs.ClimbLaws.{climb-found, climb-higher, climb-past}
 use Rattle.timing.specs.LentTimesLaws.{lent-read, lent-times}
 use Rattle.timing.specs.Response.{demand}
@@ -17,27 +16,27 @@ use Rattle.response.proofs.climb.Tie as tie
 
 abbrev Inv-loop : tie.InvT-loop
 Inv-loop executions periods i start at execution period tasks r₀ r =
-    (t : Table) → TimesOf t executions periods tasks → LowerBound t (numbered i) start → LowerBound t (numbered i) r
+    (t : Table) → TimesOf t executions periods tasks → LowerBound t i start → LowerBound t i r
 
 abbrev μ-loop : tie.MeasureT-loop
 μ-loop executions periods i start at execution period tasks r₀ r = suc period - r
 
 -- where the call began
 abbrev entry : tie.At-loop Inv-loop μ-loop → tie.Start Inv-loop μ-loop
-entry c = c .before .before .before
+entry c = c .before .before .before .before
 
 -- the times read before the loop are those of task i
 read : (c : tie.At-loop Inv-loop μ-loop)
-    → TimesRead (entry c .args .t) (entry c .args .i) (getD (entry c .args .executions .now) (entry c .args .i) 0)
-    (getD (entry c .args .periods .now) (entry c .args .i) 0)
+    → TimesRead (entry c .args .t) (entry c .args .i) (getD (entry c .args .executions .now) (entry c .args .i .0) 0)
+    (getD (entry c .args .periods .now) (entry c .args .i .0) 0)
 read c = lent-read (entry c .pre .0) _ (entry c .pre .1)
 
 -- the period is one of 32 bits
-narrow : (c : tie.At-loop Inv-loop μ-loop) → getD (entry c .args .periods .now) (entry c .args .i) 0 < 2 ^ 32
+narrow : (c : tie.At-loop Inv-loop μ-loop) → getD (entry c .args .periods .now) (entry c .args .i .0) 0 < 2 ^ 32
 narrow c = entry c .pre .0 .periods .narrow _ (entry c .pre .1)
 
 -- a lower bound of this table's solutions
-bound : (c : tie.At-loop Inv-loop μ-loop) → LowerBound (entry c .args .t) (numbered (entry c .args .i)) (c .loop .r)
+bound : (c : tie.At-loop Inv-loop μ-loop) → LowerBound (entry c .args .t) (entry c .args .i) (c .loop .r)
 bound c = c .loop .inv _ (entry c .pre .0) (entry c .pre .2)
 
 -- where the turn began
@@ -47,21 +46,24 @@ head c = c .before .before
 -- what the turn works out is the demand
 next : (c : tie.After-interference-of Inv-loop μ-loop) {t : Table}
     → TimesOf t (entry (head c) .args .executions .now) (entry (head c) .args .periods .now) (entry (head c) .args .t .tasks)
-    → getD (entry (head c) .args .executions .now) (entry (head c) .args .i) 0 + c .interference-of .result
-    ≡ demand t (numbered (entry (head c) .args .i)) (head c .loop .r)
+    → getD (entry (head c) .args .executions .now) (entry (head c) .args .i .0) 0 + c .interference-of .result
+    ≡ demand t (entry (head c) .args .i) (head c .loop .r)
 next c times = demand-read (lent-read times _ (entry (head c) .pre .1)) _ (c .interference-of .ensures .1 _ times)
+
+cast-at : tie.Need-cast-at Inv-loop μ-loop
+cast-at c = omega arith
 
 mul-execution : tie.Need-mul-execution Inv-loop μ-loop
 mul-execution c = omega arith
 
 element-copy-out-execution : tie.Need-element-copy-out-execution Inv-loop μ-loop
-element-copy-out-execution c = omega (arith, lent-times (c .pre .0) .few)
+element-copy-out-execution c = omega (arith, lent-times (c .before .pre .0) .few)
 
 mul-period : tie.Need-mul-period Inv-loop μ-loop
 mul-period c = omega arith
 
 element-copy-out-period : tie.Need-element-copy-out-period Inv-loop μ-loop
-element-copy-out-period c = omega (arith, lent-times (c .before .pre .0) .few)
+element-copy-out-period c = omega (arith, lent-times (c .before .before .pre .0) .few)
 
 loop-holds : tie.Need-loop-holds Inv-loop μ-loop
 loop-holds c = λ t times lower. lower
@@ -97,6 +99,7 @@ climb-spec =
     (tie.spec
     Inv-loop
     μ-loop
+    cast-at
     mul-execution
     element-copy-out-execution
     mul-period

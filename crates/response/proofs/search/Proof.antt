@@ -9,7 +9,6 @@ use mathlib.Core.Bool.{Bool, true, false≢true}
 use lib.ListN.{getD, drop}
 use borrow.Author.Tests.{not-true, not-false}
 use Rattle.taskfile.specs.declared.Table.{Table}
-use Rattle.taskfile.specs.Judgement.{numbered}
 use Rattle.taskfile.specs.Tables.{tasksOf, taskOf}
 use Rattle.timing.specs.ClimbLaws.{climb-found, climb-past}
 use Rattle.timing.specs.LentTimesLaws.{lent-read, lent-times}
@@ -22,22 +21,21 @@ use Rattle.response.proofs.search.Tie as tie
 
 abbrev Inv-loop : tie.InvT-loop
 Inv-loop executions periods i start at execution period tasks lo₀ hi₀ lo hi =
-    (t : Table) → TimesOf t executions periods tasks → LowerBound t (numbered i) start → AllFit (tasksAbove t (numbered i))
-    → Between t (numbered i) lo hi
+    (t : Table) → TimesOf t executions periods tasks → LowerBound t i start → AllFit (tasksAbove t i) → Between t i lo hi
 
 abbrev μ-loop : tie.MeasureT-loop
 μ-loop executions periods i start at execution period tasks lo₀ hi₀ lo hi = hi - lo
 
 -- where the call began
 abbrev entry : tie.After-period Inv-loop μ-loop → tie.Start Inv-loop μ-loop
-entry c = c .before .before
+entry c = c .before .before .before
 
 -- the times that it reads
 abbrev execution : tie.After-period Inv-loop μ-loop → ℕ
-execution c = getD (entry c .args .executions .now) (entry c .args .i) 0
+execution c = getD (entry c .args .executions .now) (entry c .args .i .0) 0
 
 abbrev period : tie.After-period Inv-loop μ-loop → ℕ
-period c = getD (entry c .args .periods .now) (entry c .args .i) 0
+period c = getD (entry c .args .periods .now) (entry c .args .i .0) 0
 
 -- a table of these times
 abbrev Timed : tie.After-period Inv-loop μ-loop → Table → Type 0
@@ -52,18 +50,18 @@ short : (c : tie.After-period Inv-loop μ-loop) → period c < 2 ^ 32
 short c = entry c .pre .0 .periods .narrow _ (entry c .pre .1)
 
 -- what a look at an interval of length b tells
-look : (c : tie.After-period Inv-loop μ-loop) {t : Table} → Timed c t → AllFit (tasksAbove t (numbered (entry c .args .i))) → {b : ℕ} {r : Bool}
-    → ((u : Table) → Timed c u → r ≡ fitsFrom (drop (entry c .args .i + 1) (tasksOf u)) (execution c) b)
-    → (r ≡ true) ↔ DoneBy t (numbered (entry c .args .i)) b
+look : (c : tie.After-period Inv-loop μ-loop) {t : Table} → Timed c t → AllFit (tasksAbove t (entry c .args .i)) → {b : ℕ} {r : Bool}
+    → ((u : Table) → Timed c u → r ≡ fitsFrom (drop (entry c .args .i .0 + 1) (tasksOf u)) (execution c) b)
+    → (r ≡ true) ↔ DoneBy t (entry c .args .i) b
 look c times all e = done-read (read c times) all (e _ times)
 
 -- what was read before the loop
 abbrev start : tie.At-loop Inv-loop μ-loop → tie.After-period Inv-loop μ-loop
-start c = c .before .before .before .before .before .before
+start c = c .before .before .before .before .before .before .before
 
 -- what is known of this table
 between : (c : tie.At-loop Inv-loop μ-loop)
-    → Between (entry (start c) .args .t) (numbered (entry (start c) .args .i)) (c .loop .lo) (c .loop .hi)
+    → Between (entry (start c) .args .t) (entry (start c) .args .i) (c .loop .lo) (c .loop .hi)
 between c = let given = entry (start c) .pre in c .loop .inv _ (given .0) (given .2) (given .3)
 
 -- the interval looked at is no longer than the period
@@ -71,20 +69,23 @@ narrow : (c : tie.At-loop Inv-loop μ-loop) → c .loop .hi < 2 ^ 32
 narrow c = omega (arith, read (start c) (entry (start c) .pre .0), short (start c), between c .within)
 
 -- the task has an execution time
-positive : (c : tie.At-loop Inv-loop μ-loop) {t : Table} → Timed (start c) t → 1 ≤ taskOf t (numbered (entry (start c) .args .i)) .execution
+positive : (c : tie.At-loop Inv-loop μ-loop) {t : Table} → Timed (start c) t → 1 ≤ taskOf t (entry (start c) .args .i) .execution
 positive c times = omega (arith, read (start c) times)
+
+cast-at : tie.Need-cast-at Inv-loop μ-loop
+cast-at c = omega arith
 
 mul-execution : tie.Need-mul-execution Inv-loop μ-loop
 mul-execution c = omega arith
 
 element-copy-out-execution : tie.Need-element-copy-out-execution Inv-loop μ-loop
-element-copy-out-execution c = omega (arith, lent-times (c .pre .0) .few)
+element-copy-out-execution c = omega (arith, lent-times (c .before .pre .0) .few)
 
 mul-period : tie.Need-mul-period Inv-loop μ-loop
 mul-period c = omega arith
 
 element-copy-out-period : tie.Need-element-copy-out-period Inv-loop μ-loop
-element-copy-out-period c = omega (arith, lent-times (c .before .pre .0) .few)
+element-copy-out-period c = omega (arith, lent-times (c .before .before .pre .0) .few)
 
 returns : tie.Need-returns Inv-loop μ-loop
 unfolding boundOf
@@ -109,25 +110,25 @@ returns-2 c =
     sym (ap boundOf (climb-found (given .2) solves (omega (arith, read times (given .0)))))
 
 add-fits-from : tie.Need-add-fits-from Inv-loop μ-loop
-add-fits-from c = omega (arith, lent-times (entry (c .before .before .before) .pre .0) .few)
+add-fits-from c = omega (arith, lent-times (entry (c .before .before .before .before) .pre .0) .few)
 
 fits-from-requires : tie.Need-fits-from-requires Inv-loop μ-loop
 fits-from-requires c κs =
-    let times = c .before .before .before in
+    let times = c .before .before .before .before in
     let given = entry times .pre in
     (lent-times (given .0), omega arith, omega (arith, read times (given .0), short times), short times)
 
 returns-3 : tie.Need-returns-3 Inv-loop μ-loop
 unfolding boundOf
 returns-3 c =
-    let times = c .before .before .before .before .before in
+    let times = c .before .before .before .before .before .before in
     let given = entry times .pre in
     sym (ap boundOf (search-none _ _ (given .0 .timeable .positive _ (given .1)) (read times (given .0) .period) (λ done.
     false≢true (sym (not-true _ (c .if3 .taken)) ∙ look times (given .0) (given .3) (c .before .fits-from .ensures) .1 done))))
 
 loop-holds : tie.Need-loop-holds Inv-loop μ-loop
 loop-holds c = λ t times lower all.
-    let begun = c .before .before .before .before .before in
+    let begun = c .before .before .before .before .before .before in
     search-start lower (read begun times .period) (omega arith)
     (look begun times all (c .before .fits-from .ensures) .0 (not-false _ (c .if3 .left)))
 
@@ -138,32 +139,33 @@ add-mid : tie.Need-add-mid Inv-loop μ-loop
 add-mid c = omega (arith, narrow (c .before))
 
 add-fits-from-2 : tie.Need-add-fits-from-2 Inv-loop μ-loop
-add-fits-from-2 c = omega (arith, lent-times (entry (start (c .before)) .pre .0) .few)
+add-fits-from-2 c = omega (arith, lent-times (entry (start (c .before .before)) .pre .0) .few)
 
 fits-from-requires-2 : tie.Need-fits-from-requires-2 Inv-loop μ-loop
 fits-from-requires-2 c κs =
-    let times = start (c .before) in
+    let head = c .before .before in
+    let times = start head in
     let given = entry times .pre in
-    (lent-times (given .0), omega arith, omega (arith, read times (given .0), short times), omega (arith, narrow (c .before)))
+    (lent-times (given .0), omega arith, omega (arith, read times (given .0), short times), omega (arith, narrow head))
 
 loop-less : tie.Need-loop-less Inv-loop μ-loop
 loop-less c = omega arith
 
 loop-again : tie.Need-loop-again Inv-loop μ-loop
 loop-again c = λ t times lower all.
-    let head = c .before .before .before in
+    let head = c .before .before .before .before in
     let done = look (start head) times all (c .before .fits-from2 .ensures) .0 (c .if4 .taken) in
     search-down (positive head times) (head .loop .inv t times lower all) (omega arith) (omega arith) done
 
 add-lo : tie.Need-add-lo Inv-loop μ-loop
-add-lo c = omega (arith, narrow (c .before .before .before))
+add-lo c = omega (arith, narrow (c .before .before .before .before))
 
 loop-less-2 : tie.Need-loop-less-2 Inv-loop μ-loop
 loop-less-2 c = omega arith
 
 loop-again-2 : tie.Need-loop-again-2 Inv-loop μ-loop
 loop-again-2 c = λ t times lower all.
-    let head = c .before .before .before in
+    let head = c .before .before .before .before in
     search-up (positive head times) (head .loop .inv t times lower all) (omega arith) (λ done.
     false≢true (sym (c .if4 .left) ∙ look (start head) times all (c .before .fits-from2 .ensures) .1 done))
 
@@ -179,6 +181,7 @@ search-spec =
     (tie.spec
     Inv-loop
     μ-loop
+    cast-at
     mul-execution
     element-copy-out-execution
     mul-period

@@ -6,7 +6,6 @@ use mathlib.Core.Path.{_≡_, ap, _∙_}
 use mathlib.Core.List.{List, _++_, map}
 use borrow.Author.Needs.{needs}
 use Rattle.taskfile.specs.Lists.{upTo}
-use Rattle.taskfile.specs.Judgement.{numbered}
 use Rattle.timing.specs.declared.JobRecord.{JobRecord}
 use Rattle.timing.specs.JobParts.{jobListOf}
 use Rattle.timing.specs.JobListLaws.{jobAs, none-added, one-added, all-added, product-fits}
@@ -17,7 +16,7 @@ abbrev Inv-loop : tie.InvT-loop
 Inv-loop i response n first period longer₀ k₀ longer k =
     (k ≤ n)
     × (longer .count ≡ longer₀ .count + k)
-    × ((l : List JobRecord) → longer₀ ≡ jobListOf l → longer ≡ jobListOf (l ++ map (jobAs (numbered i) first period response) (upTo k)))
+    × ((l : List JobRecord) → longer₀ ≡ jobListOf l → longer ≡ jobListOf (l ++ map (jobAs i first period response) (upTo k)))
 
 abbrev μ-loop : tie.MeasureT-loop
 μ-loop i response n first period longer₀ k₀ longer k = n - k
@@ -63,9 +62,9 @@ returns c =
       λ l e.
           inv .2 l e
           ∙ ap
-          (λ (k : ℕ). jobListOf (l ++ map (jobAs (numbered (args .i)) (c .before .before .before .wide .result) (c .before .before .wide2 .result) (args .response)) (upTo k)))
+          (λ (k : ℕ). jobListOf (l ++ map (jobAs (args .i) (c .before .before .before .wide .result) (c .before .before .wide2 .result) (args .response)) (upTo k)))
           ended
-          ∙ all-added (numbered (args .i)) (args .e) (args .response) (args .n) (c .before .before .before .wide .ensures .0) (c .before .before .wide2 .ensures .0) l,
+          ∙ all-added (args .i) (args .e) (args .response) (args .n) (c .before .before .before .wide .ensures .0) (c .before .before .wide2 .ensures .0) l,
     )
 
 pub with-jobs-spec : {M : Type 1} → statement M
