@@ -3,6 +3,7 @@ pub mod ClearLaws
 pub mod Demand2
 pub mod DueLaws
 pub mod MoveLaws
+pub mod FirstLaws
 pub mod Moves
 pub mod NextLaws
 pub mod PathLaws

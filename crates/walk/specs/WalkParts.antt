@@ -81,10 +81,13 @@ topJob p = if eqb (p .depth) 0 then 32 else topOf p .job .0
 
 -- may it be task i's turn, where `top` is the active job started last?
 unfoldable pub maybeDue : List ℕ → List ℕ → ℕ → ℕ → Bool
-maybeDue program upcoming top i =
-    if ltb top 32
-    then eqb (ownerIn program top) i || not (ltb i (ownerIn program top)) && ownedBy program i (getD upcoming i 0)
-    else ownedBy program i (getD upcoming i 0)
+maybeDue program upcoming top i = ownedBy program i top || ownedBy program i (getD upcoming i 0)
+
+-- the first byte from here on of a task that is not below that of `top`
+unfoldable pub firstByte : List ℕ → ℕ → ℕ → ℕ
+firstByte program top byte =
+    let first = 16 * ownerIn program top in
+    if ltb top 32 && ltb (ownerIn program top) 8 && ltb byte first then first else byte
 
 -- where the next value is looked for after a step at this byte
 unfoldable pub valueAfter : List ℕ → Frame → ℕ → ℕ

@@ -12,7 +12,7 @@ use timing::Job;
 ghost use mathlib.Core.Path.{_≡_};
 ghost use Prim.Native.Nat.{_≤_, _<_};
 ghost use Rattle.steps.specs.StateBytes.{snapshotIn, IsState};
-ghost use Rattle.walk.specs.WalkParts.{NextStep, maybeDue, topJob, valueAfter};
+ghost use Rattle.walk.specs.WalkParts.{NextStep, firstByte, maybeDue, topJob, valueAfter};
 
 // The byte from which on the next move is looked for after a step of task i at this byte: the next value of a Pick, or the
 // next task's first byte.
@@ -36,24 +36,35 @@ pub fn byte_after(program: &[u8; 544], f: Frame, byte: u8) -> u8
     byte + 1
 }
 
-// May it be task i's turn, where `top` is the active job started last, or 32? Not if that job is of a higher task, or if task i
-// has no job left, unless that job is of task i. This spares the full test for most tasks.
+// May it be task i's turn, where `top` is the active job started last, or 32? Not if that is not one of task i and task i has no
+// job left. This spares the full test for most tasks.
 pub fn may_be_due(program: &[u8; 544], s: &[u8; 192], top: Job, i: Task) -> bool
     requires { ⌜ i .0 < 8 ⌝ }
     ensures { λ b. ⌜ b ≡ maybeDue (now (program .entry)) (snapshotIn (now (s .entry)) .upcoming) (top .0) (i .0) ⌝ }
 {
-    let upcoming = Job(s[8 + (i.0 as usize)]);
-    if 32 <= top.0 {
-        return owned_by(program, i, upcoming);
-    }
-    let base = program[512 + (top.0 as usize)];
-    if base == i.0 {
+    if owned_by(program, i, top) {
         return true;
     }
-    if i.0 < base {
-        return false;
+    owned_by(program, i, Job(s[8 + (i.0 as usize)]))
+}
+
+// The first byte from `byte` on of a task that is not below that of `top`, the active job started last, or 32: no task below has
+// a turn.
+pub fn first_byte(program: &[u8; 544], top: Job, byte: u8) -> u8
+    ensures { λ r. ⌜ r ≡ firstByte (now (program .entry)) (top .0) byte ⌝ }
+{
+    if 32 <= top.0 {
+        return byte;
     }
-    owned_by(program, i, upcoming)
+    let base = program[512 + (top.0 as usize)];
+    if 8 <= base {
+        return byte;
+    }
+    let first = 16 * base;
+    if byte < first {
+        return first;
+    }
+    byte
 }
 
 // The first byte from `byte` on that is a step, or 128, where `top` is the active job started last, or 32.
@@ -68,7 +79,7 @@ pub fn next_move(
     requires { ⌜ (locks .count ≤ 8) × IsState (now s) × (byte ≤ 128) × (top .0 ≡ topJob (snapshotIn (now s))) ⌝ }
     ensures { λ m. ⌜ NextStep (now (program .entry)) (now (times .entry)) locks (snapshotIn (now (s .entry))) byte m ⌝ }
 {
-    let mut at = byte;
+    let mut at = first_byte(program, top, byte);
     while at < 128 {
         let i = Task(at / 16);
         if may_be_due(program, s, top, i) {

@@ -7,6 +7,7 @@ use Prim.Native.Nat.{_≤_, _-_}
 use native.Mathlib.Omega.{arith}
 use Rattle.steps.specs.StateBytes.{snapshotIn}
 use Rattle.walk.specs.DueLaws.{not-due}
+use Rattle.walk.specs.FirstLaws.{first-passed}
 use Rattle.walk.specs.NextLaws.{passed-idle, passed-refused, step-found, no-move}
 use Rattle.steps.specs.StateReads.{stack-length}
 use Rattle.steps.specs.StepParts.{offered-inside}
@@ -21,14 +22,19 @@ Inv-loop program times locks s top byte at₀ at = (byte ≤ at) × (at ≤ 128)
 abbrev μ-loop : tie.MeasureT-loop
 μ-loop program times locks s top byte at₀ at = 128 - at
 
+first-byte-requires : tie.Need-first-byte-requires Inv-loop μ-loop
+first-byte-requires c κs = tt
+
 loop-holds : tie.Need-loop-holds Inv-loop μ-loop
-loop-holds c = (omega arith, omega arith, λ k low high. absurd (omega arith))
+loop-holds c =
+    let given = c .before .pre in
+    first-passed _ _ _ _ (few-deep (given .1)) (stack-length _) (given .3) _ (c .first-byte .ensures) (given .2)
 
 may-be-due-requires : tie.Need-may-be-due-requires Inv-loop μ-loop
 may-be-due-requires c κs = omega arith
 
 turn-of-requires : tie.Need-turn-of-requires Inv-loop μ-loop
-turn-of-requires c κs = (c .before .before .before .before .pre .0, c .before .before .before .before .pre .1)
+turn-of-requires c κs = let given = c .before .before .before .before .before .pre in (given .0, given .1)
 
 offered-requires : tie.Need-offered-requires Inv-loop μ-loop
 offered-requires c κs = omega arith
@@ -55,7 +61,7 @@ loop-less c = omega arith
 loop-again : tie.Need-loop-again Inv-loop μ-loop
 loop-again c =
     let head = c .before .before .before .loop .inv in
-    let start = c .before .before .before .before in (
+    let start = c .before .before .before .before .before in (
       omega arith,
       omega arith,
       elim (c .if1 .came) [
@@ -72,7 +78,7 @@ no-turn-requires c κs = tt
 
 returns-2 : tie.Need-returns-2 Inv-loop μ-loop
 returns-2 c =
-    no-move _ _ _ _ _ _ (c .before .before .before .pre .2) (c .before .before .loop .inv .2) (c .before .loop-test .left)
+    no-move _ _ _ _ _ _ (c .before .before .before .before .pre .2) (c .before .before .loop .inv .2) (c .before .loop-test .left)
 
 pub next-move-spec : {M : Type 1} → statement M
 next-move-spec =
@@ -80,6 +86,7 @@ next-move-spec =
     (tie.spec
     Inv-loop
     μ-loop
+    first-byte-requires
     loop-holds
     may-be-due-requires
     turn-of-requires
