@@ -1,2 +1,7 @@
+pub mod ColumnLaws
 pub mod ConversionEntries
 pub mod Conversions
+pub mod CountLaws
+pub mod Histories
+pub mod LegalLaws
+pub mod RowLaws
