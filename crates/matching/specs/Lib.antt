@@ -4,4 +4,8 @@ pub mod Conversions
 pub mod CountLaws
 pub mod Histories
 pub mod LegalLaws
+pub mod PlanHistoryLaws
+pub mod PlanReading
+pub mod PlanReadingLaws
 pub mod RowLaws
+pub mod RunLaws

@@ -19,6 +19,7 @@ use Rattle.plan.specs.Legality.{stepsOf}
 use Rattle.plan.specs.Runs.{Step, JobRuns, jobTotal}
 use Rattle.matching.specs.Conversions.{stepBytesIn, orderOf}
 use Rattle.matching.specs.Histories.{Mark, Marks, job, marked, bytesOf, inRound, rowFrom, rows}
+use Rattle.matching.specs.PlanReading.{markOf, marksOf}
 
 -- ---- lists
 
@@ -208,12 +209,6 @@ module _ (a : Accepted) where
       ∙ ap (λ (l : List ℕ). l ++ byte) (sym (rows-snoc r h) ∙ sym (rows-longer (suc r) n h above below))
 
 -- ---- a plan's run as a history
-
-unfoldable pub markOf : Step → Mark
-markOf step = record { round = step .round .0; value = step .value }
-
-unfoldable pub marksOf : JobRuns → Marks
-marksOf runs = map (map markOf) (runs .steps)
 
 module _ (a : Accepted) where
   -- a row, job by job
