@@ -2,10 +2,16 @@ pub mod ColumnLaws
 pub mod ConversionEntries
 pub mod Conversions
 pub mod CountLaws
+pub mod EndedLaws
 pub mod Histories
 pub mod LegalLaws
+pub mod MovedLaws
 pub mod PlanHistoryLaws
 pub mod PlanReading
 pub mod PlanReadingLaws
 pub mod RowLaws
 pub mod RunLaws
+pub mod TraceCases
+pub mod TraceLaws
+pub mod Traces
+pub mod TurnTraceLaws

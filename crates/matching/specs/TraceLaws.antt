@@ -1,0 +1,129 @@
+-- An order's trace holds where the order starts, and every step keeps it.
+-- Assumes nothing.
+use mathlib.Core.Path.{_≡_, refl, sym, ap, subst, _∙_}
+use mathlib.Core.Logic.{_⊎_}
+use Prim.Native.Nat.{ℕ, zero, suc, _+_, _*_, _/_, _%_, _<_}
+use native.Mathlib.Omega.{arith}
+use mathlib.Core.Bool.{true, false}
+use mathlib.Core.List.{List, [], _∷_, _++_}
+use mathlib.Core.Option.{some}
+use lib.ListN.{length, getD, set, replicate, length-replicate}
+use Rattle.taskfile.specs.Lists.{only}
+use Rattle.timing.specs.declared.Job.{Job}
+use Rattle.timing.specs.Accepted.{Accepted}
+use Rattle.timing.specs.AcceptedLaws.{IsAccepted}
+use Rattle.timing.specs.Relations.{base}
+use Rattle.machine.specs.declared.Effect.{Effect}
+use Rattle.machine.specs.Ends.{noStore, noFlags}
+use Rattle.machine.specs.Instructions.{Store, perform}
+use Rattle.order.specs.Invariant.{Invariant}
+use Rattle.order.specs.Orders.{nextOf, step}
+use Rattle.order.specs.States.{State, initial, hasEnded}
+use Rattle.order.specs.StepLaws.{GoodTurn, no-flag, good-turn, afterEffect, performed-is, Step, step-says}
+use Rattle.plan.specs.Runs.{jobTotal}
+use Rattle.matching.specs.ColumnLaws.{columns-none}
+use Rattle.matching.specs.EndedLaws.{ended-none}
+use Rattle.matching.specs.Histories.{Mark, Marks, job, marked, inRound, Column, unbegun, Columns, columns}
+use Rattle.matching.specs.MovedLaws.{markAt, ended-here}
+use Rattle.matching.specs.RowLaws.{rows-none}
+use Rattle.matching.specs.Traces.{Traced}
+use Rattle.matching.specs.TurnTraceLaws.{GoesOn, Starts, turn-kind}
+use Rattle.matching.specs.TraceCases.{goes-traced, ends-traced}
+
+-- ---- where an order starts
+
+-- no job has a step or a column of its own
+none-marked : (n y : ℕ) → getD {A = List Mark} (replicate n []) y [] ≡ []
+none-marked zero y = refl
+none-marked (suc n) zero = refl
+none-marked (suc n) (suc y) = none-marked n y
+
+none-column : (n y : ℕ) → getD (replicate n unbegun) y unbegun ≡ unbegun
+none-column zero y = refl
+none-column (suc n) zero = refl
+none-column (suc n) (suc y) = none-column n y
+
+none-in : (n y q : ℕ) → inRound q (getD (replicate n []) y []) ≡ []
+unfolding inRound only
+none-in n y q = ap (inRound q) (none-marked n y)
+
+-- the columns are those of jobs not begun
+start-column : (a : Accepted) (guesses : List Store) (x : ℕ) → getD (columns a (replicate (jobTotal a) []) guesses .jobs) x unbegun ≡ unbegun
+start-column a guesses x =
+    ap (λ (c : Columns). getD (c .jobs) x unbegun) (columns-none a (jobTotal a) guesses) ∙ none-column (jobTotal a) x
+
+-- with no step made, round 0 begins with the initial store
+pub traced-initial : {a : Accepted} → IsAccepted a → (guesses : List Store) → length guesses ≡ jobTotal a
+    → (0 < jobTotal a → getD guesses 0 noStore ≡ a .table .store) → Traced a (initial a) 0 guesses (replicate (jobTotal a) []) []
+unfolding initial hasEnded noFlags unbegun job
+traced-initial {a} ok guesses long starts = record {
+  listed = length-replicate (jobTotal a) [];
+  guessed = long;
+  wide = refl;
+  ends = ended-none a;
+  by-rows = rows-none a (jobTotal a) (jobTotal a);
+  locals = λ k d lt. absurd (omega arith);
+  endings = λ x lt. ap (λ (c : Column). c .ended) (start-column a guesses x) ∙ sym (no-flag 32 x);
+  failures = λ x lt. ap (λ (c : Column). c .failed) (start-column a guesses x) ∙ sym (no-flag 32 x);
+  none-yet = λ x lt e. none-marked (jobTotal a) x;
+  present = λ lt. ap (λ (c : Columns). getD (c .stores) 0 noStore) (columns-none a (jobTotal a) guesses) ∙ starts lt;
+  past = λ q lt inside. absurd (omega arith);
+  final = λ q next whole. absurd (omega arith);
+  later = λ y q lt. none-in (jobTotal a) y q;
+  here = λ y made. absurd (made (none-in (jobTotal a) y 0));
+}
+
+-- ---- every step
+
+-- "An order byte is 16 × task + value"
+byte-parts : (byte task : ℕ) → task ≡ byte / 16 → 16 * task + byte % 16 ≡ byte
+byte-parts byte task e = omega arith
+
+module _ {a : Accepted} (ok : IsAccepted a) {s : State} (inv : Invariant a s) {r : ℕ} {guesses : List Store} {h : Marks} {done : List ℕ}
+    (t : Traced a s r guesses h done) {byte : ℕ} {after : State} (made : Step a s byte after) where
+  abbrev pub stepJob : Job
+  stepJob = made .turn .frame .job
+
+  abbrev pub stepMarks : Marks
+  stepMarks = marked h (stepJob .0) (markAt r (byte % 16))
+
+  abbrev effect : Effect
+  effect = perform (nextOf a (made .turn .frame)) (byte % 16) (made .turn .frame .local) (s .store)
+
+  after-is : afterEffect s (made .turn) effect ≡ after
+  after-is = sym (performed-is a s (byte % 16) (made .turn)) ∙ made .made
+
+  kind : GoesOn s (made .turn) ⊎ Starts s (made .turn)
+  kind = turn-kind a s (byte / 16) (made .due)
+
+  good : GoodTurn a s (made .turn) × (base a stepJob ≡ byte / 16)
+  good = good-turn ok inv (byte / 16) (made .due)
+
+  effect-ended : hasEnded after stepJob ≡ effect .ended
+  effect-ended =
+      ap (λ (next : State). hasEnded next stepJob) (sym after-is) ∙ ended-here ok inv t (good .0) kind (byte % 16) effect refl
+
+  -- where the step's job has ended, the next round begins with the store left
+  pub step-ends : hasEnded after stepJob ≡ true → Traced a after (suc r) (set guesses (suc r) (after .store)) stepMarks (done ++ (byte ∷ []))
+  unfolding afterEffect
+  step-ends ended =
+      subst (λ (next : State). Traced a next (suc r) (set guesses (suc r) (next .store)) stepMarks (done ++ (byte ∷ []))) after-is
+      (ends-traced ok inv t (good .0) kind (byte % 16) effect refl (sym effect-ended ∙ ended) byte (byte-parts byte _ (good .1)))
+
+  -- else the round goes on
+  pub step-goes : hasEnded after stepJob ≡ false → Traced a after r guesses stepMarks (done ++ (byte ∷ []))
+  step-goes goes =
+      subst (λ (next : State). Traced a next r guesses stepMarks (done ++ (byte ∷ []))) after-is
+      (goes-traced ok inv t (good .0) kind (byte % 16) effect refl (sym effect-ended ∙ goes) byte (byte-parts byte _ (good .1)))
+
+-- every step keeps the trace
+pub traced-step : {a : Accepted} → IsAccepted a → {s : State} → Invariant a s → {r : ℕ} {guesses : List Store} {h : Marks} {done : List ℕ}
+    → Traced a s r guesses h done → (byte : ℕ) {after : State} → (e : step a s byte ≡ some after)
+    → let x = step-says a s byte e .turn .frame .job .0 in
+    let more = marked h x (record { round = r; value = byte % 16 }) in
+    (hasEnded after (job x) ≡ true → Traced a after (suc r) (set guesses (suc r) (after .store)) more (done ++ (byte ∷ [])))
+    × (hasEnded after (job x) ≡ false → Traced a after r guesses more (done ++ (byte ∷ [])))
+unfolding job
+traced-step {a} ok {s} inv t byte e =
+    let made = step-says a s byte e in
+    (step-ends ok inv t made, step-goes ok inv t made)
