@@ -13,6 +13,8 @@ pub mod PairedLaws
 pub mod PairedLegal
 pub mod PairingLaws
 pub mod Pairings
+pub mod PartLaws
+pub mod Parts
 pub mod PlanHistoryLaws
 pub mod PlanReading
 pub mod PlanReadingLaws
