@@ -23,5 +23,7 @@ pub mod RowLaws
 pub mod RunLaws
 pub mod TraceCases
 pub mod TraceLaws
+pub mod TraceStepLaws
+pub mod TraceSteps
 pub mod Traces
 pub mod TurnTraceLaws
