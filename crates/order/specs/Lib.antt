@@ -1,3 +1,4 @@
+pub mod CompleteLaws
 pub mod Invariant
 pub mod LengthLaws
 pub mod LentLaws
