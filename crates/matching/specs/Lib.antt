@@ -3,6 +3,9 @@ pub mod ColumnLaws
 pub mod ConversionEntries
 pub mod Conversions
 pub mod CountLaws
+pub mod CutColumns
+pub mod CutLaws
+pub mod CutRuns
 pub mod Cuts
 pub mod EndedLaws
 pub mod Histories
@@ -18,9 +21,12 @@ pub mod Parts
 pub mod PlanHistoryLaws
 pub mod PlanReading
 pub mod PlanReadingLaws
+pub mod PlanRounds
+pub mod PlanTurn
 pub mod PreemptionLaws
 pub mod RowLaws
 pub mod RunLaws
+pub mod SequenceLaws
 pub mod TraceCases
 pub mod TraceLaws
 pub mod TraceStepLaws
