@@ -5,6 +5,7 @@ pub mod Conversions
 pub mod CountLaws
 pub mod CutColumns
 pub mod CutLaws
+pub mod CutRounds
 pub mod CutRuns
 pub mod Cuts
 pub mod EndedLaws
@@ -12,6 +13,7 @@ pub mod Histories
 pub mod LegalLaws
 pub mod MadeLaws
 pub mod MovedLaws
+pub mod OfferedLaws
 pub mod PairedLaws
 pub mod PairedLegal
 pub mod PairingLaws
@@ -29,6 +31,7 @@ pub mod RunLaws
 pub mod SequenceLaws
 pub mod TraceCases
 pub mod TraceLaws
+pub mod TraceMore
 pub mod TraceStepLaws
 pub mod TraceSteps
 pub mod Traces
