@@ -27,6 +27,7 @@ use Rattle.matching.specs.Cuts.{Cut}
 use Rattle.matching.specs.Histories.{Mark, Marks, job, inRound}
 use Rattle.matching.specs.LegalLaws.{legal-run, above-none-at}
 use Rattle.matching.specs.PlanReading.{markOf, marksOf}
+use Rattle.matching.specs.PlanRounds.{none-left}
 use Rattle.matching.specs.PlanReadingLaws.{numbered}
 use Rattle.matching.specs.RunLaws.{run-steps, run-below, endAt, legal-rising, ends-below}
 use Rattle.matching.specs.Traces.{endedCount}
@@ -180,25 +181,13 @@ module _ {a : Accepted} (ok : IsAccepted a) (plan : Plan) {runs : JobRuns} (lega
             elim (ℕ-discrete (endAt runs y) (m .round)) [ yes same ↦ absurd (end-apart y isY none same) | no apart ↦ omega arith ]
       ]
 
-  -- and a job that ends in an earlier round has no step left
-  pub none-left : (y : ℕ) → endAt runs y < m .round → cut .rest y ≡ []
-  unfolding job end
-  none-left y earlier = go (cut .rest y) refl
-    where
-      go : (ms : List Mark) → cut .rest y ≡ ms → ms ≡ []
-      go [] e = refl
-      go (n ∷ ns) e =
-          let rounds = rounds-cut y ∙ ap (λ (ms : List Mark). roundsIn (getD now y [] ++ ms)) e in
-          let last = ap (lastOr 0) rounds ∙ last-second (getD now y []) n ns 0 in
-          absurd (last-round n ns 0 (ap (λ (q : ℕ). inRound q (n ∷ ns)) (sym last) ∙ ap (inRound (endAt runs y)) (sym e) ∙ cut .left y (endAt runs y) earlier))
-
   module _ (s : State)
       (ended : (y : ℕ) → y < jobTotal a → (hasEnded s (job y) ≡ true → cut .rest y ≡ []) × (cut .rest y ≡ [] → hasEnded s (job y) ≡ true)) where
     -- the jobs that have ended are those whose end is in an earlier round
     ended-below : (y : ℕ) → y < jobTotal a → hasEnded s (job y) ≡ ltb (endAt runs y) (m .round)
     ended-below y isY =
         elim (decLt (endAt runs y) (m .round)) [
-          | yes earlier ↦ ended y isY .1 (none-left y earlier) ∙ sym (lt-ltb (endAt runs y) (m .round) earlier)
+          | yes earlier ↦ ended y isY .1 (none-left runs cut y earlier) ∙ sym (lt-ltb (endAt runs y) (m .round) earlier)
           | no other ↦
               elim (decided (hasEnded s (job y))) [
                 | inl e ↦ absurd (other (ended-earlier y isY (ended y isY .0 e)))

@@ -14,6 +14,10 @@ pub mod LegalLaws
 pub mod MadeLaws
 pub mod MovedLaws
 pub mod OfferedLaws
+pub mod OrderKept
+pub mod OrderPlanned
+pub mod OrderRuns
+pub mod OrderSteps
 pub mod PairedLaws
 pub mod PairedLegal
 pub mod PairingLaws
