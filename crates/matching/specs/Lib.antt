@@ -8,6 +8,7 @@ pub mod CutLaws
 pub mod CutRounds
 pub mod CutRuns
 pub mod Cuts
+pub mod Demand3
 pub mod EndedLaws
 pub mod Histories
 pub mod LegalLaws
@@ -24,10 +25,15 @@ pub mod PairingLaws
 pub mod Pairings
 pub mod PartLaws
 pub mod Parts
+pub mod PlanColumns
+pub mod PlanEnds
 pub mod PlanHistoryLaws
+pub mod PlanKept
+pub mod PlanOrdered
 pub mod PlanReading
 pub mod PlanReadingLaws
 pub mod PlanRounds
+pub mod PlanSteps
 pub mod PlanTurn
 pub mod PreemptionLaws
 pub mod RowLaws
