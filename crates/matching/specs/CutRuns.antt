@@ -6,7 +6,7 @@ use mathlib.Core.Logic.{inl, inr}
 use Prim.Native.Nat.{ℕ, zero, suc, _+_, _<_}
 use native.Mathlib.Omega.{arith}
 use mathlib.Core.Bool.{true, false}
-use mathlib.Core.List.{List, [], _∷_, _++_, map, append-assoc, append-nil}
+use mathlib.Core.List.{List, [], _∷_, _++_, append-assoc, append-nil}
 use lib.ListN.{length, getD, take, length-append}
 use lib.Seq.{take-at}
 use Rattle.taskfile.specs.Judgement.{instructionOf}
@@ -29,7 +29,7 @@ not-empty xs y ys e = let long = sym (length-append xs (y ∷ ys)) ∙ ap length
 
 module _ (a : Accepted) (x : ℕ) where
   -- a whole run ends
-  whole-ends : (ms : List Mark) (previous : ℕ) (c : Running) → Whole a x previous ms c → runMarks a x ms c .column .ended ≡ true
+  pub whole-ends : (ms : List Mark) (previous : ℕ) (c : Running) → Whole a x previous ms c → runMarks a x ms c .column .ended ≡ true
   unfolding runMarks
   whole-ends [] previous c whole = absurd whole
   whole-ends (m ∷ ms) previous c whole = elim (whole .1) [

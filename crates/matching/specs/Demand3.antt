@@ -7,7 +7,7 @@ use mathlib.Core.Path.{_≡_, refl, sym, ap, _∙_}
 use mathlib.Core.Logic.{_↔_}
 use Prim.Native.Nat.{ℕ}
 use mathlib.Core.List.{List}
-use Rattle.taskfile.specs.Checked.{Checked, passed, _>>=_}
+use Rattle.taskfile.specs.Checked.{passed, _>>=_}
 use Rattle.taskfile.specs.CheckedLaws.{passed-same, bind-passed}
 use Rattle.timing.specs.Accepted.{Accepted}
 use Rattle.timing.specs.AcceptedLaws.{IsAccepted}
@@ -17,7 +17,7 @@ use Rattle.order.specs.Orders as order-specs
 use Rattle.order.specs.Orders.{Complete}
 use Rattle.order.specs.Replay.{replay}
 use Rattle.order.specs.States.{State}
-use Rattle.plan.specs.Plans.{Legal, legalRun, endOf, checkPlan}
+use Rattle.plan.specs.Plans.{Legal, legalRun, endOf}
 use Rattle.plan.specs.Runs.{Plan, JobRuns}
 use Rattle.matching.specs.Conversions.{planOf, orderToPlan, orderOf, planToOrder}
 use Rattle.matching.specs.OrderPlanned.{runsOf, order-planned}

@@ -2,11 +2,10 @@
 -- round and in each round job after job, it is an order's bytes. By columns, job after job, each step on its round's store, it is a
 -- plan's run. The theorem of demand 3 goes by histories; neither orders nor plans speak of them.
 -- Assumes nothing.
-use mathlib.Core.Path.{_≡_}
-use Prim.Native.Nat.{ℕ, zero, suc, _+_, _*_}
-use mathlib.Core.Bool.{Bool, true, false, _||_}
+use Prim.Native.Nat.{ℕ, suc, _+_, _*_}
+use mathlib.Core.Bool.{Bool, false, _||_}
 use mathlib.Core.List.{List, [], _∷_, _++_, map}
-use lib.ListN.{length, getD, set}
+use lib.ListN.{getD, set}
 use lib.Dec.{eqb}
 use Rattle.taskfile.specs.Judgement.{instructionOf}
 use Rattle.taskfile.specs.Lists.{upTo, only, each}

@@ -2,7 +2,6 @@
 -- columns, each guess is the store that is due, and every column ends. A column's last step notes the priority of what the job holds.
 -- Assumes nothing.
 use mathlib.Core.Path.{_≡_, sym, ap, subst, _∙_}
-use mathlib.Core.Logic.{inl, inr}
 use Prim.Native.Nat.{ℕ, _<_}
 use native.Mathlib.Omega.{arith}
 use mathlib.Core.Bool.{true}
@@ -22,14 +21,14 @@ use Rattle.machine.specs.Instructions.{Store, fresh}
 use Rattle.plan.specs.Legality.{stepsOf, roundsOf, dueStore}
 use Rattle.plan.specs.Plans.{Legal}
 use Rattle.plan.specs.Runs.{Plan, Step, JobRuns, guess, jobTotal}
-use Rattle.matching.specs.CutRuns.{whole-at}
+use Rattle.matching.specs.CutRuns.{whole-at, whole-ends}
 use Rattle.matching.specs.Histories.{Mark, Marks, job, Column, unbegun, Running, effectOf, stepped, markStep, runMarks, columns}
 use Rattle.matching.specs.LegalLaws.{legal-run, legal-guesses}
 use Rattle.matching.specs.MadeLaws.{last-snoc}
 use Rattle.matching.specs.PartLaws.{column-at}
 use Rattle.matching.specs.Parts.{beginning}
 use Rattle.matching.specs.PlanHistoryLaws.{PlanBack, plan-read, plan-run-is}
-use Rattle.matching.specs.PlanReading.{markOf, marksOf, stepOf, guessesOf, guessed, flagsFrom, columnsRun, Whole}
+use Rattle.matching.specs.PlanReading.{markOf, marksOf, stepOf, guessesOf, guessed, flagsFrom, columnsRun}
 use Rattle.matching.specs.RunLaws.{Climbs, job-climbs}
 use Rattle.matching.specs.SequenceLaws.{AllRounds}
 
@@ -54,15 +53,6 @@ module _ (a : Accepted) (x : ℕ) where
   unbegun-notes : Noting unbegun
   unfolding unbegun fresh lastOr
   unbegun-notes = sym (priority-none (ceilingsOf (a .table)) (base a (job x)))
-
-  -- a whole run ends
-  whole-ends : (ms : List Mark) (previous : ℕ) (c : Running) → Whole a x previous ms c → runMarks a x ms c .column .ended ≡ true
-  unfolding runMarks
-  whole-ends [] previous c whole = absurd whole
-  whole-ends (m ∷ ms) previous c whole = elim (whole .1) [
-    | inl last ↦ ap (λ (l : List Mark). runMarks a x l (markStep a x m c) .column .ended) (last .1) ∙ last .0
-    | inr on ↦ whole-ends ms (m .round) (markStep a x m c) (on .1)
-  ]
 
 -- a job's rounds are those of its marks
 marks-rounds : (runs : JobRuns) (y : ℕ) → roundsOf runs (job y) ≡ map (λ m. m .round) (getD (marksOf runs) y [])

@@ -41,6 +41,7 @@ use Rattle.matching.specs.PlanColumns.{legal-back, legal-climbs, legal-s
 use Rattle.matching.specs.PlanReading.{marksOf, guessesOf}
 use Rattle.matching.specs.PlanRounds.{none-or-some}
 use Rattle.matching.specs.PlanTurn.{Stands, NextTurn, plan-turn}
+use Rattle.matching.specs.TraceMore.{some-same}
 use Rattle.matching.specs.Traces.{endedCount, Traced}
 use Rattle.matching.specs.TraceLaws.{traced-initial}
 use Rattle.matching.specs.TraceSteps.{traceFrom, firstGuess, startTrace, traceOf}
@@ -166,9 +167,6 @@ module _ {a : Accepted} (ok : IsAccepted a) (plan : Plan) {runs : JobRuns} (lega
 
 -- ---- the next step
 
-some-is : {A : Type 0} {x y : A} → some x ≡ some y → x ≡ y
-some-is e = cc
-
 -- a turn with a value on offer is a step
 step-made : (a : Accepted) (s : State) (byte : ℕ) (turn : Turn) → turnOf a s (byte / 16) ≡ some turn
     → member (byte % 16) (values (nextOf a (turn .frame))) ≡ true → step a s byte ≡ some (performed a s (byte % 16) turn)
@@ -193,7 +191,7 @@ module _ (a : Accepted) (s : State) (p : Placed) (turn : Turn) where
       let value : byte % 16 ≡ p .mark .value = byte-value (base a (job (p .number))) (p .mark .value) small in
       let here = ap (turnOf a s) task ∙ due in
       let taken = step-made a s byte turn here (ap (λ (v : ℕ). member v (values (nextOf a (turn .frame)))) value ∙ offered) in
-      let same : step-says a s byte taken .turn ≡ turn = some-is (sym (step-says a s byte taken .due) ∙ here) in
+      let same : step-says a s byte taken .turn ≡ turn = some-same (sym (step-says a s byte taken .due) ∙ here) in
       record {
         after = performed a s (byte % 16) turn;
         taken = taken;

@@ -28,7 +28,7 @@ use Rattle.order.specs.Invariant.{Over, Running, hasBegun, Invariant}
 use Rattle.order.specs.Orders.{Turn, startOf, turnAmong, turnOf}
 use Rattle.order.specs.States.{State, hasEnded, isActive, presentPriority, mayStart}
 use Rattle.order.specs.StepLaws.{Startable, start-says}
-use Rattle.plan.specs.Legality.{stepsOf, start, priorityAt}
+use Rattle.plan.specs.Legality.{stepsOf, priorityAt}
 use Rattle.plan.specs.Plans.{Legal}
 use Rattle.plan.specs.Runs.{Plan, JobRuns, jobTotal}
 use Rattle.matching.specs.Cuts.{Cut}

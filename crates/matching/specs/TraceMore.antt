@@ -31,7 +31,7 @@ unfolding bind
 bind-is none f e = absurd (let z : _≡_ {A = ℕ} 0 1 = cc in omega arith)
 bind-is (some y) f e = (y, refl, e)
 
-some-same : {A : Type 0} {x y : A} → some x ≡ some y → x ≡ y
+pub some-same : {A : Type 0} {x y : A} → some x ≡ some y → x ≡ y
 some-same e = cc
 
 module _ (a : Accepted) where

@@ -1,11 +1,11 @@
 -- The walk's entry: what it answers and what the lent buffer then holds, by what the file and the walk come to.
 -- Assumes nothing.
 use mathlib.Core.Path.{_≡_, refl, sym, ap, subst, _∙_}
-use Prim.Native.Nat.{ℕ, zero, suc, _+_, _-_, _*_, _^_, _≤_, _<_}
+use Prim.Native.Nat.{ℕ, zero, suc, _+_, _-_, _^_, _≤_, _<_}
 use native.Mathlib.Decide.{decLe}
 use native.Mathlib.Nat.{zero-add}
 use native.Mathlib.Omega.{arith}
-use mathlib.Core.Bool.{Bool, true, false, true≢false}
+use mathlib.Core.Bool.{Bool, true, false}
 use mathlib.Core.List.{List, [], _∷_, _++_, append-assoc, List·Memᴰ}
 use mathlib.Core.Option.{Option, none, some}
 use lib.Dec.{leb}
@@ -35,10 +35,10 @@ use Rattle.order.specs.LentLaws.{OwnersTo, TimesTo, lent}
 use Rattle.order.specs.ReplayLaws.{first-shown}
 use Rattle.order.specs.SnapshotLaws.{Shows}
 use Rattle.order.specs.SnapshotSteps.{firstSnapshot}
-use Rattle.order.specs.States.{State, initial, allEnded}
+use Rattle.order.specs.States.{initial}
 use Rattle.order.specs.StepLaws.{initial-invariant}
 use Rattle.walk.specs.declared.Outcome.{Outcome}
-use Rattle.walk.specs.declared.Verdict.the-variants.{None, Holds, Fails}
+use Rattle.walk.specs.declared.Verdict.the-variants.{Holds, Fails}
 use Rattle.walk.specs.declared.WalkAnswer.{WalkAnswer}
 use Rattle.walk.specs.WalkEntry.{admitted, decided, refusal, verdictOf, decidedAnswer, shown, decidedBytes, walkAnswerOf, walkAfterOf, walkAnswer, walkAfter}
 use Rattle.walk.specs.WalkParts.{Came, EndsAs, WalksAs}
