@@ -9,7 +9,7 @@ use native.Mathlib.Omega.{arith}
 use mathlib.Core.Bool.{Bool, true, false, _&&_}
 use mathlib.Core.List.{List, [], _∷_, _++_}
 use mathlib.Core.Option.{some}
-use lib.ListN.{length, getD}
+use lib.ListN.{getD}
 use lib.Dec.{eqb}
 use borrow.Author.Tests.{eqb-true, ne-eqb}
 use Rattle.taskfile.specs.Lists.{if_then_else_, any, firstWith}
@@ -98,11 +98,6 @@ pub under-every : (a : Accepted) (s : State) (i : ℕ) {turn : Turn} (P : Frame 
     → Every P (turn .under)
 unfolding turnOf
 under-every a s i P e h = under-among a s i P (s .active) refl e h
-
--- a fact at each index is one of every element
-pub at-every : {A : Type 0} (P : A → Type 0) (d : A) (xs : List A) → ((k : ℕ) → k < length xs → P (getD xs k d)) → Every P xs
-at-every P d [] h = tt
-at-every P d (x ∷ xs) h = (h 0 (omega arith), at-every P d xs (λ k lt. h (suc k) (omega arith)))
 
 -- a fact of every frame is one of the frame of a job that is among them
 pub of-job : (P : Frame → Type 0) (d : Frame) (fs : List Frame) (y : Job) → Every P fs

@@ -1,5 +1,5 @@
 -- Counting the values of a function on the numbers below k. Where they are below k and no two are the same, each number below k is
--- one of them, and r of them are below r.
+-- one of them, and r of them are below r. And counting the elements of a list of which a test holds.
 -- Assumes nothing.
 use mathlib.Core.Path.{_≡_, refl, sym, ap, _∙_}
 use mathlib.Core.Logic.{inl, inr}
@@ -7,9 +7,11 @@ use Prim.Native.Nat.{ℕ, zero, suc, _+_, _≤_, _<_}
 use native.Mathlib.Decide.{decLt, ℕ-discrete}
 use native.Mathlib.Omega.{arith}
 use mathlib.Core.Bool.{Bool, true, false}
+use mathlib.Core.List.{List, [], _∷_, _++_}
+use lib.ListN.{length, getD}
 use lib.Dec.{ltb, eqb}
 use borrow.Author.Tests.{eqb-true, lt-ltb, le-ltb, eq-eqb, ne-eqb}
-use Rattle.taskfile.specs.Lists.{if_then_else_}
+use Rattle.taskfile.specs.Lists.{if_then_else_, only}
 use Rattle.taskfile.specs.Tests.{decided}
 
 -- one more where the test holds
@@ -138,3 +140,78 @@ module _ (f : ℕ → ℕ) (k : ℕ) (distinct : Distinct f k) where
   every-value bounded r lt =
       countAt-some f r k
       (omega (arith, countBelow-suc f r k, countBelow-is bounded r (omega arith), countBelow-is bounded (suc r) (omega arith)))
+
+-- ---- the elements of which a test holds, counted
+
+-- a count grows by one at most, whatever the test says
+counted-most : (b : Bool) (n : ℕ) → counted b n ≤ suc n
+unfolding counted if_then_else_
+counted-most true n = omega arith
+counted-most false n = omega arith
+
+-- two tests count in either order
+counted-swap : (b c : Bool) (n : ℕ) → counted b (counted c n) ≡ counted c (counted b n)
+unfolding counted if_then_else_
+counted-swap true true n = refl
+counted-swap true false n = refl
+counted-swap false c n = refl
+
+module _ {A : Type 0} where
+  -- the first element counts if the test holds of it
+  only-counted : (test : A → Bool) (x : A) (xs : List A) → length (only test (x ∷ xs)) ≡ counted (test x) (length (only test xs))
+  unfolding only counted if_then_else_
+  only-counted test x xs = go (test x)
+    where
+      go : (b : Bool) → length (if b then x ∷ only test xs else only test xs) ≡ (if b then suc (length (only test xs)) else length (only test xs))
+      go true = refl
+      go false = refl
+
+  -- and so does one more at the end
+  pub only-last : (test : A → Bool) (xs : List A) (y : A) → length (only test (xs ++ (y ∷ []))) ≡ counted (test y) (length (only test xs))
+  only-last test [] y = only-counted test y []
+  only-last test (x ∷ xs) y =
+      only-counted test x (xs ++ (y ∷ []))
+      ∙ ap (counted (test x)) (only-last test xs y)
+      ∙ counted-swap (test x) (test y) (length (only test xs))
+      ∙ ap (counted (test y)) (sym (only-counted test x xs))
+
+  -- at most all, and fewer where it does not hold of one
+  only-most : (test : A → Bool) (xs : List A) → length (only test xs) ≤ length xs
+  unfolding only
+  only-most test [] = omega arith
+  only-most test (x ∷ xs) = omega (arith, only-counted test x xs, counted-most (test x) (length (only test xs)), only-most test xs)
+
+  pub only-fewer : (test : A → Bool) (xs : List A) (k : ℕ) (d : A) → k < length xs → test (getD xs k d) ≡ false → length (only test xs) < length xs
+  only-fewer test [] k d lt e = absurd (omega arith)
+  only-fewer test (x ∷ xs) zero d lt e =
+      omega (arith, only-counted test x xs, counted-out (test x) (length (only test xs)) e, only-most test xs)
+  only-fewer test (x ∷ xs) (suc k) d lt e =
+      omega (arith, only-counted test x xs, counted-most (test x) (length (only test xs)), only-fewer test xs k d (omega arith) e)
+
+  -- as many where two tests say the same of each
+  pub only-same : (p q : A → Bool) (xs : List A) (d : A) → ((j : ℕ) → j < length xs → q (getD xs j d) ≡ p (getD xs j d))
+      → length (only q xs) ≡ length (only p xs)
+  unfolding only
+  only-same p q [] d same = refl
+  only-same p q (x ∷ xs) d same =
+      only-counted q x xs
+      ∙ ap (λ (b : Bool). counted b (length (only q xs))) (same 0 (omega arith))
+      ∙ ap (counted (p x)) (only-same p q xs d (λ j lt. same (suc j) (omega arith)))
+      ∙ sym (only-counted p x xs)
+
+  -- one more where they differ at one
+  pub only-more : (p q : A → Bool) (xs : List A) (k : ℕ) (d : A) → k < length xs → p (getD xs k d) ≡ false → q (getD xs k d) ≡ true
+      → ((j : ℕ) → j < length xs → (j ≡ k → ⊥) → q (getD xs j d) ≡ p (getD xs j d)) → length (only q xs) ≡ suc (length (only p xs))
+  unfolding counted if_then_else_
+  only-more p q [] k d lt e f same = absurd (omega arith)
+  only-more p q (x ∷ xs) zero d lt e f same =
+      only-counted q x xs
+      ∙ counted-in (q x) _ f
+      ∙ ap suc (only-same p q xs d (λ j lt. same (suc j) (omega arith) (λ e. omega arith)))
+      ∙ ap suc (sym (only-counted p x xs ∙ counted-out (p x) _ e))
+  only-more p q (x ∷ xs) (suc k) d lt e f same =
+      only-counted q x xs
+      ∙ ap (λ (b : Bool). counted b (length (only q xs))) (same 0 (omega arith) (λ e. omega arith))
+      ∙ ap (counted (p x)) (only-more p q xs k d (omega arith) e f (λ j lt apart. same (suc j) (omega arith) (λ e. apart (omega arith))))
+      ∙ counted-swap (p x) true (length (only p xs))
+      ∙ ap suc (sym (only-counted p x xs))

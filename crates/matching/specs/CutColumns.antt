@@ -16,6 +16,7 @@ use Rattle.machine.specs.Instructions.{Store}
 use Rattle.matching.specs.ColumnLaws.{elsewhere, run-stays, run-length, columns-stays}
 use Rattle.matching.specs.Cuts.{Cut}
 use Rattle.matching.specs.Histories.{Mark, Marks, inRound, Column, unbegun, Running, effectOf, stepped, markStep, runMarks, columnsFrom, columns}
+use Rattle.matching.specs.ListLaws.{nothing-left}
 use Rattle.matching.specs.Parts.{storesBefore, beginning}
 
 -- ---- stores
@@ -41,8 +42,7 @@ unfolding inRound only
 nothing-in q = refl
 
 none-within : (q : ℕ) (ms ns : List Mark) → [] ≡ ms ++ ns → inRound q ms ≡ []
-none-within q [] ns e = nothing-in q
-none-within q (m ∷ ms) ns e = absurd (let long = ap length e in omega arith)
+none-within q ms ns e = ap (inRound q) (nothing-left ms ns (sym e) .0) ∙ nothing-in q
 
 -- stores that are the same in each round in which there is a step: so in that of the first step
 here-alike : (m : Mark) (ms : List Mark) (S R : List Store) → ((q : ℕ) → (inRound q (m ∷ ms) ≡ []) ⊎ Alike q S R) → Alike (m .round) S R

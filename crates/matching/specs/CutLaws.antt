@@ -14,8 +14,8 @@ use Rattle.taskfile.specs.Lists.{if_then_else_, from, upTo, only, each}
 use Rattle.taskfile.specs.Pairs.{Every, Ordered, every-imp, every-append, every-map, ordered-append}
 use Rattle.matching.specs.Cuts.{Placed, Cut, rowSteps, sequence, gathered}
 use Rattle.matching.specs.Histories.{Mark, Marks, inRound}
-use Rattle.matching.specs.RowLaws.{each-snoc}
-use Rattle.matching.specs.SequenceLaws.{AllRounds, ofJob, ofJob-append, ofJob-own, ofJob-other, placed, only-out, sequence-job, gathered-own, gathered-long}
+use Rattle.matching.specs.ListLaws.{each-snoc, only-out, nothing-left}
+use Rattle.matching.specs.SequenceLaws.{AllRounds, ofJob, ofJob-append, ofJob-own, ofJob-other, placed, sequence-job, gathered-own, gathered-long}
 
 -- ---- lists
 
@@ -43,10 +43,6 @@ ordered-split R [] y ys all = (tt, all .0)
 ordered-split R (x ∷ xs) y ys all =
     let later = ordered-split R xs y ys (all .1) in
     ((every-middle (R x) xs y ys (all .0), later .0), later .1)
-
-nothing-left : {A : Type 0} (xs ys : List A) → xs ++ ys ≡ [] → (xs ≡ []) × (ys ≡ [])
-nothing-left [] ys e = (refl, e)
-nothing-left (x ∷ xs) ys e = absurd (omega (arith, ap length e))
 
 -- ---- the order of the steps
 

@@ -1,52 +1,39 @@
 -- The round of a cut of a legal plan's run is the number of jobs that have ended there: those with no step left are those whose end is in
 -- an earlier round, and in each round one job ends.
 -- Assumes nothing.
-use mathlib.Core.Path.{_≡_, refl, sym, ap, subst, _∙_}
+use mathlib.Core.Path.{_≡_, refl, sym, ap, _∙_}
 use mathlib.Core.Logic.{inl, inr}
 use Prim.Native.Nat.{ℕ, zero, suc, _+_, _<_}
 use native.Mathlib.Decide.{decLt, ℕ-discrete}
 use native.Mathlib.Omega.{arith}
-use mathlib.Core.Bool.{Bool, true, false}
+use mathlib.Core.Bool.{Bool, true}
 use mathlib.Core.List.{List, [], _∷_, _++_, map, append-nil}
 use lib.ListN.{length, getD}
-use lib.Dec.{ltb, eqb}
-use borrow.Author.Tests.{lt-ltb, le-ltb, eq-eqb}
+use lib.Dec.{ltb}
+use borrow.Author.Tests.{lt-ltb, le-ltb}
 use Rattle.taskfile.specs.ListLaws.{from-snoc, map-snoc}
-use Rattle.taskfile.specs.Lists.{if_then_else_, from, only, lastOr}
+use Rattle.taskfile.specs.Lists.{from, only, lastOr}
 use Rattle.taskfile.specs.QuantifierLaws.{map-length}
 use Rattle.taskfile.specs.Tests.{decided}
 use Rattle.timing.specs.declared.Job.{Job}
 use Rattle.timing.specs.Accepted.{Accepted}
 use Rattle.timing.specs.AcceptedLaws.{IsAccepted}
 use Rattle.order.specs.States.{State, hasEnded}
-use Rattle.plan.specs.Legality.{stepsOf, roundsOf, end}
+use Rattle.plan.specs.Legality.{roundsOf, end}
 use Rattle.plan.specs.Plans.{Legal}
-use Rattle.plan.specs.Runs.{Plan, Step, JobRuns, jobTotal}
-use Rattle.matching.specs.CountLaws.{counted, countBelow}
+use Rattle.plan.specs.Runs.{Plan, JobRuns, jobTotal}
+use Rattle.matching.specs.ColumnLaws.{elsewhere}
+use Rattle.matching.specs.CountLaws.{counted, countBelow, only-last}
 use Rattle.matching.specs.Cuts.{Cut}
 use Rattle.matching.specs.Histories.{Mark, Marks, job, inRound}
 use Rattle.matching.specs.LegalLaws.{legal-run, above-none-at}
 use Rattle.matching.specs.PlanReading.{markOf, marksOf}
-use Rattle.matching.specs.PlanRounds.{none-left}
+use Rattle.matching.specs.PlanRounds.{none-left, rounds-marked, next-place, next-round}
 use Rattle.matching.specs.PlanReadingLaws.{numbered}
 use Rattle.matching.specs.RunLaws.{run-steps, run-below, endAt, legal-rising, ends-below}
 use Rattle.matching.specs.Traces.{endedCount}
 
 -- ---- counting
-
--- one element more at the end counts if the test holds of it
-only-last : {A : Type 0} (test : A → Bool) (xs : List A) (y : A)
-    → length (only test (xs ++ (y ∷ []))) ≡ counted (test y) (length (only test xs))
-unfolding only counted if_then_else_
-only-last test [] y = elim (decided (test y)) [ inl e ↦ rw e refl | inr e ↦ rw e refl ]
-only-last test (x ∷ xs) y = go (test x) (test y) (only-last test xs y)
-  where
-    go : (b c : Bool) → length (only test (xs ++ (y ∷ []))) ≡ counted c (length (only test xs))
-        → length (if b then x ∷ only test (xs ++ (y ∷ [])) else only test (xs ++ (y ∷ [])))
-        ≡ counted c (length (if b then x ∷ only test xs else only test xs))
-    go true true e = ap suc e
-    go true false e = ap suc e
-    go false c e = e
 
 -- the jobs below k of which a test holds, where it says that their value is below r
 jobs-counted : (test : Job → Bool) (f : ℕ → ℕ) (r k : ℕ) → ((y : ℕ) → y < k → test (job y) ≡ ltb (f y) r)
@@ -66,59 +53,15 @@ jobs-counted test f r (suc k) same =
 abbrev roundsIn : List Mark → List ℕ
 roundsIn ms = map (λ m. m .round) ms
 
--- a mark's own round is not empty, and neither is one that holds later marks
-own-round : (m : Mark) (ms : List Mark) → inRound (m .round) (m ∷ ms) ≡ [] → ⊥
-unfolding inRound only if_then_else_
-own-round m ms e =
-    let first : m ∷ inRound (m .round) ms ≡ [] = sym (rw (eq-eqb (m .round) (m .round) refl) refl) ∙ e in
-    omega (arith, ap length first)
-
-later-round : (q : ℕ) (m : Mark) (ms : List Mark) → (inRound q ms ≡ [] → ⊥) → inRound q (m ∷ ms) ≡ [] → ⊥
-unfolding inRound only if_then_else_
-later-round q m ms some e = go (eqb (m .round) q) e
-  where
-    go : (b : Bool) → (if b then m ∷ only (λ m. eqb (m .round) q) ms else only (λ m. eqb (m .round) q) ms) ≡ [] → ⊥
-    go true e = omega (arith, ap length e)
-    go false e = some e
-
 -- the last of some marks is in its round
 last-round : (m : Mark) (ms : List Mark) (d : ℕ) → inRound (lastOr d (roundsIn (m ∷ ms))) (m ∷ ms) ≡ [] → ⊥
 unfolding lastOr
-last-round m [] d e = own-round m [] e
-last-round m (n ∷ ms) d e = later-round _ m (n ∷ ms) (last-round n ms (m .round)) e
+last-round m [] d e = elsewhere (m .round) m [] e .0 refl
+last-round m (n ∷ ms) d e = last-round n ms (m .round) (elsewhere _ m (n ∷ ms) e .1)
 
 last-some : (ms : List Mark) → 0 < length (roundsIn ms) → inRound (lastOr 0 (roundsIn ms)) ms ≡ [] → ⊥
 last-some [] lt e = omega arith
 last-some (m ∷ ms) lt e = last-round m ms 0 e
-
--- the last of two lists is that of the second, if it has some
-last-second : (ms : List Mark) (n : Mark) (ns : List Mark) (d : ℕ) → lastOr d (roundsIn (ms ++ (n ∷ ns))) ≡ lastOr d (roundsIn (n ∷ ns))
-unfolding lastOr
-last-second [] n ns d = refl
-last-second (m ∷ ms) n ns d = last-second ms n ns (m .round)
-
--- a mark's round, by its place
-round-at : (ms : List Mark) (n : Mark) (ns : List Mark)
-    → (length ms < length (roundsIn (ms ++ (n ∷ ns)))) × (getD (roundsIn (ms ++ (n ∷ ns))) (length ms) 0 ≡ n .round)
-round-at [] n ns = (omega arith, refl)
-round-at (m ∷ ms) n ns = let later = round-at ms n ns in (omega (arith, later .0), later .1)
-
--- ---- a job's marks and its end
-
-marks-at : (steps : List (List Step)) (y : ℕ) → getD (map (map markOf) steps) y [] ≡ map markOf (getD steps y [])
-marks-at [] y = refl
-marks-at (ss ∷ steps) zero = refl
-marks-at (ss ∷ steps) (suc y) = marks-at steps y
-
-marks-rounds : (ss : List Step) → roundsIn (map markOf ss) ≡ map (λ step. step .round .0) ss
-unfolding markOf
-marks-rounds [] = refl
-marks-rounds (s ∷ ss) = ap (λ (l : List ℕ). s .round .0 ∷ l) (marks-rounds ss)
-
--- a job's rounds are those of its marks
-rounds-marked : (runs : JobRuns) (y : ℕ) → roundsOf runs (job y) ≡ roundsIn (getD (marksOf runs) y [])
-unfolding roundsOf stepsOf marksOf job
-rounds-marked runs y = sym (ap roundsIn (marks-at (runs .steps) y) ∙ marks-rounds (getD (runs .steps) y []))
 
 module _ {a : Accepted} (ok : IsAccepted a) (plan : Plan) {runs : JobRuns} (legal : Legal a plan runs) {now : Marks} {x : ℕ} {m : Mark}
     (cut : Cut (marksOf runs) now x m) where
@@ -135,19 +78,14 @@ module _ {a : Accepted} (ok : IsAccepted a) (plan : Plan) {runs : JobRuns} (lega
   rounds-made : (y : ℕ) → cut .rest y ≡ [] → roundsOf runs (job y) ≡ roundsIn (getD now y [])
   rounds-made y none = rounds-cut y ∙ ap (λ (ms : List Mark). roundsIn (getD now y [] ++ ms)) none ∙ ap roundsIn (append-nil (getD now y []))
 
-  -- the next step's round, by its place among those of its job
+  -- the next step's place among those of its job
   abbrev place : ℕ
   place = length (getD now x [])
-
-  next-at : (place < length (roundsOf runs (job x))) × (getD (roundsOf runs (job x)) place 0 ≡ m .round)
-  next-at =
-      subst (λ (rs : List ℕ). (place < length rs) × (getD rs place 0 ≡ m .round))
-      (sym (rounds-cut x ∙ ap (λ (ms : List Mark). roundsIn (getD now x [] ++ ms)) (cut .next))) (round-at (getD now x []) m (cut .more))
 
   -- it is one of the plan's
   pub round-below : m .round < jobTotal a
   unfolding jobTotal job
-  round-below = omega (arith, next-at .1, run-below a plan (legal-run a plan legal .0) (job x) isX place (next-at .0))
+  round-below = omega (arith, next-round runs cut, run-below a plan (legal-run a plan legal .0) (job x) isX place (next-place runs cut))
 
   -- the last step of a job with none left is made
   last-made : (y : ℕ) → y < jobTotal a → cut .rest y ≡ [] → inRound (endAt runs y) (getD now y []) ≡ [] → ⊥
@@ -163,7 +101,7 @@ module _ {a : Accepted} (ok : IsAccepted a) (plan : Plan) {runs : JobRuns} (lega
   end-apart y isY none same =
       elim (decLt y x) [
         | yes below ↦
-            above-none-at a plan (ok .isTimed) legal (legal-rising a plan legal) (job y) (job x) isX below place (next-at .0) (next-at .1 ∙ sym same)
+            above-none-at a plan (ok .isTimed) legal (legal-rising a plan legal) (job y) (job x) isX below place (next-place runs cut) (next-round runs cut ∙ sym same)
         | no other ↦
             elim (ℕ-discrete x y) [
               | yes equal ↦ omega (arith, ap length (sym (cut .next) ∙ ap (cut .rest) equal ∙ none))

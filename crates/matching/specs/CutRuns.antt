@@ -3,7 +3,7 @@
 -- Assumes nothing.
 use mathlib.Core.Path.{_≡_, refl, sym, ap, subst, _∙_}
 use mathlib.Core.Logic.{inl, inr}
-use Prim.Native.Nat.{ℕ, zero, suc, _+_, _<_}
+use Prim.Native.Nat.{ℕ, _+_, _<_}
 use native.Mathlib.Omega.{arith}
 use mathlib.Core.Bool.{true, false}
 use mathlib.Core.List.{List, [], _∷_, _++_, append-assoc, append-nil}
@@ -15,15 +15,14 @@ use Rattle.timing.specs.Accepted.{Accepted}
 use Rattle.timing.specs.Relations.{jobAt}
 use Rattle.machine.specs.Instructions.{Store, values}
 use Rattle.plan.specs.Runs.{Step}
-use Rattle.matching.specs.CutColumns.{begin, run-append, made-same}
+use Rattle.matching.specs.CutColumns.{run-append, made-same}
+use Rattle.matching.specs.ListLaws.{cons-some, nothing-left}
 use Rattle.matching.specs.PartLaws.{column-at}
 use Rattle.matching.specs.Parts.{storesBefore, beginning, lastRound}
 use Rattle.matching.specs.Cuts.{Cut}
-use Rattle.matching.specs.Histories.{Mark, Marks, job, Column, unbegun, Running, effectOf, stepped, markStep, runMarks, columnsFrom, columns}
+use Rattle.matching.specs.Histories.{Mark, Marks, job, Column, unbegun, Running, effectOf, stepped, markStep, runMarks, columns}
 use Rattle.matching.specs.PlanReading.{stepOf, Allowed, Whole, AllWhole}
-
-not-empty : {A : Type 0} (xs : List A) (y : A) (ys : List A) → xs ++ y ∷ ys ≡ [] → ⊥
-not-empty xs y ys e = let long = sym (length-append xs (y ∷ ys)) ∙ ap length e in omega arith
+use Rattle.matching.specs.PlanReadingLaws as reading
 
 -- ---- a whole run and its beginnings
 
@@ -43,7 +42,7 @@ module _ (a : Accepted) (x : ℕ) where
   unfolding runMarks
   whole-open [] m more previous c whole going = going
   whole-open (n ∷ ms) m more previous c whole going = elim (whole .1) [
-    | inl last ↦ absurd (not-empty ms m more (last .1))
+    | inl last ↦ absurd (cons-some refl (nothing-left ms (m ∷ more) (last .1) .1))
     | inr on ↦ whole-open ms m more (n .round) (markStep a x n c) (on .1) (on .0)
   ]
 
@@ -53,7 +52,7 @@ module _ (a : Accepted) (x : ℕ) where
   unfolding runMarks lastRound lastOr
   whole-next [] m more previous c whole = whole .0
   whole-next (n ∷ ms) m more previous c whole = elim (whole .1) [
-    | inl last ↦ absurd (not-empty ms m more (last .1))
+    | inl last ↦ absurd (cons-some refl (nothing-left ms (m ∷ more) (last .1) .1))
     | inr on ↦ whole-next ms m more (n .round) (markStep a x n c) (on .1)
   ]
 
@@ -97,18 +96,9 @@ module _ (a : Accepted) (x : ℕ) where
 -- ---- each job of a history of whole runs
 
 module _ (a : Accepted) where
-  all-at : (n : ℕ) (h : Marks) (S : List Store) (y : ℕ) → y < length h → AllWhole a n h S
-      → Whole a (n + y) 0 (getD h y []) (begin (columnsFrom a n (take y h) S .stores))
-  unfolding columnsFrom
-  all-at n [] S y inside whole = absurd (omega arith)
-  all-at n (ms ∷ h) S zero inside whole = let place : n + 0 ≡ n = omega arith in rw place (whole .0)
-  all-at n (ms ∷ h) S (suc y) inside whole =
-      let place : n + suc y ≡ suc n + y = omega arith in
-      rw place (all-at (suc n) h (runMarks a n ms (begin S) .stores) y (omega arith) (whole .1))
-
   pub whole-at : (h : Marks) (S : List Store) (y : ℕ) → y < length h → AllWhole a 0 h S → Whole a y 0 (getD h y []) (beginning a h S y)
   unfolding storesBefore
-  whole-at h S y inside whole = let place : 0 + y ≡ y = omega arith in rw place at (all-at 0 h S y inside whole)
+  whole-at h S y inside whole = let place : 0 + y ≡ y = omega arith in rw place at (reading.whole-at a h 0 S whole y inside)
 
   -- ---- a cut history
 
@@ -134,7 +124,7 @@ module _ (a : Accepted) where
 
     -- the job of the next step has one left
     pub next-open : getD (columns a now S .jobs) x unbegun .ended ≡ false
-    next-open = cut-open x (cut .known) (λ none. not-empty [] m (cut .more) (sym (cut .next) ∙ none))
+    next-open = cut-open x (cut .known) (cons-some (cut .next))
 
     -- its job may make the next step
     pub next-allowed : (c : Running) → c .column ≡ getD (columns a now S .jobs) x unbegun → Allowed a x (lastRound 0 (getD now x [])) m c

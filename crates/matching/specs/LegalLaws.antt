@@ -50,9 +50,14 @@ same-equal (x ∷ xs) (y ∷ ys) h =
     ap₂ (λ (n : ℕ) (l : List ℕ). n ∷ l) (eqb-true x y (parts .0)) (same-equal xs ys (parts .1))
 
 -- a rule that is asked only where p holds
-asked : (p q : Bool) → (not p || q) ≡ true → p ≡ true → q ≡ true
+pub asked : (p q : Bool) → (not p || q) ≡ true → p ≡ true → q ≡ true
 asked true q h e = h
 asked false q h e = absurd (false≢true e)
+
+-- holds where q follows from p
+pub asked-holds : (p q : Bool) → (p ≡ true → q ≡ true) → (not p || q) ≡ true
+asked-holds true q h = h refl
+asked-holds false q h = refl
 
 -- ---- the pairs of jobs
 

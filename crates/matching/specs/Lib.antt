@@ -11,7 +11,10 @@ pub mod Cuts
 pub mod Demand3
 pub mod EndedLaws
 pub mod Histories
+pub mod JobHistoryLaws
+pub mod JobReadingLaws
 pub mod LegalLaws
+pub mod ListLaws
 pub mod MadeLaws
 pub mod MovedLaws
 pub mod OfferedLaws
@@ -40,6 +43,7 @@ pub mod RowLaws
 pub mod RunLaws
 pub mod SequenceLaws
 pub mod TraceCases
+pub mod TraceEnds
 pub mod TraceLaws
 pub mod TraceMore
 pub mod TraceStepLaws

@@ -2,15 +2,12 @@
 -- makes of them.
 -- Assumes nothing.
 use mathlib.Core.Path.{_≡_, refl, ap, _∙_}
-use mathlib.Core.Logic.{_⊎_, inl, inr}
-use Prim.Native.Nat.{ℕ, suc, _≤_, _<_}
-use native.Mathlib.Decide.{decLt}
+use mathlib.Core.Logic.{inl, inr}
+use Prim.Native.Nat.{ℕ, _≤_, _<_}
 use native.Mathlib.Omega.{arith}
-use mathlib.Core.Bool.{Bool, true, false}
-use mathlib.Core.List.{List, [], _∷_, _++_, append-nil, map}
-use lib.ListN.{length, getD, length-append, List·getD-append}
+use mathlib.Core.List.{List, [], _∷_, _++_, map}
+use lib.ListN.{length, getD}
 use lib.Dec.{leb, eqb}
-use lib.Seq.{getD-append-seam}
 use borrow.Author.Tests.{eq-eqb, ne-eqb, le-leb, lt-leb}
 use Rattle.taskfile.specs.ListLaws.{map-snoc}
 use Rattle.taskfile.specs.Lists.{if_then_else_, only, firstOr, lastOr}
@@ -19,54 +16,8 @@ use Rattle.timing.specs.declared.Job.{Job}
 use Rattle.timing.specs.Accepted.{Accepted}
 use Rattle.timing.specs.Relations.{base}
 use Rattle.plan.specs.Runs.{Step}
+use Rattle.matching.specs.ListLaws.{last-snoc, first-snoc-none, first-snoc-some, snoc-at, only-every, only-drops}
 use Rattle.matching.specs.Pairings.{Made, madeRounds, first, last, priorityUpTo, priorityNow, Inside}
-use Rattle.matching.specs.RowLaws.{only-append}
-
--- ---- lists
-
-pub last-snoc : {A : Type 0} (d : A) (xs : List A) (y : A) → lastOr d (xs ++ (y ∷ [])) ≡ y
-unfolding lastOr
-last-snoc d [] y = refl
-last-snoc d (x ∷ xs) y = last-snoc x xs y
-
-pub first-snoc-none : {A : Type 0} (d : A) (xs : List A) (y : A) → length xs ≡ 0 → firstOr d (xs ++ (y ∷ [])) ≡ y
-unfolding firstOr
-first-snoc-none d [] y e = refl
-first-snoc-none d (x ∷ xs) y e = absurd (omega arith)
-
-pub first-snoc-some : {A : Type 0} (d : A) (xs : List A) (y : A) → 0 < length xs → firstOr d (xs ++ (y ∷ [])) ≡ firstOr d xs
-unfolding firstOr
-first-snoc-some d [] y h = absurd (omega arith)
-first-snoc-some d (x ∷ xs) y h = refl
-
-pub length-snoc : {A : Type 0} (xs : List A) (y : A) → length (xs ++ (y ∷ [])) ≡ suc (length xs)
-length-snoc xs y = length-append xs (y ∷ []) ∙ omega arith
-
--- an element of a list with y at its end is an element of the list, or y
-pub snoc-at : {A : Type 0} (xs : List A) (y : A) (k : ℕ) (d : A) → k < length (xs ++ (y ∷ []))
-    → ((k < length xs) × (getD (xs ++ (y ∷ [])) k d ≡ getD xs k d)) ⊎ (getD (xs ++ (y ∷ [])) k d ≡ y)
-snoc-at xs y k d lt =
-    elim (decLt k (length xs)) [
-      | yes below ↦ inl (below, List·getD-append xs (y ∷ []) d k below)
-      | no above ↦
-          let same : k ≡ length xs = omega (arith, length-snoc xs y) in
-          inr (ap (λ (n : ℕ). getD (xs ++ (y ∷ [])) n d) same ∙ getD-append-seam xs y [] d)
-    ]
-
--- a test that holds of every element keeps them all, and one that does not hold of the last drops it
-pub only-every : {A : Type 0} (test : A → Bool) (d : A) (xs : List A) → ((k : ℕ) → k < length xs → test (getD xs k d) ≡ true)
-    → only test xs ≡ xs
-unfolding only if_then_else_
-only-every test d [] h = refl
-only-every test d (x ∷ xs) h =
-    let holds : test x ≡ true = h 0 (omega arith) in
-    rw holds (ap (λ (l : List _). x ∷ l) (only-every test d xs (λ k lt. h (suc k) (omega arith))))
-
-pub only-drops : {A : Type 0} (test : A → Bool) (xs : List A) (y : A) → test y ≡ false → only test (xs ++ (y ∷ [])) ≡ only test xs
-unfolding only if_then_else_
-only-drops {A} test xs y e =
-    let none : only test (y ∷ []) ≡ [] = rw e refl in
-    only-append test xs (y ∷ []) ∙ ap (λ (l : List A). only test xs ++ l) none ∙ append-nil (only test xs)
 
 -- ---- one step more
 

@@ -4,7 +4,6 @@
 use mathlib.Core.Path.{_≡_, refl, sym, ap, ap₂, subst, _∙_}
 use mathlib.Core.Logic.{_⊎_, inl, inr}
 use Prim.Native.Nat.{ℕ, zero, suc, _+_, _<_}
-use native.Mathlib.Nat.{suc-ne-zero}
 use native.Mathlib.Decide.{ℕ-discrete}
 use native.Mathlib.Omega.{arith}
 use mathlib.Core.Bool.{Bool, true, false, _||_}
@@ -31,24 +30,11 @@ use Rattle.plan.specs.Runs.{jobTotal}
 use Rattle.matching.specs.ColumnLaws.{columns-jobs, columns-length, columns-marked}
 use Rattle.matching.specs.EndedLaws.{ended-fewer}
 use Rattle.matching.specs.Histories.{Mark, Marks, job, marked, inRound, Column, unbegun, effectOf, stepped, markStep, runMarks, Columns, columnsFrom, columns}
+use Rattle.matching.specs.ListLaws.{none-or-some, or-none, at-every}
 use Rattle.matching.specs.Traces.{Traced}
 use Rattle.matching.specs.TurnTraceLaws.{GoesOn, Starts, under-lower, active-lower}
 
 -- ---- lists and tests
-
--- a list has an element or none
-some-or-none : {A : Type 0} (xs : List A) → (xs ≡ []) ⊎ (xs ≡ [] → ⊥)
-some-or-none [] = inl refl
-some-or-none (x ∷ xs) = inr (λ e. suc-ne-zero (length xs) (ap length e))
-
--- a fact of the element at each index is one of every element
-every-from : {A : Type 0} (P : A → Type 0) (xs : List A) → ((k : ℕ) (d : A) → k < length xs → P (getD xs k d)) → Every P xs
-every-from P [] h = tt
-every-from P (x ∷ xs) h = (h 0 x (omega arith), every-from P xs (λ k d lt. h (suc k) d (omega arith)))
-
-or-nothing : (b : Bool) → (b || false) ≡ b
-or-nothing true = refl
-or-nothing false = refl
 
 or-swap : (b c : Bool) → (b || c) ≡ (c || b)
 or-swap true true = refl
@@ -101,7 +87,7 @@ module _ {a : Accepted} (ok : IsAccepted a) {s : State} (inv : Invariant a s) {r
   -- no job with a higher number has a step in this round
   pub none-above : (y : ℕ) → x < y → inRound r (getD h y []) ≡ []
   unfolding job
-  none-above y above = elim (some-or-none (inRound r (getD h y []))) [
+  none-above y above = elim (none-or-some (inRound r (getD h y []))) [
     | inl none ↦ none
     | inr made ↦ absurd (omega (arith, active-lower ok good (job y) (λ e. omega arith) (t .here y made)))
   ]
@@ -109,7 +95,7 @@ module _ {a : Accepted} (ok : IsAccepted a) {s : State} (inv : Invariant a s) {r
   -- ---- the jobs' own states
 
   agree-active : Every (Agrees (now .jobs)) (s .active)
-  agree-active = every-from (Agrees (now .jobs)) (s .active) (t .locals)
+  agree-active = at-every (Agrees (now .jobs)) (turn .frame) (s .active) (λ k lt. t .locals k (turn .frame) lt)
 
   agree-under : Every (Agrees (now .jobs)) (turn .under)
   agree-under = elim kind [
@@ -191,7 +177,7 @@ module _ {a : Accepted} (ok : IsAccepted a) {s : State} (inv : Invariant a s) {r
     ended-here =
         flag-here (effect .ended) x (s .ended) (flagged-here ok inv good effect)
         ∙ ap (λ (b : Bool). effect .ended || b) (good .running .unended)
-        ∙ or-nothing (effect .ended)
+        ∙ or-none (effect .ended) false refl
 
     pub moved-endings : (y : ℕ) → y < jobTotal a → getD (moved .jobs) y unbegun .ended ≡ hasEnded after (job y)
     unfolding stepped job

@@ -1,8 +1,8 @@
 -- What holds of an order so far and its trace together: the trace is that of the order, its jobs' runs are allowed as far as they have gone,
 -- and its steps are paired as the order's are. It holds where an order starts.
 -- Assumes nothing.
-use mathlib.Core.Path.{_≡_, refl, sym, ap, subst, _∙_}
-use Prim.Native.Nat.{ℕ, zero, suc, _≤_, _<_}
+use mathlib.Core.Path.{_≡_, sym, ap, subst, _∙_}
+use Prim.Native.Nat.{ℕ, _≤_, _<_}
 use native.Mathlib.Omega.{arith}
 use mathlib.Core.Bool.{Bool, false}
 use mathlib.Core.List.{List, []}
@@ -14,15 +14,14 @@ use Rattle.machine.specs.Instructions.{Store}
 use Rattle.order.specs.States.{State, initial, hasEnded}
 use Rattle.order.specs.StepLaws.{no-flag}
 use Rattle.plan.specs.Runs.{jobTotal}
-use Rattle.matching.specs.ColumnLaws.{columns-none}
-use Rattle.matching.specs.Histories.{Marks, job, unbegun, Columns, columns}
+use Rattle.matching.specs.Histories.{Marks, job, unbegun, columns, Column}
 use Rattle.matching.specs.PairedLaws.{paired-initial}
 use Rattle.matching.specs.Pairings.{Made, Paired}
 use Rattle.matching.specs.PartLaws.{parts-none}
 use Rattle.matching.specs.Parts.{Part, Parts}
-use Rattle.matching.specs.TraceLaws.{traced-initial}
-use Rattle.matching.specs.TraceStepLaws.{guesses-whole}
-use Rattle.matching.specs.TraceSteps.{Trace, firstGuess, startTrace, traceFrom, traceOf}
+use Rattle.matching.specs.TraceLaws.{traced-initial, start-column}
+use Rattle.matching.specs.TraceStepLaws.{guess-length, first-guess}
+use Rattle.matching.specs.TraceSteps.{Trace, firstGuess, startTrace}
 use Rattle.matching.specs.Traces.{Traced}
 
 -- each job's steps, by the columns of a history
@@ -47,31 +46,14 @@ parts-same a h S before after same parts x below = subst (Part a h S x) (sym (sa
 
 -- ---- where an order starts
 
--- the first guess is the initial store
-pub first-guess : (store : Store) (n : ℕ) (d : Store) → 0 < n → getD (firstGuess store n) 0 d ≡ store
-unfolding firstGuess
-first-guess store zero d lt = absurd (omega arith)
-first-guess store (suc n) d lt = refl
-
 -- no job has made a step
-no-steps : (n x : ℕ) → getD (replicate n unbegun) x unbegun .steps ≡ []
-unfolding unbegun
-no-steps zero x = refl
-no-steps (suc n) zero = refl
-no-steps (suc n) (suc x) = no-steps n x
-
 start-steps : (a : Accepted) (guesses : List Store) (x : ℕ) → stepsBy a (replicate (jobTotal a) []) guesses x ≡ []
-start-steps a guesses x =
-    ap (λ (c : Columns). getD (c .jobs) x unbegun .steps) (columns-none a (jobTotal a) guesses) ∙ no-steps (jobTotal a) x
+unfolding unbegun
+start-steps a guesses x = ap (λ (c : Column). c .steps) (start-column a guesses x)
 
 start-ended : (a : Accepted) (x : ℕ) → hasEnded (initial a) (job x) ≡ false
 unfolding initial hasEnded noFlags job
 start-ended a x = no-flag 32 x
-
--- a guess for each round
-start-guesses : (a : Accepted) → length (firstGuess (a .table .store) (jobTotal a)) ≡ jobTotal a
-unfolding traceOf traceFrom startTrace
-start-guesses a = guesses-whole a []
 
 pub kept-initial : {a : Accepted} → IsAccepted a → Kept a (initial a) 0 (startTrace a) []
 unfolding startTrace initial noFlags
@@ -79,7 +61,7 @@ kept-initial {a} ok =
     let guesses : List Store = firstGuess (a .table .store) (jobTotal a) in
     let none : Marks = replicate (jobTotal a) [] in
     record {
-      follows = traced-initial ok guesses (start-guesses a) (first-guess (a .table .store) (jobTotal a) _);
+      follows = traced-initial ok guesses (guess-length (a .table .store) (jobTotal a)) (first-guess (a .table .store) (jobTotal a) _);
       parts = parts-same a none guesses (λ x. false) (λ x. hasEnded (initial a) (job x)) (λ x below. start-ended a x) (parts-none a (jobTotal a) guesses);
       pairs = subst (Paired a (initial a) 0) (λ i x. sym (start-steps a guesses x) i) (paired-initial a);
       eight = ok .isMade .store;

@@ -1,107 +1,40 @@
 -- A complete order is a legal plan with the same end, and that plan is the order again.
 -- Assumes nothing.
 use mathlib.Core.Path.{_≡_, refl, sym, ap, ap₂, _∙_}
-use Prim.Native.Nat.{ℕ, zero, suc, _+_, _≤_, _<_, _/_}
-use native.Mathlib.Decide.{decLt}
+use Prim.Native.Nat.{ℕ, zero, suc, _+_, _<_}
 use native.Mathlib.Omega.{arith}
-use mathlib.Core.Bool.{Bool, true, false, _||_}
-use mathlib.Core.List.{List, [], _∷_}
-use mathlib.Core.Option.{some}
+use mathlib.Core.Bool.{true}
+use mathlib.Core.List.{List, []}
 use lib.ListN.{length, getD}
-use lib.Seq.{ext-getD}
 use Rattle.taskfile.specs.Checked.{passed}
 use Rattle.taskfile.specs.CheckSteps.{bind-goes, then-goes}
 use Rattle.taskfile.specs.ListLaws.{getD-any, upTo-length, getD-upTo}
-use Rattle.taskfile.specs.Lists.{upTo, lastOr}
+use Rattle.taskfile.specs.Lists.{upTo}
 use Rattle.taskfile.specs.QuantifierLaws.{map-length, map-at}
 use Rattle.timing.specs.Accepted.{Accepted}
 use Rattle.timing.specs.AcceptedLaws.{IsAccepted}
-use Rattle.timing.specs.JobFacts.{jobs-few}
 use Rattle.timing.specs.JobNumberLaws.{all-jobs}
-use Rattle.machine.specs.Ends.{Flags, noFlags, noStore, flagged}
+use Rattle.machine.specs.Ends.{Flags, noStore}
 use Rattle.machine.specs.Instructions.{Store}
 use Rattle.order.specs.Orders as orders
 use Rattle.order.specs.Orders.{run, Complete}
 use Rattle.order.specs.States.{State, initial, hasEnded, allEnded}
-use Rattle.order.specs.StepLaws.{flag-here, flag-other, flag-length, good-turn, step-says, no-flag, initial-invariant}
 use Rattle.plan.specs.Legality.{dueStore}
 use Rattle.plan.specs.Plans.{legalRun, endOf, Legal}
 use Rattle.plan.specs.Runs.{Plan, JobRuns, guess, jobTotal, runPlan}
-use Rattle.matching.specs.ColumnLaws.{columns-jobs, columns-length}
+use Rattle.matching.specs.ColumnLaws.{columns-jobs}
 use Rattle.matching.specs.Conversions.{planOf, orderOf}
 use Rattle.matching.specs.Histories.{Marks, job, rows, Column, unbegun, columns}
-use Rattle.matching.specs.OrderKept.{stepsBy, Kept, parts-same, first-guess}
-use Rattle.matching.specs.OrderRuns.{run-first, kept-complete, stores-complete}
+use Rattle.matching.specs.OrderKept.{stepsBy, Kept, parts-same}
+use Rattle.matching.specs.OrderRuns.{kept-complete, stores-complete}
 use Rattle.matching.specs.PairedLegal.{SameSteps, paired-legal}
 use Rattle.matching.specs.PartLaws.{parts-all}
-use Rattle.matching.specs.PlanReading.{written, guessesOf, Eights, guessed, flagsFrom, AllWhole, columnsRun}
+use Rattle.matching.specs.PlanReading.{written, guessesOf, Eights, guessed, AllWhole, columnsRun}
 use Rattle.matching.specs.PlanReadingLaws.{guesses-back, plan-runs, marks-back}
 use Rattle.matching.specs.RowLaws.{rows-order}
-use Rattle.matching.specs.TraceStepLaws.{traced-whole, guesses-whole, marks-whole, plan-traced}
+use Rattle.matching.specs.TraceEnds.{last-store, failed-flags}
+use Rattle.matching.specs.TraceStepLaws.{traced-whole, guesses-whole, marks-whole, plan-traced, first-guess}
 use Rattle.matching.specs.TraceSteps.{startTrace, traceOf}
-
--- ---- lists and flags
-
--- the last of suc q elements is the one at q
-last-at : {A : Type 0} (d e : A) (xs : List A) (q : ℕ) → length xs ≡ suc q → lastOr d xs ≡ getD xs q e
-unfolding lastOr
-last-at d e [] q long = absurd (omega arith)
-last-at d e (x ∷ []) zero long = refl
-last-at d e (x ∷ []) (suc q) long = absurd (omega arith)
-last-at d e (x ∷ y ∷ xs) zero long = absurd (omega arith)
-last-at d e (x ∷ y ∷ xs) (suc q) long = last-at x e (y ∷ xs) q (omega arith)
-
--- and of none there is no last
-last-none : {A : Type 0} (d : A) (xs : List A) → length xs ≡ 0 → lastOr d xs ≡ d
-unfolding lastOr
-last-none d [] none = refl
-last-none d (x ∷ xs) none = absurd (omega arith)
-
-flags-length : (x : ℕ) (cs : List Column) (flags : Flags) → length (flagsFrom x cs flags) ≡ length flags
-unfolding flagsFrom
-flags-length x [] flags = refl
-flags-length x (c ∷ cs) flags = flags-length (suc x) cs (flagged (c .failed) x flags) ∙ flag-length (c .failed) x flags
-
--- a flag before the columns' or after them stays
-flags-before : (x : ℕ) (cs : List Column) (flags : Flags) (i : ℕ) → i < x → getD (flagsFrom x cs flags) i false ≡ getD flags i false
-unfolding flagsFrom
-flags-before x [] flags i lt = refl
-flags-before x (c ∷ cs) flags i lt =
-    flags-before (suc x) cs (flagged (c .failed) x flags) i (omega arith) ∙ flag-other (c .failed) x i flags (λ e. omega arith)
-
-flags-after : (x : ℕ) (cs : List Column) (flags : Flags) (i : ℕ) → x + length cs ≤ i → getD (flagsFrom x cs flags) i false ≡ getD flags i false
-unfolding flagsFrom
-flags-after x [] flags i le = refl
-flags-after x (c ∷ cs) flags i le =
-    flags-after (suc x) cs (flagged (c .failed) x flags) i (omega arith) ∙ flag-other (c .failed) x i flags (λ e. omega arith)
-
--- a column's flag is raised if the column failed
-flags-at : (x : ℕ) (cs : List Column) (flags : Flags) (k : ℕ) → k < length cs → x + length cs ≤ length flags
-    → getD (flagsFrom x cs flags) (x + k) false ≡ (getD cs k unbegun .failed || getD flags (x + k) false)
-unfolding flagsFrom
-flags-at x [] flags k lt room = absurd (omega arith)
-flags-at x (c ∷ cs) flags zero lt room =
-    let place : x + 0 ≡ x = omega arith in
-    rw place (flags-before (suc x) cs (flagged (c .failed) x flags) x (omega arith) ∙ flag-here (c .failed) x flags (omega arith))
-flags-at x (c ∷ cs) flags (suc k) lt room =
-    let place : x + suc k ≡ suc x + k = omega arith in
-    rw place
-    (flags-at (suc x) cs (flagged (c .failed) x flags) k (omega arith) (omega (arith, flag-length (c .failed) x flags))
-    ∙ ap (λ (b : Bool). getD cs k unbegun .failed || b) (flag-other (c .failed) x (suc x + k) flags (λ e. omega arith)))
-
-or-none : (b c : Bool) → c ≡ false → (b || c) ≡ b
-or-none true c e = refl
-or-none false c e = e
-
--- ---- an order of no jobs
-
--- where there is no job there is no step
-no-step : {a : Accepted} → IsAccepted a → jobTotal a ≡ 0 → (order : List ℕ) {s : State} → run a (initial a) order ≡ some s → initial a ≡ s
-unfolding run jobTotal
-no-step ok none [] e = cc
-no-step {a} ok none (byte ∷ bytes) e =
-    let said = step-says a (initial a) byte (run-first a (initial a) byte bytes e .1) in
-    absurd (omega (arith, good-turn ok (initial-invariant a) (byte / 16) (said .due) .0 .running .job))
 
 -- ---- the plan of a complete order
 
@@ -158,10 +91,6 @@ module _ {a : Accepted} (ok : IsAccepted a) {order : List ℕ} {s : State} (comp
   unfolding columns
   column-count = columns-jobs a 0 h guesses ∙ marks-whole a order
 
-  store-count : length (columns a h guesses .stores) ≡ jobTotal a
-  unfolding columns
-  store-count = columns-length a 0 h guesses ∙ guesses-whole a order
-
   same-steps : SameSteps a runs (stepsBy a h guesses)
   unfolding runsOf columnsRun guessed columns jobTotal
   same-steps x isJob = map-at (λ (c : Column). c .steps) (columns a h guesses .jobs) (x .0) unbegun [] (omega (arith, column-count))
@@ -202,42 +131,12 @@ module _ {a : Accepted} (ok : IsAccepted a) {order : List ℕ} {s : State} (comp
 
   -- ---- its end
 
-  end-store : (k : ℕ) → jobTotal a ≡ k → lastOr (a .table .store) (columns a h guesses .stores) ≡ s .store
-  unfolding initial
-  end-store zero none =
-      last-none (a .table .store) (columns a h guesses .stores) (store-count ∙ none)
-      ∙ ap (λ (n : State). n .store) (no-step ok none order (complete .allowed))
-  end-store (suc q) total =
-      last-at (a .table .store) noStore (columns a h guesses .stores) q (store-count ∙ total) ∙ kept .follows .final q (sym total) refl
-
-  abbrev flags : Flags
-  flags = flagsFrom 0 (columns a h guesses .jobs) noFlags
-
-  -- each job's flag, and those of no job
-  end-flag : (i : ℕ) → getD flags i false ≡ getD (s .failed) i false
-  unfolding noFlags jobTotal
-  end-flag i =
-      elim (decLt i (jobTotal a)) [
-        | yes lt ↦
-            (let place : 0 + i ≡ i = omega arith in
-            let room : 0 + length (columns a h guesses .jobs) ≤ 32 = omega (arith, column-count, jobs-few (ok .isTimed)) in
-            rw place at (flags-at 0 (columns a h guesses .jobs) noFlags i (omega (arith, column-count)) room)
-            ∙ or-none _ _ (no-flag 32 i)
-            ∙ kept .follows .failures i lt)
-        | no above ↦
-            flags-after 0 (columns a h guesses .jobs) noFlags i (omega (arith, column-count))
-            ∙ no-flag 32 i
-            ∙ sym (kept .unraised i (omega arith))
-      ]
-
-  end-flags : flags ≡ s .failed
-  unfolding noFlags
-  end-flags =
-      ext-getD false flags (s .failed) (flags-length 0 (columns a h guesses .jobs) noFlags ∙ sym (kept .follows .wide)) (λ i lt. end-flag i)
-
   same-end : endOf a runs ≡ orders.endOf s
   unfolding endOf orders.endOf runsOf columnsRun guessed columns
-  same-end = ap₂ (λ (S : Store) (F : Flags). record { store = S; failed = F }) (end-store (jobTotal a) refl) end-flags
+  same-end =
+      ap₂ (λ (S : Store) (F : Flags). record { store = S; failed = F })
+      (last-store ok (kept .follows) order (complete .allowed) refl)
+      (failed-flags ok (kept .follows) (kept .unraised))
 
   -- ---- the way back
 

@@ -6,34 +6,25 @@ use Prim.Native.Nat.{ℕ, suc, _+_, _%_}
 use native.Mathlib.Omega.{arith}
 use mathlib.Core.Bool.{Bool, true, false}
 use mathlib.Core.List.{List, [], _∷_, _++_, append-assoc, append-nil}
-use mathlib.Core.Option.{some, bind-eq-some-iff}
+use mathlib.Core.Option.{some}
 use lib.ListN.{length}
 use Rattle.taskfile.specs.Lists.{if_then_else_}
-use Rattle.taskfile.specs.QuantifierLaws.{all-at}
 use Rattle.timing.specs.declared.Job.{Job}
 use Rattle.timing.specs.Accepted.{Accepted}
 use Rattle.timing.specs.AcceptedLaws.{IsAccepted}
-use Rattle.timing.specs.JobNumberLaws.{jobs-length}
-use Rattle.timing.specs.Relations.{jobNumbers}
 use Rattle.order.specs.Invariant.{Invariant}
 use Rattle.order.specs.Orders.{performed, step, run, Complete}
-use Rattle.order.specs.States.{State, initial, hasEnded, allEnded}
+use Rattle.order.specs.States.{State, initial, hasEnded}
 use Rattle.order.specs.StepLaws.{Step, step-says, step-keeps, initial-invariant}
 use Rattle.plan.specs.Runs.{jobTotal}
 use Rattle.matching.specs.Conversions.{History, noting, historyFrom}
-use Rattle.matching.specs.MadeLaws.{only-every}
+use Rattle.matching.specs.EndedLaws.{ended-all}
 use Rattle.matching.specs.OrderKept.{Kept, kept-initial}
 use Rattle.matching.specs.OrderSteps.{kept-turn}
+use Rattle.matching.specs.TraceMore.{run-first, trace-first, roundAfter}
 use Rattle.matching.specs.TraceSteps.{Trace, traced, traceFrom, startTrace, traceOf}
-use Rattle.matching.specs.Traces.{endedCount}
 
 -- ---- the first byte
-
--- the state after it, and the run from there on
-pub run-first : (a : Accepted) (s : State) (byte : ℕ) (bytes : List ℕ) {end : State} → run a s (byte ∷ bytes) ≡ some end
-    → (next : State) × (step a s byte ≡ some next) × (run a next bytes ≡ some end)
-unfolding run
-run-first a s byte bytes e = bind-eq-some-iff (step a s byte) (λ next. run a next bytes) .0 e
 
 module _ {a : Accepted} {s : State} {byte : ℕ} {next : State} (said : Step a s byte next) (r : ℕ) (bytes : List ℕ) where
   abbrev x : Job
@@ -47,13 +38,8 @@ module _ {a : Accepted} {s : State} {byte : ℕ} {next : State} (said : Step a s
 
   -- the trace goes on from that of the first step
   trace-on : (t : Trace) → traceFrom a s r t (byte ∷ bytes) ≡ traceFrom a next roundNext (traceNext t) bytes
-  unfolding traceFrom
-  trace-on t =
-      let due = said .due in
-      let go : State → Trace = λ n.
-      traceFrom a n (if hasEnded n x then suc r else r) (traced r (x .0) (byte % 16) (hasEnded n x) (n .store) t) bytes in
-      let first : traceFrom a s r t (byte ∷ bytes) ≡ go (performed a s (byte % 16) (said .turn)) = rw (due, traceFrom) refl in
-      first ∙ ap go (said .made)
+  unfolding roundAfter
+  trace-on t = trace-first a s r t byte bytes said
 
   -- and so does the history, which has one store more if the step was an End
   stores-on : r + length (historyFrom a s r (byte ∷ bytes) .stores) ≡ roundNext + length (historyFrom a next roundNext bytes .stores)
@@ -101,13 +87,6 @@ kept-run {a} ok (byte ∷ bytes) s r t done {end} inv kept e =
     }
 
 -- ---- a complete order
-
--- where all jobs have ended, as many have as there are
-pub ended-all : (a : Accepted) (s : State) → allEnded a s ≡ true → endedCount a s ≡ jobTotal a
-unfolding endedCount jobTotal allEnded
-ended-all a s done =
-    let none : Job = record { 0 = 0 } in
-    ap length (only-every (hasEnded s) none (jobNumbers a) (λ k lt. all-at (hasEnded s) (jobNumbers a) k none done lt)) ∙ jobs-length a
 
 module _ {a : Accepted} (ok : IsAccepted a) {order : List ℕ} {s : State} (complete : Complete a order s) where
   arrives : Arrives a (initial a) 0 (startTrace a) order [] s

@@ -23,13 +23,13 @@ use Rattle.machine.specs.Instructions.{Store, values, perform, operations, end,
 use Rattle.order.specs.Invariant.{Invariant}
 use Rattle.order.specs.Orders.{nextOf, step}
 use Rattle.order.specs.States.{State, hasEnded}
-use Rattle.order.specs.StepLaws.{GoodTurn, flag-other, good-turn, afterEffect, ended-other, performed-is, Step, step-says}
+use Rattle.order.specs.StepLaws.{GoodTurn, good-turn, afterEffect, Step, step-says}
 use Rattle.plan.specs.Runs.{jobTotal}
 use Rattle.matching.specs.AdvanceLaws.{stepMade, roundAfter, madeAfter}
 use Rattle.matching.specs.ColumnLaws.{elsewhere, run-snoc, columns-frame}
 use Rattle.matching.specs.Histories.{Mark, Marks, job, marked, inRound, Column, unbegun, Running, stepped, markStep, runMarks, Columns, columns}
 use Rattle.matching.specs.MadeLaws.{made-here, made-other}
-use Rattle.matching.specs.MovedLaws.{markAt, round-open, job-listed, has-column, none-above, agree-turn, ownColumn, columns-moved, ended-here}
+use Rattle.matching.specs.MovedLaws.{markAt, round-open, job-listed, has-column, none-above, agree-turn, ownColumn, columns-moved}
 use Rattle.matching.specs.OrderKept.{stepsBy, Kept}
 use Rattle.matching.specs.PairedLaws.{turnEffect, paired-turn}
 use Rattle.matching.specs.Pairings.{Made, Paired}
@@ -37,9 +37,10 @@ use Rattle.matching.specs.PartLaws.{before-upto, parts-guess, parts-mark
 use Rattle.matching.specs.Parts.{lastRound, beginning, Parts}
 use Rattle.matching.specs.PlanReading.{Allowed}
 use Rattle.matching.specs.RowLaws.{marked-keeps}
-use Rattle.matching.specs.TraceLaws.{step-ends, step-goes}
+use Rattle.matching.specs.TraceLaws.{step-ends, step-goes, effect-ended}
+use Rattle.matching.specs.TraceMore.{others-same}
 use Rattle.matching.specs.TraceSteps.{Trace, traced}
-use Rattle.matching.specs.TurnTraceLaws.{GoesOn, Starts, turn-kind}
+use Rattle.matching.specs.TurnTraceLaws.{GoesOn, Starts, turn-kind, step-after, step-failed}
 
 -- ---- one instruction, one job's rounds
 
@@ -104,9 +105,6 @@ module _ {a : Accepted} (ok : IsAccepted a) {s : State} (inv : Invariant a s) {r
   abbrev effect : Effect
   effect = perform (nextOf a (said .turn .frame)) v (said .turn .frame .local) (s .store)
 
-  after-is : afterEffect s (said .turn) effect ≡ after
-  after-is = sym (performed-is a s v (said .turn)) ∙ said .made
-
   kind : GoesOn s (said .turn) ⊎ Starts s (said .turn)
   kind = turn-kind a s (byte / 16) (said .due)
 
@@ -126,13 +124,11 @@ module _ {a : Accepted} (ok : IsAccepted a) {s : State} (inv : Invariant a s) {r
 
   -- which jobs have ended after it
   pub ended-is : hasEnded after x ≡ effect .ended
-  ended-is =
-      ap (λ (next : State). hasEnded next x) (sym after-is) ∙ ended-here ok inv (kept .follows) good kind v effect refl
+  ended-is = effect-ended ok inv (kept .follows) said
 
   ended-others : (y : ℕ) → (y ≡ x .0 → ⊥) → hasEnded after (job y) ≡ hasEnded s (job y)
   unfolding job
-  ended-others y apart =
-      ap (λ (next : State). hasEnded next (job y)) (sym after-is) ∙ ended-other ok inv good effect (job y) apart
+  ended-others y apart = others-same ok inv said (job y) apart
 
   -- ---- the columns
 
@@ -229,7 +225,7 @@ module _ {a : Accepted} (ok : IsAccepted a) {s : State} (inv : Invariant a s) {r
   eight-after : length (after .store) ≡ 8
   unfolding afterEffect
   eight-after =
-      ap (λ (next : State). length (next .store)) (sym after-is)
+      ap (λ (next : State). length (next .store)) (sym (step-after said))
       ∙ perform-length (nextOf a (said .turn .frame)) v (said .turn .frame .local) (s .store) ∙ kept .eight
 
   eights-opened : (q : ℕ) → q ≤ suc r → q < jobTotal a → length (getD (set guesses (suc r) (after .store)) q []) ≡ 8
@@ -244,11 +240,8 @@ module _ {a : Accepted} (ok : IsAccepted a) {s : State} (inv : Invariant a s) {r
       ]
 
   unraised-after : (y : ℕ) → jobTotal a ≤ y → getD (after .failed) y false ≡ false
-  unfolding afterEffect jobTotal
-  unraised-after y le =
-      ap (λ (next : State). getD (next .failed) y false) (sym after-is)
-      ∙ flag-other (effect .failed) (x .0) y (s .failed) (λ e. omega (arith, good .running .job))
-      ∙ kept .unraised y le
+  unfolding jobTotal
+  unraised-after y le = step-failed said y (λ e. omega (arith, good .running .job)) ∙ kept .unraised y le
 
   -- ---- all of it
 

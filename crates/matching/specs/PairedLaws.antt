@@ -1,6 +1,6 @@
 -- What `Paired` says of an order so far holds where an order starts, and every step keeps it.
 -- Assumes nothing.
-use mathlib.Core.Path.{_≡_, refl, sym, subst, _∙_}
+use mathlib.Core.Path.{_≡_, refl, subst}
 use Prim.Native.Nat.{ℕ, _/_, _%_}
 use native.Mathlib.Omega.{arith}
 use mathlib.Core.Bool.{false}
@@ -18,10 +18,12 @@ use Rattle.machine.specs.Instructions.{perform}
 use Rattle.order.specs.Invariant.{hasBegun, Invariant}
 use Rattle.order.specs.Orders.{Turn, nextOf, step}
 use Rattle.order.specs.States.{State, initial, hasEnded, isActive, presentPriority}
-use Rattle.order.specs.StepLaws.{Step, good-turn, performed-is, step-says, no-flag}
-use Rattle.matching.specs.AdvanceLaws.{advances, roundAfter, madeAfter, under-every, at-every}
+use Rattle.order.specs.StepLaws.{Step, good-turn, step-says, no-flag}
+use Rattle.matching.specs.AdvanceLaws.{advances, roundAfter, madeAfter, under-every}
+use Rattle.matching.specs.ListLaws.{at-every}
 use Rattle.matching.specs.PreemptionLaws.{paired-advance}
 use Rattle.matching.specs.Pairings.{Made, madeRounds, last, priorityNow, Paired}
+use Rattle.matching.specs.TurnTraceLaws.{step-after}
 
 -- ---- the start
 
@@ -34,9 +36,9 @@ module _ (a : Accepted) where
   unfolding initial isActive any
   idle x = refl
 
-  unbegun : (x : Job) → hasBegun (initial a) x ≡ false
+  pub none-begun : (x : Job) → hasBegun (initial a) x ≡ false
   unfolding hasBegun
-  unbegun x = rw (unended x) (idle x)
+  none-begun x = rw (unended x) (idle x)
 
   no-rounds : (x : Job) → length (madeRounds (λ n. []) x) ≡ 0
   unfolding madeRounds
@@ -53,12 +55,12 @@ module _ (a : Accepted) where
   pub paired-initial : Paired a (initial a) 0 (λ x. [])
   paired-initial = record {
     none-yet = λ x isX lt. absurd (omega arith);
-    some-made = λ x isX begun. absurd (not-both _ begun (unbegun x));
+    some-made = λ x isX begun. absurd (not-both _ begun (none-begun x));
     rising = λ x k isX lt. absurd (omega (arith, no-rounds x));
     within = λ x isX. omega (arith, no-last x);
     closed = λ x isX ended. absurd (not-both _ ended (unended x));
     priorities = λ k d lt. absurd (omega (arith, no-active));
-    preceding = λ x y isX isY h begun. absurd (not-both _ begun (unbegun y));
+    preceding = λ x y isX isY h begun. absurd (not-both _ begun (none-begun y));
     both-ended = λ x y isX isY may endedX endedY. absurd (not-both _ endedX (unended x));
     lower-ended = λ x y isX isY may ended active. absurd (not-both _ ended (unended x));
     higher-ended = λ x y isX isY may active ended. absurd (not-both _ ended (unended y));
@@ -88,7 +90,7 @@ module _ {a : Accepted} (ok : IsAccepted a) {s : State} (inv : Invariant a s) {r
       let good = good-turn ok inv (byte / 16) (said .due) .0 in
       let effect = perform (nextOf a (turn .frame)) (byte % 16) (turn .frame .local) (s .store) in
       subst (λ (t : State). Paired a t (roundAfter r effect) (madeAfter a r (byte % 16) turn effect made))
-      (sym (performed-is a s (byte % 16) turn) ∙ said .made)
+      (step-after said)
       (paired-advance ok paired (advances ok inv good effect r made (byte % 16) held) inv)
 
   pub paired-step : (allowed : step a s byte ≡ some after) → Kept (step-says a s byte allowed)

@@ -25,15 +25,10 @@ use Rattle.order.specs.Invariant.{hasBegun}
 use Rattle.order.specs.States.{State, hasEnded, allEnded}
 use Rattle.plan.specs.Legality.{Pair, pairs, stepsOf, roundsOf, start, end, beforeRule, apart, nested, noStepWithin, preemptRule, priorityAt, lockRule, orderFault, lockFault, dueStore, guessFault, legality}
 use Rattle.plan.specs.Runs.{Plan, Step, JobRuns, guess, jobTotal}
-use Rattle.matching.specs.LegalLaws.{Rules}
+use Rattle.matching.specs.LegalLaws.{Rules, asked-holds}
 use Rattle.matching.specs.Pairings.{Made, madeRounds, first, last, priorityUpTo, Clear, Inside, Paired}
 
 -- ---- lists and tests
-
--- a rule that is asked only where p holds
-asked-holds : (p q : Bool) → (p ≡ true → q ≡ true) → (not p || q) ≡ true
-asked-holds true q h = h refl
-asked-holds false q h = refl
 
 -- a round outside those from s + 1 to e
 outside : (s e r : ℕ) → (r ≤ s) ⊎ (e < r) → not (ltb s r && leb r e) ≡ true

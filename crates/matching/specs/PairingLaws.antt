@@ -19,7 +19,8 @@ use Rattle.order.specs.Invariant.{hasBegun, Invariant}
 use Rattle.order.specs.States.{State, hasEnded, isActive, presentPriority}
 use Rattle.plan.specs.Runs.{Step}
 use Rattle.matching.specs.AdvanceLaws.{Advance, by-job}
-use Rattle.matching.specs.MadeLaws.{length-snoc, snoc-at, rounds-same, first-same, last-same, rounds-length, rounds-more, last-more, first-more, first-started}
+use Rattle.matching.specs.ListLaws.{length-snoc, snoc-at}
+use Rattle.matching.specs.MadeLaws.{rounds-same, first-same, last-same, rounds-length, rounds-more, last-more, first-more, first-started}
 use Rattle.matching.specs.Pairings.{Made, madeRounds, first, last, priorityNow, Paired}
 
 -- job x, which had begun, goes on

@@ -5,7 +5,7 @@ use mathlib.Core.Path.{_≡_, sym, ap, subst, _∙_}
 use Prim.Native.Nat.{ℕ, _<_}
 use native.Mathlib.Omega.{arith}
 use mathlib.Core.Bool.{true}
-use mathlib.Core.List.{List, [], _∷_, map, map-map}
+use mathlib.Core.List.{List, [], _∷_, map}
 use lib.ListN.{length, getD, List·getD-map}
 use Rattle.taskfile.specs.ListLaws.{upTo-length, getD-upTo, map-snoc}
 use Rattle.taskfile.specs.Lists.{upTo, lastOr}
@@ -18,17 +18,18 @@ use Rattle.machine.specs.Ends.{noFlags}
 use Rattle.machine.specs.Held.{priority}
 use Rattle.machine.specs.HeldLaws.{priority-none}
 use Rattle.machine.specs.Instructions.{Store, fresh}
-use Rattle.plan.specs.Legality.{stepsOf, roundsOf, dueStore}
+use Rattle.plan.specs.Legality.{stepsOf, dueStore}
 use Rattle.plan.specs.Plans.{Legal}
 use Rattle.plan.specs.Runs.{Plan, Step, JobRuns, guess, jobTotal}
 use Rattle.matching.specs.CutRuns.{whole-at, whole-ends}
 use Rattle.matching.specs.Histories.{Mark, Marks, job, Column, unbegun, Running, effectOf, stepped, markStep, runMarks, columns}
 use Rattle.matching.specs.LegalLaws.{legal-run, legal-guesses}
-use Rattle.matching.specs.MadeLaws.{last-snoc}
+use Rattle.matching.specs.ListLaws.{last-snoc}
 use Rattle.matching.specs.PartLaws.{column-at}
 use Rattle.matching.specs.Parts.{beginning}
 use Rattle.matching.specs.PlanHistoryLaws.{PlanBack, plan-read, plan-run-is}
-use Rattle.matching.specs.PlanReading.{markOf, marksOf, stepOf, guessesOf, guessed, flagsFrom, columnsRun}
+use Rattle.matching.specs.PlanReading.{marksOf, stepOf, guessesOf, guessed, flagsFrom, columnsRun}
+use Rattle.matching.specs.PlanRounds.{rounds-marked}
 use Rattle.matching.specs.RunLaws.{Climbs, job-climbs}
 use Rattle.matching.specs.SequenceLaws.{AllRounds}
 
@@ -54,13 +55,6 @@ module _ (a : Accepted) (x : ℕ) where
   unfolding unbegun fresh lastOr
   unbegun-notes = sym (priority-none (ceilingsOf (a .table)) (base a (job x)))
 
--- a job's rounds are those of its marks
-marks-rounds : (runs : JobRuns) (y : ℕ) → roundsOf runs (job y) ≡ map (λ m. m .round) (getD (marksOf runs) y [])
-unfolding roundsOf stepsOf marksOf job markOf
-marks-rounds runs y =
-    sym (ap (map (λ (m : Mark). m .round)) (List·getD-map (map markOf) (runs .steps) y [])
-    ∙ map-map (λ (m : Mark). m .round) markOf (getD (runs .steps) y []))
-
 -- ---- a legal plan
 
 module _ {a : Accepted} (ok : IsAccepted a) (plan : Plan) {runs : JobRuns} (legal : Legal a plan runs) where
@@ -77,7 +71,7 @@ module _ {a : Accepted} (ok : IsAccepted a) (plan : Plan) {runs : JobRuns} (lega
   pub legal-climbs : AllRounds (jobTotal a) h
   unfolding jobTotal job
   legal-climbs y lt =
-      subst (Climbs (jobTotal a) 0) (marks-rounds runs y)
+      subst (Climbs (jobTotal a) 0) (rounds-marked runs y)
       (job-climbs a plan (legal-run a plan legal .0) (job y) (omega (arith, lt, legal-back .full)))
 
   -- the run is the history's reading by columns

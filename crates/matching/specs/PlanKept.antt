@@ -3,14 +3,14 @@
 -- Assumes nothing.
 use mathlib.Core.Path.{_≡_, refl, sym, ap, subst, _∙_}
 use mathlib.Core.Logic.{inl, inr}
-use Prim.Native.Nat.{ℕ, zero, suc, _+_, _/_, _%_, _≤_, _<_}
+use Prim.Native.Nat.{ℕ, _+_, _/_, _%_, _≤_, _<_}
 use native.Mathlib.Omega.{arith}
-use mathlib.Core.Bool.{Bool, true, false, _||_}
+use mathlib.Core.Bool.{Bool, true, false}
 use mathlib.Core.List.{List, [], _∷_, _++_, map}
 use mathlib.Core.Option.{some, bind}
 use lib.ListN.{length, getD, take, replicate}
 use Rattle.taskfile.specs.Judgement.{instructionOf}
-use Rattle.taskfile.specs.Lists.{if_then_else_, member, lastOr, any}
+use Rattle.taskfile.specs.Lists.{member, lastOr, if_then_else_}
 use Rattle.taskfile.specs.Pairs.{every-at}
 use Rattle.taskfile.specs.Tables.{ceilingsOf}
 use Rattle.taskfile.specs.Tests.{decided, not-both}
@@ -25,7 +25,7 @@ use Rattle.machine.specs.Instructions.{Store, values}
 use Rattle.order.specs.declared.Frame.{Frame}
 use Rattle.order.specs.Invariant.{Running, hasBegun, Invariant}
 use Rattle.order.specs.Orders.{Turn, turnOf, nextOf, performed, stepWith, step, run}
-use Rattle.order.specs.States.{State, initial, hasEnded, isActive, presentPriority}
+use Rattle.order.specs.States.{State, initial, hasEnded, presentPriority}
 use Rattle.order.specs.StepLaws.{no-flag, initial-invariant, good-turn, step-says}
 use Rattle.plan.specs.Legality.{stepsOf, dueStore}
 use Rattle.plan.specs.Plans.{Legal}
@@ -35,15 +35,17 @@ use Rattle.matching.specs.CutRounds.{round-counted}
 use Rattle.matching.specs.CutRuns.{cut-ended, cut-open, next-offered, steps-taken}
 use Rattle.matching.specs.Cuts.{Placed, Cut, sequence, placedByte, gathered}
 use Rattle.matching.specs.Histories.{Mark, Marks, job, unbegun, columns}
+use Rattle.matching.specs.ListLaws.{none-or-some}
 use Rattle.matching.specs.MovedLaws.{agree-turn}
 use Rattle.matching.specs.OfferedLaws.{job-offered, byte-task, byte-value}
+use Rattle.matching.specs.PairedLaws.{none-begun}
 use Rattle.matching.specs.PlanColumns.{legal-back, legal-climbs, legal-steps, guess-due, column-notes}
 use Rattle.matching.specs.PlanReading.{marksOf, guessesOf}
-use Rattle.matching.specs.PlanRounds.{none-or-some}
 use Rattle.matching.specs.PlanTurn.{Stands, NextTurn, plan-turn}
 use Rattle.matching.specs.TraceMore.{some-same}
 use Rattle.matching.specs.Traces.{endedCount, Traced}
 use Rattle.matching.specs.TraceLaws.{traced-initial}
+use Rattle.matching.specs.TraceStepLaws.{first-guess}
 use Rattle.matching.specs.TraceSteps.{traceFrom, firstGuess, startTrace, traceOf}
 use Rattle.matching.specs.TurnTraceLaws.{turn-kind}
 
@@ -68,16 +70,6 @@ pub record Kept (a : Accepted) (plan : Plan) (s : State) (r : ℕ) (done : List 
 
 -- ---- before the first step
 
-first-known : (store : Store) (n q : ℕ) → q ≡ 0 → q < n → getD (firstGuess store n) q [] ≡ store
-unfolding firstGuess
-first-known store zero q e lt = absurd (omega arith)
-first-known store (suc n) zero e lt = refl
-first-known store (suc n) (suc q) e lt = absurd (omega arith)
-
-none-begun : (a : Accepted) (y : ℕ) → hasBegun (initial a) (job y) ≡ false
-unfolding hasBegun hasEnded isActive initial noFlags any job
-none-begun a y = ap (λ (b : Bool). b || false) (no-flag 32 y)
-
 module _ {a : Accepted} (ok : IsAccepted a) (plan : Plan) {runs : JobRuns} (legal : Legal a plan runs) where
   -- guess 0 is the initial store
   guess-first : (q : ℕ) → q ≡ 0 → q < jobTotal a → (d : Store) → getD (guessesOf a plan) q d ≡ a .table .store
@@ -90,11 +82,13 @@ module _ {a : Accepted} (ok : IsAccepted a) (plan : Plan) {runs : JobRuns} (lega
     ran = refl;
     inv = initial-invariant a;
     trace = traced-initial ok (guessesOf a plan) (legal-back ok plan legal .total) (λ lt. guess-first 0 refl lt noStore);
-    begun = λ y lt h none. not-both _ h (none-begun a y);
+    begun = λ y lt h none. not-both _ h (none-begun a (job y));
     beyond = λ y up. no-flag 32 y;
     marks = refl;
     guesses = λ q le lt. (let first : q ≡ 0 = omega arith in
-        first-known (a .table .store) (jobTotal a) q first lt ∙ sym (guess-first q first lt []));
+        ap (λ (k : ℕ). getD (firstGuess (a .table .store) (jobTotal a)) k []) first
+        ∙ first-guess (a .table .store) (jobTotal a) [] (omega arith)
+        ∙ sym (guess-first q first lt []));
   }
 
 -- ---- where the plan stands

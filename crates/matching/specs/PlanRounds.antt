@@ -6,13 +6,13 @@ use mathlib.Core.Logic.{_⊎_, inl, inr}
 use Prim.Native.Nat.{ℕ, zero, suc, _+_, _≤_, _<_}
 use native.Mathlib.Decide.{decLe, decLt, ℕ-discrete}
 use native.Mathlib.Omega.{arith}
-use mathlib.Core.Bool.{Bool, true, false, not, _&&_, _||_, false≢true}
-use mathlib.Core.List.{List, [], _∷_, _++_, map, append-nil}
+use mathlib.Core.Bool.{Bool, true, not, _&&_}
+use mathlib.Core.List.{List, [], _∷_, _++_, map, map-map, append-nil}
 use lib.ListN.{length, getD, take, drop, take-append-drop, length-append, List·getD-map}
 use lib.Seq.{take-append-seam, drop-append-seam, getD-append-seam}
 use lib.Dec.{leb, ltb}
 use borrow.Author.Tests.{ltb-true, lt-ltb, le-leb, lt-leb, not-true}
-use Rattle.taskfile.specs.Lists.{if_then_else_, only, firstOr, lastOr}
+use Rattle.taskfile.specs.Lists.{only, firstOr, lastOr}
 use Rattle.taskfile.specs.Pairs.{Every, every-imp}
 use Rattle.taskfile.specs.QuantifierLaws.{all-at, map-length}
 use Rattle.taskfile.specs.Tests.{and-holds, not-both}
@@ -27,24 +27,12 @@ use Rattle.plan.specs.Runs.{Plan, Step, JobRuns}
 use Rattle.matching.specs.ColumnLaws.{elsewhere}
 use Rattle.matching.specs.Cuts.{Cut}
 use Rattle.matching.specs.Histories.{Mark, Marks, job, inRound}
-use Rattle.matching.specs.LegalLaws.{Within, legal-rules, rounds-lie}
+use Rattle.matching.specs.LegalLaws.{Within, legal-rules, rounds-lie, asked}
+use Rattle.matching.specs.ListLaws.{only-append, Some, none-or-some, only-all, only-none, cons-some}
 use Rattle.matching.specs.PlanReading.{markOf, marksOf}
-use Rattle.matching.specs.RowLaws.{only-append}
 use Rattle.matching.specs.RunLaws.{legal-rising}
 
 -- ---- lists
-
--- there is something in it
-abbrev pub Some : {A : Type 0} → List A → Type 0
-Some xs = xs ≡ [] → ⊥
-
--- a list is empty or not
-pub none-or-some : {A : Type 0} (xs : List A) → (xs ≡ []) ⊎ Some xs
-none-or-some [] = inl refl
-none-or-some (x ∷ xs) = inr (λ e. absurd (let z : suc (length xs) ≡ 0 = ap length e in omega arith))
-
-cons-some : {A : Type 0} {x : A} {xs ys : List A} → ys ≡ x ∷ xs → Some ys
-cons-some {xs = xs} is e = absurd (let z : suc (length xs) ≡ 0 = ap length (sym is ∙ e) in omega arith)
 
 every-unmap : {A B : Type 0} (P : B → Type 0) (f : A → B) (xs : List A) → Every P (map f xs) → Every (λ x. P (f x)) xs
 every-unmap P f [] h = tt
@@ -59,26 +47,6 @@ map-drop : {A B : Type 0} (f : A → B) (n : ℕ) (xs : List A) → map f (drop 
 map-drop f zero xs = refl
 map-drop f (suc n) [] = refl
 map-drop f (suc n) (x ∷ xs) = map-drop f n xs
-
-map-after : {A B C : Type 0} (g : B → C) (f : A → B) (xs : List A) → map g (map f xs) ≡ map (λ x. g (f x)) xs
-map-after g f [] = refl
-map-after g f (x ∷ xs) = ap (λ (l : List _). g (f x) ∷ l) (map-after g f xs)
-
--- a test that holds of every element keeps all, and one that holds of none keeps nothing
-only-all : {A : Type 0} (test : A → Bool) (xs : List A) → Every (λ x. test x ≡ true) xs → only test xs ≡ xs
-unfolding only if_then_else_
-only-all test [] h = refl
-only-all test (x ∷ xs) h = rw (h .0) (ap (λ (l : List _). x ∷ l) (only-all test xs (h .1)))
-
-only-none : {A : Type 0} (test : A → Bool) (xs : List A) → Every (λ x. test x ≡ false) xs → only test xs ≡ []
-unfolding only if_then_else_
-only-none test [] h = refl
-only-none test (x ∷ xs) h = rw (h .0) (only-none test xs (h .1))
-
--- a rule that is asked only where p holds
-asked : (p q : Bool) → (not p || q) ≡ true → p ≡ true → q ≡ true
-asked true q h e = h
-asked false q h e = absurd (false≢true e)
 
 -- ---- rounds of marks
 
@@ -127,6 +95,13 @@ last-has P d [] [] h some = absurd (some refl)
 last-has P d [] (m ∷ back) h some = last-of P (m .round) back (h .0) (h .1)
 last-has P d (m ∷ front) back h some = last-has P (m .round) front back h some
 
+-- a job's rounds are those of its marks
+pub rounds-marked : (runs : JobRuns) (y : ℕ) → roundsOf runs (job y) ≡ map (λ m. m .round) (getD (marksOf runs) y [])
+unfolding roundsOf stepsOf marksOf job markOf
+rounds-marked runs y =
+    sym (ap (map (λ (m : Mark). m .round)) (List·getD-map (map markOf) (runs .steps) y [])
+    ∙ map-map (λ (m : Mark). m .round) markOf (getD (runs .steps) y []))
+
 -- ---- the rounds of a cut
 
 module _ (runs : JobRuns) {now : Marks} {x : ℕ} {m : Mark} (cut : Cut (marksOf runs) now x m) where
@@ -136,9 +111,8 @@ module _ (runs : JobRuns) {now : Marks} {x : ℕ} {m : Mark} (cut : Cut (marksOf
   marks-whole y = sym (List·getD-map (map markOf) (runs .steps) y []) ∙ cut .whole y
 
   rounds-whole : (y : ℕ) → roundsOf runs (job y) ≡ rounds (getD now y [] ++ cut .rest y)
-  unfolding roundsOf rounds markOf
-  rounds-whole y =
-      sym (map-after (λ (m : Mark). m .round) markOf (stepsOf runs (job y))) ∙ ap (map (λ (m : Mark). m .round)) (marks-whole y)
+  unfolding rounds
+  rounds-whole y = rounds-marked runs y ∙ ap rounds (cut .whole y)
 
   made-low : (y : ℕ) → Every (λ n. n .round ≤ m .round) (getD now y [])
   made-low y = none-in (λ q. q ≤ m .round) (λ q. m .round < q) (low-or-high (m .round)) (getD now y []) (cut .made y)
@@ -194,14 +168,14 @@ module _ (runs : JobRuns) {now : Marks} {x : ℕ} {m : Mark} (cut : Cut (marksOf
   pub next-left : Some (cut .rest x)
   next-left = cons-some (cut .next)
 
-  next-place : length (getD now x []) < length (roundsOf runs (job x))
+  pub next-place : length (getD now x []) < length (roundsOf runs (job x))
   unfolding rounds
   next-place =
       let count = ap length (rounds-whole x) ∙ map-length (λ (n : Mark). n .round) (getD now x [] ++ cut .rest x)
       ∙ length-append (getD now x []) (cut .rest x) ∙ ap (λ (l : List Mark). length (getD now x []) + length l) (cut .next) in
       omega (arith, count)
 
-  next-round : getD (roundsOf runs (job x)) (length (getD now x [])) 0 ≡ m .round
+  pub next-round : getD (roundsOf runs (job x)) (length (getD now x [])) 0 ≡ m .round
   unfolding rounds
   next-round =
       ap (λ (l : List ℕ). getD l (length (getD now x [])) 0) (rounds-whole x ∙ ap (λ (l : List Mark). rounds (getD now x [] ++ l)) (cut .next))

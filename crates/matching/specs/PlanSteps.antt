@@ -22,7 +22,7 @@ use Rattle.machine.specs.Instructions.{Store, perform}
 use Rattle.order.specs.Invariant.{hasBegun, Invariant}
 use Rattle.order.specs.Orders.{nextOf, run}
 use Rattle.order.specs.States.{State, initial, hasEnded}
-use Rattle.order.specs.StepLaws.{GoodTurn, good-turn, flag-other, afterEffect, performed-is, begun-before, Step, step-says, step-keeps, initial-invariant}
+use Rattle.order.specs.StepLaws.{GoodTurn, good-turn, afterEffect, begun-before, Step, step-says, step-keeps, initial-invariant}
 use Rattle.plan.specs.Legality.{dueStore}
 use Rattle.plan.specs.Plans.{Legal}
 use Rattle.plan.specs.Runs.{Plan, JobRuns, jobTotal}
@@ -41,7 +41,7 @@ use Rattle.matching.specs.TraceLaws.{step-ends, step-goes}
 use Rattle.matching.specs.TraceMore.{run-more, trace-more}
 use Rattle.matching.specs.TraceStepLaws.{guesses-whole}
 use Rattle.matching.specs.TraceSteps.{Trace, traced, startTrace, traceOf}
-use Rattle.matching.specs.TurnTraceLaws.{GoesOn, Starts, turn-kind}
+use Rattle.matching.specs.TurnTraceLaws.{GoesOn, Starts, turn-kind, step-after, step-failed}
 
 -- ---- what a step makes of the columns, on the same guesses
 
@@ -52,9 +52,6 @@ module _ {a : Accepted} (ok : IsAccepted a) {s : State} (inv : Invariant a s) {r
 
   abbrev more : Marks
   more = marked h (made .turn .frame .job .0) (markAt r (byte % 16))
-
-  after-is : afterEffect s (made .turn) effect ≡ after
-  after-is = sym (performed-is a s (byte % 16) (made .turn)) ∙ made .made
 
   good : GoodTurn a s (made .turn)
   good = good-turn ok inv (byte / 16) (made .due) .0
@@ -67,25 +64,19 @@ module _ {a : Accepted} (ok : IsAccepted a) {s : State} (inv : Invariant a s) {r
   step-endings y lt =
       ap (λ (c : Columns). getD (c .jobs) y unbegun .ended) (columns-moved ok inv t good kind (byte % 16) effect refl)
       ∙ moved-endings ok inv t good kind (byte % 16) effect refl y lt
-      ∙ ap (λ (z : State). hasEnded z (job y)) after-is
+      ∙ ap (λ (z : State). hasEnded z (job y)) (step-after made)
 
   step-present : getD (columns a more guesses .stores) r noStore ≡ after .store
   unfolding afterEffect
   step-present =
       ap (λ (c : Columns). getD (c .stores) r noStore) (columns-moved ok inv t good kind (byte % 16) effect refl)
       ∙ moved-present ok inv t good kind (byte % 16) effect refl
-      ∙ ap (λ (z : State). z .store) after-is
+      ∙ ap (λ (z : State). z .store) (step-after made)
 
-  -- other jobs have begun or failed as before
+  -- other jobs have begun as before
   step-begun : (y : ℕ) → (y ≡ made .turn .frame .job .0 → ⊥) → hasBegun after (job y) ≡ true → hasBegun s (job y) ≡ true
   unfolding job
-  step-begun y apart e = begun-before ok inv good effect (job y) apart (ap (λ (z : State). hasBegun z (job y)) after-is ∙ e)
-
-  step-failed : (y : ℕ) → (y ≡ made .turn .frame .job .0 → ⊥) → getD (after .failed) y false ≡ getD (s .failed) y false
-  unfolding afterEffect
-  step-failed y apart =
-      ap (λ (z : State). getD (z .failed) y false) (sym after-is)
-      ∙ flag-other (effect .failed) (made .turn .frame .job .0) y (s .failed) apart
+  step-begun y apart e = begun-before ok inv good effect (job y) apart (ap (λ (z : State). hasBegun z (job y)) (step-after made) ∙ e)
 
 -- ---- one step more
 
@@ -202,7 +193,7 @@ module _ {a : Accepted} (ok : IsAccepted a) (plan : Plan) {runs : JobRuns} (lega
 
   beyond-more : (y : ℕ) → jobTotal a ≤ y → getD (due .after .failed) y false ≡ false
   beyond-more y up =
-      step-failed ok (kept .inv) (kept .trace) made y (λ e. omega (arith, e, whose, next-job ok plan legal kept p rest split)) ∙ kept .beyond y up
+      step-failed made y (λ e. omega (arith, e, whose, next-job ok plan legal kept p rest split)) ∙ kept .beyond y up
 
   -- the trace with the step
   trace-step : traceOf a (doneBytes a next)

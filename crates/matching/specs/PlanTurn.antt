@@ -5,13 +5,13 @@ use mathlib.Core.Logic.{inl, inr}
 use Prim.Native.Nat.{ℕ, _<_}
 use native.Mathlib.Decide.{decLt, ℕ-discrete}
 use native.Mathlib.Omega.{arith}
-use mathlib.Core.Bool.{Bool, true, false, not, _&&_, _||_, false≢true}
+use mathlib.Core.Bool.{true, false, not, _&&_, _||_, false≢true}
 use mathlib.Core.List.{List, [], _∷_, map}
 use mathlib.Core.Option.{some, Option·map}
 use lib.ListN.{length, getD, take}
 use lib.Dec.{ltb, eqb}
 use borrow.Author.Tests.{eqb-true, lt-ltb, eq-eqb, ne-eqb}
-use Rattle.taskfile.specs.Lists.{if_then_else_, all, any, lastOr}
+use Rattle.taskfile.specs.Lists.{all, any, lastOr, if_then_else_}
 use Rattle.taskfile.specs.Pairs.{Every, Ordered, every-at}
 use Rattle.taskfile.specs.QuantifierLaws.{at-all, any-at, at-any}
 use Rattle.taskfile.specs.Tests.{both, either, and-holds, or-right, decided, not-both, neither}
@@ -33,8 +33,10 @@ use Rattle.plan.specs.Plans.{Legal}
 use Rattle.plan.specs.Runs.{Plan, JobRuns, jobTotal}
 use Rattle.matching.specs.Cuts.{Cut}
 use Rattle.matching.specs.Histories.{Mark, Marks, job}
+use Rattle.matching.specs.LegalLaws.{asked-holds}
+use Rattle.matching.specs.ListLaws.{Some, none-or-some}
 use Rattle.matching.specs.PlanReading.{marksOf}
-use Rattle.matching.specs.PlanRounds.{Some, none-or-some, next-left, starts-here, priority-made, none-above, lies-within, before-done}
+use Rattle.matching.specs.PlanRounds.{next-left, starts-here, priority-made, none-above, lies-within, before-done}
 use Rattle.matching.specs.TurnTraceLaws.{GoesOn, Starts}
 
 -- a state that stands where of a run's steps those of `now` are made and those of `rest` are left: the jobs that have begun are those with a
@@ -64,13 +66,9 @@ may-start a s y h =
     and-holds _ _
     (and-holds _ _
     (and-holds (not (hasEnded s y || isActive s y)) _ (ap not (h .unbegun))
-    (jobs-all a (λ x. not (before a x y) || hasEnded s x) (λ x isX. waits (before a x y) (hasEnded s x) (h .preceded x isX))))
+    (jobs-all a (λ x. not (before a x y) || hasEnded s x) (λ x isX. asked-holds (before a x y) (hasEnded s x) (h .preceded x isX))))
     (h .preempts))
     (h .above)
-  where
-    waits : (p q : Bool) → (p ≡ true → q ≡ true) → (not p || q) ≡ true
-    waits true q h = h refl
-    waits false q h = refl
 
 module _ {a : Accepted} (ok : IsAccepted a) (s : State) (x : Job) (isX : IsJob a x) where
   -- a job of x's task that may start is x: of two jobs of a task the earlier comes before the later

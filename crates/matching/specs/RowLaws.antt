@@ -11,7 +11,7 @@ use mathlib.Core.List.{List, [], _∷_, _++_, map, append-assoc, append-nil}
 use lib.ListN.{length, getD, replicate, length-set, length-map, List·getD-map}
 use lib.Dec.{eqb}
 use borrow.Author.Tests.{eq-eqb, ne-eqb}
-use Rattle.taskfile.specs.ListLaws.{from-snoc, map-snoc, each-append, each-map}
+use Rattle.taskfile.specs.ListLaws.{map-snoc, each-map}
 use Rattle.taskfile.specs.Lists.{if_then_else_, from, upTo, only, each}
 use Rattle.timing.specs.Accepted.{Accepted}
 use Rattle.timing.specs.Relations.{base, jobNumbers}
@@ -19,37 +19,8 @@ use Rattle.plan.specs.Legality.{stepsOf}
 use Rattle.plan.specs.Runs.{Step, JobRuns, jobTotal}
 use Rattle.matching.specs.Conversions.{stepBytesIn, orderOf}
 use Rattle.matching.specs.Histories.{Mark, Marks, job, marked, bytesOf, inRound, rowFrom, rows}
+use Rattle.matching.specs.ListLaws.{only-append, each-snoc, each-same}
 use Rattle.matching.specs.PlanReading.{markOf, marksOf}
-
--- ---- lists
-
-pub only-append : {A : Type 0} (test : A → Bool) (xs ys : List A) → only test (xs ++ ys) ≡ only test xs ++ only test ys
-unfolding only if_then_else_
-only-append test [] ys = refl
-only-append {A} test (x ∷ xs) ys = go (test x) (only-append test xs ys)
-  where
-    go : (b : Bool) → only test (xs ++ ys) ≡ only test xs ++ only test ys
-        → (if b then x ∷ only test (xs ++ ys) else only test (xs ++ ys)) ≡ (if b then x ∷ only test xs else only test xs) ++ only test ys
-    go true e = ap (λ (l : List A). x ∷ l) e
-    go false e = e
-
--- the parts of the first n + 1 numbers are those of the first n and then the next one's
-pub each-snoc : {A : Type 0} (n : ℕ) (f : ℕ → List A) → each (upTo (suc n)) f ≡ each (upTo n) f ++ f n
-unfolding each upTo
-each-snoc {A} n f =
-    ap (λ (l : List ℕ). each l f) (from-snoc 0 n)
-    ∙ each-append f (from 0 n) ((0 + n) ∷ [])
-    ∙ ap (λ (l : List A). each (from 0 n) f ++ l) (append-nil (f (0 + n)) ∙ ap f (omega arith))
-
--- the same part for each number below n
-pub each-same : {A : Type 0} (n : ℕ) (f g : ℕ → List A) → ((k : ℕ) → k < n → f k ≡ g k) → each (upTo n) f ≡ each (upTo n) g
-unfolding each upTo from
-each-same zero f g h = refl
-each-same {A} (suc n) f g h =
-    each-snoc n f
-    ∙ ap (λ (l : List A). l ++ f n) (each-same n f g (λ k lt. h k (omega arith)))
-    ∙ ap (λ (l : List A). each (upTo n) g ++ l) (h n (omega arith))
-    ∙ sym (each-snoc n g)
 
 -- ---- a job's steps in a round
 

@@ -11,12 +11,13 @@ use lib.Dec.{leb, ltb, eqb}
 use borrow.Author.Tests.{ltb-true, leb-true}
 use Rattle.taskfile.specs.Chains.{mostInstructions}
 use Rattle.taskfile.specs.Checked.{Checked, passed, require}
-use Rattle.taskfile.specs.CheckedLaws.{refused-passed, passed-same, bind-passed, then-passed}
+use Rattle.taskfile.specs.CheckedLaws.{passed-same, bind-passed, then-passed, require-passed}
 use Rattle.taskfile.specs.ListLaws.{upTo-length}
 use Rattle.taskfile.specs.Lists.{if_then_else_, upTo, firstOr, lastOr}
 use Rattle.taskfile.specs.Pairs.{Every, every-at}
 use Rattle.taskfile.specs.QuantifierLaws.{map-length}
 use Rattle.taskfile.specs.Tests.{both}
+use Rattle.taskfile.specs.TimesLaws.{holds}
 use Rattle.timing.specs.declared.Job.{Job}
 use Rattle.timing.specs.Accepted.{Accepted}
 use Rattle.timing.specs.JobLaws.{Timed}
@@ -74,12 +75,6 @@ climb-below k p (r ∷ q ∷ rs) h lt = climb-below k r (q ∷ rs) (h .2) (omega
 
 -- ---- one step
 
--- a requirement that passed holds
-required : {P : Type 0} (test : Bool) (number : ℕ) (place : P) {u : Unit {0}} → require test number place ≡ passed u → test ≡ true
-unfolding require
-required true number place e = refl
-required false number place e = refused-passed e
-
 unfoldable rounds : List Step → List ℕ
 rounds steps = map (λ step. step .round .0) steps
 
@@ -92,7 +87,7 @@ module _ (a : Accepted) (plan : Plan) where
       let first = then-passed (require (ltb (offset + 1) (length plan)) 40 (length plan)) _ e in
       let test : Bool = ltb (getD plan offset 0) (jobTotal a) && leb previous (getD plan offset 0) in
       let second = then-passed (require test 42 offset) _ (first .2) in
-      let parts = both (ltb (getD plan offset 0) (jobTotal a)) _ (required test 42 offset (second .1)) in
+      let parts = both (ltb (getD plan offset 0) (jobTotal a)) _ (holds _ (require-passed test 42 offset (second .1))) in
       (leb-true _ _ (parts .1), ltb-true _ _ (parts .0))
 
   -- ---- one job's steps

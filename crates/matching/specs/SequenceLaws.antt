@@ -6,28 +6,18 @@ use mathlib.Core.Logic.{_≢_}
 use Prim.Native.Nat.{ℕ, zero, suc, _+_, _≤_, _<_}
 use native.Mathlib.Decide.{decLt, ℕ-discrete}
 use native.Mathlib.Omega.{arith}
-use mathlib.Core.Bool.{Bool, true, false}
+use mathlib.Core.Bool.{Bool}
 use mathlib.Core.List.{List, [], _∷_, _++_, map, map-append, map-map, append-assoc, append-nil}
 use lib.ListN.{length, getD, replicate, length-set, length-replicate, getD-replicate, List·getD-eq-default}
 use lib.Dec.{eqb, ltb}
 use lib.Seq.{getD-set-same, getD-set-other, ext-getD}
 use borrow.Author.Tests.{eq-eqb, ne-eqb, lt-ltb, le-ltb}
-use Rattle.taskfile.specs.Lists.{if_then_else_, from, upTo, only, each}
+use Rattle.taskfile.specs.Lists.{from, upTo, only, each}
 use Rattle.timing.specs.Accepted.{Accepted}
 use Rattle.matching.specs.Cuts.{Placed, rowSteps, sequence, placedByte, gathered}
 use Rattle.matching.specs.Histories.{Mark, Marks, marked, bytesOf, inRound, rowFrom, rows}
-use Rattle.matching.specs.RowLaws.{only-append, each-snoc}
+use Rattle.matching.specs.ListLaws.{only-append, each-snoc, only-in, only-out}
 use Rattle.matching.specs.RunLaws.{Climbs}
-
--- ---- lists
-
-only-in : {A : Type 0} (test : A → Bool) (x : A) (xs : List A) → test x ≡ true → only test (x ∷ xs) ≡ x ∷ only test xs
-unfolding only if_then_else_
-only-in test x xs e = rw e refl
-
-pub only-out : {A : Type 0} (test : A → Bool) (x : A) (xs : List A) → test x ≡ false → only test (x ∷ xs) ≡ only test xs
-unfolding only if_then_else_
-only-out test x xs e = rw e refl
 
 -- ---- the bytes of the steps are the reading by rows
 

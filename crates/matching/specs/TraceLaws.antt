@@ -2,7 +2,7 @@
 -- Assumes nothing.
 use mathlib.Core.Path.{_≡_, refl, sym, ap, subst, _∙_}
 use mathlib.Core.Logic.{_⊎_}
-use Prim.Native.Nat.{ℕ, zero, suc, _+_, _*_, _/_, _%_, _<_}
+use Prim.Native.Nat.{ℕ, suc, _+_, _*_, _/_, _%_, _<_}
 use native.Mathlib.Omega.{arith}
 use mathlib.Core.Bool.{true, false}
 use mathlib.Core.List.{List, [], _∷_, _++_}
@@ -19,38 +19,29 @@ use Rattle.machine.specs.Instructions.{Store, perform}
 use Rattle.order.specs.Invariant.{Invariant}
 use Rattle.order.specs.Orders.{nextOf, step}
 use Rattle.order.specs.States.{State, initial, hasEnded}
-use Rattle.order.specs.StepLaws.{GoodTurn, no-flag, good-turn, afterEffect, performed-is, Step, step-says}
+use Rattle.order.specs.StepLaws.{GoodTurn, no-flag, good-turn, afterEffect, Step, step-says}
 use Rattle.plan.specs.Runs.{jobTotal}
 use Rattle.matching.specs.ColumnLaws.{columns-none}
 use Rattle.matching.specs.EndedLaws.{ended-none}
 use Rattle.matching.specs.Histories.{Mark, Marks, job, marked, inRound, Column, unbegun, Columns, columns}
+use Rattle.matching.specs.ListLaws.{replicate-any}
 use Rattle.matching.specs.MovedLaws.{markAt, ended-here}
 use Rattle.matching.specs.RowLaws.{rows-none}
 use Rattle.matching.specs.Traces.{Traced}
-use Rattle.matching.specs.TurnTraceLaws.{GoesOn, Starts, turn-kind}
+use Rattle.matching.specs.TurnTraceLaws.{GoesOn, Starts, turn-kind, step-after}
 use Rattle.matching.specs.TraceCases.{goes-traced, ends-traced}
 
 -- ---- where an order starts
 
--- no job has a step or a column of its own
-none-marked : (n y : ℕ) → getD {A = List Mark} (replicate n []) y [] ≡ []
-none-marked zero y = refl
-none-marked (suc n) zero = refl
-none-marked (suc n) (suc y) = none-marked n y
-
-none-column : (n y : ℕ) → getD (replicate n unbegun) y unbegun ≡ unbegun
-none-column zero y = refl
-none-column (suc n) zero = refl
-none-column (suc n) (suc y) = none-column n y
-
+-- no job has a step
 none-in : (n y q : ℕ) → inRound q (getD (replicate n []) y []) ≡ []
 unfolding inRound only
-none-in n y q = ap (inRound q) (none-marked n y)
+none-in n y q = ap (inRound q) (replicate-any {A = List Mark} n y [])
 
 -- the columns are those of jobs not begun
-start-column : (a : Accepted) (guesses : List Store) (x : ℕ) → getD (columns a (replicate (jobTotal a) []) guesses .jobs) x unbegun ≡ unbegun
+pub start-column : (a : Accepted) (guesses : List Store) (x : ℕ) → getD (columns a (replicate (jobTotal a) []) guesses .jobs) x unbegun ≡ unbegun
 start-column a guesses x =
-    ap (λ (c : Columns). getD (c .jobs) x unbegun) (columns-none a (jobTotal a) guesses) ∙ none-column (jobTotal a) x
+    ap (λ (c : Columns). getD (c .jobs) x unbegun) (columns-none a (jobTotal a) guesses) ∙ replicate-any (jobTotal a) x unbegun
 
 -- with no step made, round 0 begins with the initial store
 pub traced-initial : {a : Accepted} → IsAccepted a → (guesses : List Store) → length guesses ≡ jobTotal a
@@ -65,7 +56,7 @@ traced-initial {a} ok guesses long starts = record {
   locals = λ k d lt. absurd (omega arith);
   endings = λ x lt. ap (λ (c : Column). c .ended) (start-column a guesses x) ∙ sym (no-flag 32 x);
   failures = λ x lt. ap (λ (c : Column). c .failed) (start-column a guesses x) ∙ sym (no-flag 32 x);
-  none-yet = λ x lt e. none-marked (jobTotal a) x;
+  none-yet = λ x lt e. replicate-any (jobTotal a) x [];
   present = λ lt. ap (λ (c : Columns). getD (c .stores) 0 noStore) (columns-none a (jobTotal a) guesses) ∙ starts lt;
   past = λ q lt inside. absurd (omega arith);
   final = λ q next whole. absurd (omega arith);
@@ -90,30 +81,28 @@ module _ {a : Accepted} (ok : IsAccepted a) {s : State} (inv : Invariant a s) {r
   abbrev effect : Effect
   effect = perform (nextOf a (made .turn .frame)) (byte % 16) (made .turn .frame .local) (s .store)
 
-  after-is : afterEffect s (made .turn) effect ≡ after
-  after-is = sym (performed-is a s (byte % 16) (made .turn)) ∙ made .made
-
   kind : GoesOn s (made .turn) ⊎ Starts s (made .turn)
   kind = turn-kind a s (byte / 16) (made .due)
 
   good : GoodTurn a s (made .turn) × (base a stepJob ≡ byte / 16)
   good = good-turn ok inv (byte / 16) (made .due)
 
-  effect-ended : hasEnded after stepJob ≡ effect .ended
+  -- its job has ended if the step was an End
+  pub effect-ended : hasEnded after stepJob ≡ effect .ended
   effect-ended =
-      ap (λ (next : State). hasEnded next stepJob) (sym after-is) ∙ ended-here ok inv t (good .0) kind (byte % 16) effect refl
+      ap (λ (next : State). hasEnded next stepJob) (sym (step-after made)) ∙ ended-here ok inv t (good .0) kind (byte % 16) effect refl
 
   -- where the step's job has ended, the next round begins with the store left
   pub step-ends : hasEnded after stepJob ≡ true → Traced a after (suc r) (set guesses (suc r) (after .store)) stepMarks (done ++ (byte ∷ []))
   unfolding afterEffect
   step-ends ended =
-      subst (λ (next : State). Traced a next (suc r) (set guesses (suc r) (next .store)) stepMarks (done ++ (byte ∷ []))) after-is
+      subst (λ (next : State). Traced a next (suc r) (set guesses (suc r) (next .store)) stepMarks (done ++ (byte ∷ []))) (step-after made)
       (ends-traced ok inv t (good .0) kind (byte % 16) effect refl (sym effect-ended ∙ ended) byte (byte-parts byte _ (good .1)))
 
   -- else the round goes on
   pub step-goes : hasEnded after stepJob ≡ false → Traced a after r guesses stepMarks (done ++ (byte ∷ []))
   step-goes goes =
-      subst (λ (next : State). Traced a next r guesses stepMarks (done ++ (byte ∷ []))) after-is
+      subst (λ (next : State). Traced a next r guesses stepMarks (done ++ (byte ∷ []))) (step-after made)
       (goes-traced ok inv t (good .0) kind (byte % 16) effect refl (sym effect-ended ∙ goes) byte (byte-parts byte _ (good .1)))
 
 -- every step keeps the trace

@@ -4,10 +4,9 @@ use mathlib.Core.Path.{_≡_, refl, sym, ap, subst, _∙_}
 use mathlib.Core.Logic.{inl, inr}
 use Prim.Native.Nat.{ℕ, suc, _/_, _%_}
 use native.Mathlib.Decide.{ℕ-discrete}
-use native.Mathlib.Omega.{arith}
 use mathlib.Core.Bool.{false}
 use mathlib.Core.List.{List, [], _∷_, _++_}
-use mathlib.Core.Option.{Option, none, some, bind}
+use mathlib.Core.Option.{some, bind, bind-eq-some-iff}
 use Rattle.taskfile.specs.Lists.{if_then_else_}
 use Rattle.taskfile.specs.Tests.{decided}
 use Rattle.timing.specs.declared.Job.{Job}
@@ -17,29 +16,24 @@ use Rattle.machine.specs.Instructions.{perform}
 use Rattle.order.specs.Invariant.{Invariant}
 use Rattle.order.specs.Orders.{nextOf, step, run}
 use Rattle.order.specs.States.{State, hasEnded}
-use Rattle.order.specs.StepLaws.{GoodTurn, good-turn, performed-is, ended-other, Step, step-says, step-keeps}
+use Rattle.order.specs.StepLaws.{GoodTurn, good-turn, ended-other, Step, step-says, step-keeps}
 use Rattle.matching.specs.EndedLaws.{ended-same, ended-more}
 use Rattle.matching.specs.Histories.{job}
 use Rattle.matching.specs.Traces.{endedCount}
 use Rattle.matching.specs.TraceSteps.{Trace, traced, traceFrom}
+use Rattle.matching.specs.TurnTraceLaws.{step-after}
 
 -- ---- runs
-
--- where a bound option is some, so is the first
-bind-is : {A B : Type 0} (o : Option A) (f : A → Option B) {z : B} → bind o f ≡ some z → (y : A) × (o ≡ some y) × (f y ≡ some z)
-unfolding bind
-bind-is none f e = absurd (let z : _≡_ {A = ℕ} 0 1 = cc in omega arith)
-bind-is (some y) f e = (y, refl, e)
 
 pub some-same : {A : Type 0} {x y : A} → some x ≡ some y → x ≡ y
 some-same e = cc
 
 module _ (a : Accepted) where
   -- a run's first byte is a step, and the others run on from there
-  run-first : (s : State) (byte : ℕ) (bytes : List ℕ) {mid : State} → run a s (byte ∷ bytes) ≡ some mid
-      → (next : State) × (step a s byte ≡ some next) × (run a next bytes ≡ some mid)
+  pub run-first : (s : State) (byte : ℕ) (bytes : List ℕ) {end : State} → run a s (byte ∷ bytes) ≡ some end
+      → (next : State) × (step a s byte ≡ some next) × (run a next bytes ≡ some end)
   unfolding run
-  run-first s byte bytes e = bind-is (step a s byte) (λ next. run a next bytes) e
+  run-first s byte bytes e = bind-eq-some-iff (step a s byte) (λ next. run a next bytes) .0 e
 
   run-on : (s : State) (byte : ℕ) (bytes : List ℕ) {next : State} → step a s byte ≡ some next → run a s (byte ∷ bytes) ≡ run a next bytes
   unfolding run bind
@@ -71,7 +65,7 @@ more-invariant ok bytes inv ran byte e =
 -- ---- the round after a step
 
 -- the round after a step of the job x
-unfoldable roundAfter : ℕ → State → Job → ℕ
+unfoldable pub roundAfter : ℕ → State → Job → ℕ
 roundAfter r after x = if hasEnded after x then suc r else r
 
 module _ {a : Accepted} (ok : IsAccepted a) {s : State} (inv : Invariant a s) {byte : ℕ} {after : State} (made : Step a s byte after) where
@@ -82,10 +76,10 @@ module _ {a : Accepted} (ok : IsAccepted a) {s : State} (inv : Invariant a s) {b
   good = good-turn ok inv (byte / 16) (made .due) .0
 
   -- the step leaves the other jobs as they were
-  others-same : (y : Job) → (y .0 ≡ x .0 → ⊥) → hasEnded after y ≡ hasEnded s y
+  pub others-same : (y : Job) → (y .0 ≡ x .0 → ⊥) → hasEnded after y ≡ hasEnded s y
   others-same y apart =
       let effect = perform (nextOf a (made .turn .frame)) (byte % 16) (made .turn .frame .local) (s .store) in
-      ap (λ (z : State). hasEnded z y) (sym (made .made) ∙ performed-is a s (byte % 16) (made .turn))
+      ap (λ (z : State). hasEnded z y) (sym (step-after made))
       ∙ ended-other ok inv good effect y apart
 
   -- where its job goes on, all are as they were
@@ -109,7 +103,7 @@ module _ {a : Accepted} (ok : IsAccepted a) {s : State} (inv : Invariant a s) {b
 -- ---- the trace
 
 -- the trace after the first step
-trace-first : (a : Accepted) (s : State) (r : ℕ) (t : Trace) (byte : ℕ) (bytes : List ℕ) {after : State} → (made : Step a s byte after)
+pub trace-first : (a : Accepted) (s : State) (r : ℕ) (t : Trace) (byte : ℕ) (bytes : List ℕ) {after : State} → (made : Step a s byte after)
     → let x = made .turn .frame .job in
     traceFrom a s r t (byte ∷ bytes)
     ≡ traceFrom a after (roundAfter r after x) (traced r (x .0) (byte % 16) (hasEnded after x) (after .store) t) bytes

@@ -176,15 +176,15 @@ module _ (a : Accepted) where
 -- ---- the plan
 
 -- there are n guesses, the known one first
-guess-length : (store : Store) (n : ℕ) → length (firstGuess store n) ≡ n
+pub guess-length : (store : Store) (n : ℕ) → length (firstGuess store n) ≡ n
 unfolding firstGuess
 guess-length store zero = refl
 guess-length store (suc n) = ap suc (length-replicate n [])
 
-guess-first : (store : Store) (n : ℕ) → 0 < n → getD (firstGuess store n) 0 [] ≡ store
+pub first-guess : (store : Store) (n : ℕ) (d : Store) → 0 < n → getD (firstGuess store n) 0 d ≡ store
 unfolding firstGuess
-guess-first store zero lt = absurd (omega arith)
-guess-first store (suc n) lt = refl
+first-guess store zero d lt = absurd (omega arith)
+first-guess store (suc n) d lt = refl
 
 -- a job's bytes are those of its marks
 bytes-noted : (steps : List Noted) (x : ℕ) → jobBytes steps (job x) ≡ marksBytes (map noted (stepsOfJob x steps))
@@ -231,7 +231,7 @@ module _ (a : Accepted) (order : List ℕ) where
   guess-at : jobTotal a ≤ suc (length (historyFrom a (initial a) 0 order .stores)) → (i : ℕ) → i < jobTotal a
       → getD (a .table .store ∷ historyFrom a (initial a) 0 order .stores) i [] ≡ getD (traceOf a order .guesses) i []
   unfolding startTrace
-  guess-at enough zero lt = sym (traced-whole .kept 0 (omega arith) ∙ guess-first (a .table .store) (jobTotal a) lt)
+  guess-at enough zero lt = sym (traced-whole .kept 0 (omega arith) ∙ first-guess (a .table .store) (jobTotal a) [] lt)
   guess-at enough (suc i) lt =
       let place : suc 0 + i ≡ suc i = omega arith in
       sym (rw place at (traced-whole .stores i (omega arith) (omega (arith, guess-length (a .table .store) (jobTotal a)))))

@@ -1,14 +1,15 @@
 -- What the turn of a byte is to the active jobs: the one started last, or a fresh start over them all; and the active jobs other than the
--- turn's have lower numbers.
+-- turn's have lower numbers. A step is what the turn's instruction does.
 -- Assumes nothing.
-use mathlib.Core.Path.{_≡_, refl, subst}
+use mathlib.Core.Path.{_≡_, refl, sym, ap, subst, _∙_}
 use mathlib.Core.Logic.{_⊎_, inl, inr}
-use Prim.Native.Nat.{ℕ, _<_}
+use Prim.Native.Nat.{ℕ, _<_, _%_}
 use native.Mathlib.Omega.{arith}
 use mathlib.Core.Bool.{Bool, true, false, false≢true, _&&_}
 use mathlib.Core.List.{List, [], _∷_}
 use mathlib.Core.Option.{some}
 use lib.Dec.{eqb}
+use lib.ListN.{getD}
 use borrow.Author.Tests.{eqb-true}
 use Rattle.taskfile.specs.Lists.{if_then_else_, any, firstWith}
 use Rattle.taskfile.specs.Pairs.{Every}
@@ -19,12 +20,12 @@ use Rattle.timing.specs.AcceptedLaws.{IsAccepted}
 use Rattle.timing.specs.JobNumberLaws.{first-job}
 use Rattle.timing.specs.RelationLaws.{preempts-lower}
 use Rattle.timing.specs.Relations.{base, jobNumbers}
-use Rattle.machine.specs.Instructions.{fresh}
+use Rattle.machine.specs.Instructions.{fresh, perform}
 use Rattle.order.specs.declared.Frame.{Frame}
 use Rattle.order.specs.Invariant.{Over, Running, hasBegun}
-use Rattle.order.specs.Orders.{Turn, startOf, turnAmong, turnOf}
+use Rattle.order.specs.Orders.{Turn, startOf, turnAmong, turnOf, nextOf}
 use Rattle.order.specs.States.{State, isActive, mayStart}
-use Rattle.order.specs.StepLaws.{GoodTurn, start-says, map-some}
+use Rattle.order.specs.StepLaws.{GoodTurn, start-says, map-some, Step, afterEffect, performed-is, flag-other}
 
 -- the turn of the active job started last
 abbrev pub GoesOn : State → Turn → Type 0
@@ -84,3 +85,18 @@ module _ {a : Accepted} (ok : IsAccepted a) {s : State} {turn : Turn} (good : Go
   -- so an active job other than the turn's has a lower number
   pub active-lower : (y : Job) → (y .0 ≡ turn .frame .job .0 → ⊥) → isActive s y ≡ true → y .0 < turn .frame .job .0
   active-lower y apart h = found-lower (y .0) (turn .frame .job .0) (turn .under) under-lower (good .kept y apart h)
+
+-- ---- a step by its turn
+
+module _ {a : Accepted} {s : State} {byte : ℕ} {after : State} (made : Step a s byte after) where
+  -- the step is what its instruction does to the state
+  pub step-after : afterEffect s (made .turn) (perform (nextOf a (made .turn .frame)) (byte % 16) (made .turn .frame .local) (s .store)) ≡ after
+  step-after = sym (performed-is a s (byte % 16) (made .turn)) ∙ made .made
+
+  -- it raises no other job's flag
+  pub step-failed : (y : ℕ) → (y ≡ made .turn .frame .job .0 → ⊥) → getD (after .failed) y false ≡ getD (s .failed) y false
+  unfolding afterEffect
+  step-failed y apart =
+      let effect = perform (nextOf a (made .turn .frame)) (byte % 16) (made .turn .frame .local) (s .store) in
+      ap (λ (z : State). getD (z .failed) y false) (sym step-after)
+      ∙ flag-other (effect .failed) (made .turn .frame .job .0) y (s .failed) apart

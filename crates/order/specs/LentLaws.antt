@@ -30,7 +30,7 @@ use Rattle.timing.specs.Relations.{noJob, jobAt, base}
 use Rattle.timing.specs.TimeableLaws.{tasks-length, task-read}
 use Rattle.timing.specs.JobFacts.{jobs-few}
 use Rattle.order.specs.LengthLaws.{body-short}
-use Rattle.order.specs.SnapshotLaws.{Lends}
+use Rattle.order.specs.Shows.{Lends}
 use Rattle.order.specs.SnapshotSteps.{ownerIn, instructionIn, arrivalIn, latestIn}
 
 -- the first n of the 128 instructions are the table's

@@ -8,9 +8,12 @@ pub mod Replay
 pub mod ReplayEntryLaws
 pub mod ReplayLaws
 pub mod ReplayLoopLaws
+pub mod Shows
 pub mod SnapshotLaws
 pub mod SnapshotSteps
+pub mod StartAgreed
 pub mod StartLaws
 pub mod States
 pub mod StepLaws
+pub mod TurnAgreed
 pub mod TurnLaws

@@ -28,7 +28,7 @@ use Rattle.order.specs.LentLaws.{OwnersTo, TimesTo, lent}
 use Rattle.order.specs.Orders.{endOf}
 use Rattle.order.specs.Replay.{replayFrom, replay, replayed, replayAnswer}
 use Rattle.order.specs.ReplayLaws.{ReplayedAs, Fault, first-shown, replay-agreed, replay-fault}
-use Rattle.order.specs.SnapshotLaws.{Shows}
+use Rattle.order.specs.Shows.{Shows}
 use Rattle.order.specs.SnapshotSteps.{replayIn, firstSnapshot}
 use Rattle.order.specs.States.{State, initial}
 use Rattle.order.specs.StepLaws.{initial-invariant}

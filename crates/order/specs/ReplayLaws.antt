@@ -31,7 +31,8 @@ use Rattle.order.specs.LengthLaws.{left, step-left, left-most}
 use Rattle.order.specs.Orders.{step}
 use Rattle.taskfile.specs.QuantifierLaws.{map-length, map-at}
 use Rattle.order.specs.Replay.{legal, replayFrom}
-use Rattle.order.specs.SnapshotLaws.{Lends, Shows, base-rises, base-small, step-agreed, finished-agreed}
+use Rattle.order.specs.Shows.{Lends, Shows, base-rises, base-small}
+use Rattle.order.specs.SnapshotLaws.{step-agreed, finished-agreed}
 use Rattle.order.specs.SnapshotSteps.{ownerIn, stackOf, stepIn, finishedIn, replayIn, firstFrom, firstSnapshot}
 use Rattle.timing.specs.AcceptedLaws.{IsAccepted}
 use Rattle.order.specs.States.{State, initial, hasEnded, isActive, allEnded}

@@ -13,7 +13,7 @@ use Rattle.timing.specs.Accepted.{Accepted}
 use Rattle.timing.specs.AcceptedLaws.{IsAccepted}
 use Rattle.order.specs.Invariant.{Invariant}
 use Rattle.order.specs.Orders.{step}
-use Rattle.order.specs.SnapshotLaws.{base-small}
+use Rattle.order.specs.Shows.{base-small}
 use Rattle.order.specs.States.{State}
 use Rattle.order.specs.StepLaws.{good-turn, step-says}
 use Rattle.walk.specs.MoveLaws.{moves-ascend, move-is-step, step-is-move}

@@ -16,10 +16,12 @@ use Rattle.machine.specs.Ends.{orderRoom}
 use Rattle.order.specs.Orders.{run, endOf, Complete}
 use Rattle.order.specs.States.{State, initial}
 use Rattle.order.specs.StepLaws.{initial-invariant}
+use Rattle.walk.specs.CountLaws.{from-counted, initial-sound}
+use Rattle.walk.specs.ListedLaws.{from-listed, listed-from, from-ascends}
 use Rattle.walk.specs.PathLaws.{path-listed, listed-path, from-once}
 use Rattle.walk.specs.Paths.{Lex, Sooner, paths}
 use Rattle.walk.specs.WalkEntry.{decided, decidedAnswer}
-use Rattle.walk.specs.WalkLaws.{from-listed, listed-from, from-ascends, from-first, from-counted, initial-sound, undecided-when}
+use Rattle.walk.specs.WalkLaws.{from-first, undecided-when}
 use Rattle.walk.specs.Walks.{Found, fails, orders, walk}
 
 pub record Demand2 (a : Accepted) : Type 0 where

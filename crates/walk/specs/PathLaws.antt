@@ -19,10 +19,11 @@ use Rattle.order.specs.LengthLaws.{order-short}
 use Rattle.order.specs.Orders.{run}
 use Rattle.order.specs.States.{State, initial, allEnded}
 use Rattle.order.specs.StepLaws.{step-keeps, initial-invariant}
+use Rattle.walk.specs.CaseLaws.{paths-end, paths-cut, paths-on, end-steps, run-first, run-on}
+use Rattle.walk.specs.ListedLaws.{lex-apart, lex-first, lex-later, every-listed}
 use Rattle.walk.specs.MoveLaws.{moves-ascend, move-is-step, step-is-move}
 use Rattle.walk.specs.Moves.{Move, moves}
 use Rattle.walk.specs.Paths.{Sooner, pathsThrough, pathsFrom, paths}
-use Rattle.walk.specs.WalkLaws.{paths-end, paths-cut, paths-on, end-steps, run-first, run-on, lex-apart, lex-first, lex-later, every-listed}
 
 -- ---- the beginnings of orders are the paths
 

@@ -33,7 +33,7 @@ use Rattle.machine.specs.Ends.{orderRoom, noStore, noFlags, filled}
 use Rattle.order.specs.declared.Snapshot.{Snapshot}
 use Rattle.order.specs.LentLaws.{OwnersTo, TimesTo, lent}
 use Rattle.order.specs.ReplayLaws.{first-shown}
-use Rattle.order.specs.SnapshotLaws.{Shows}
+use Rattle.order.specs.Shows.{Shows}
 use Rattle.order.specs.SnapshotSteps.{firstSnapshot}
 use Rattle.order.specs.States.{initial}
 use Rattle.order.specs.StepLaws.{initial-invariant}

@@ -15,7 +15,7 @@ use Rattle.machine.specs.Ends.{noStore, noFlags}
 use Rattle.order.specs.declared.Frame.{Frame}
 use Rattle.order.specs.declared.Snapshot.{Snapshot}
 use Rattle.order.specs.Invariant.{Invariant}
-use Rattle.order.specs.SnapshotLaws.{Lends, Shows}
+use Rattle.order.specs.Shows.{Lends, Shows}
 use Rattle.order.specs.SnapshotSteps.{ownerIn, ownedBy, instructionIn, topOf, turnIn, stepIn}
 use Rattle.order.specs.States.{State}
 use Rattle.steps.specs.StepParts.{offeredIn}

@@ -1,5 +1,6 @@
 use Prim.Native.Nat.{ℕ, _+_, _-_, _*_, _<_}
-use Rattle.walk.specs.TrialLaws.{Trying, trying-starts, stops-answer, ends-answer, finds-answer, cut-answer, on-answer, ended-answer, none-left-answer, tried-answer, move-bounds}
+use Rattle.walk.specs.AnswerLaws.{stops-answer, ends-answer, finds-answer, cut-answer, on-answer, ended-answer, none-left-answer, tried-answer, move-bounds}
+use Rattle.walk.specs.TryingLaws.{Trying, trying-starts}
 use mathlib.Core.Path.{sym, _∙_}
 use lib.ListN.{length-set}
 use native.Mathlib.Omega.{arith}
