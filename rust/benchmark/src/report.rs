@@ -173,9 +173,10 @@ The file is read first, by either side. The order of 512 steps is a complete one
 Tables whose walk holds after about 20,000,000 moves, so that every move of the tree is made. The
 other side is not the interpreter but a straightforward walker in Rust,
 `rust/benchmark/src/walker.rs`: over the same lent tables, by recursion, with one copy of the state a
-move, and built without overflow checks. The ratio is the proved walk's time by the walker's, each
-the median of {WALK_TURNS} walks in turn; both give one verdict and count. The proved walk's time has
-the reading of the file in it.
+move, and built without overflow checks. It tests every task in full, where the proved walk passes
+over tasks below the running job's and tasks with no job left. The ratio is the proved walk's time by
+the walker's, each the median of {WALK_TURNS} walks in turn; both give one verdict and count. The proved
+walk's time has the reading of the file in it.
 
 {walk_table}
 {stack}"
