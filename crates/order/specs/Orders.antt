@@ -79,3 +79,9 @@ pub record Complete (a : Accepted) (order : List ℕ) (s : State) : Type 0 where
   pub allowed : run a (initial a) order ≡ some s
   pub finished : allEnded a s ≡ true
   pub short : length order ≤ orderRoom
+
+-- a complete order, and how it ends: "It ends with the store left and the failed jobs, those with a failed assertion noted."
+pub record OrderEnds (a : Accepted) (order : List ℕ) (e : End) : Type 0 where
+  pub after : State
+  pub complete : Complete a order after
+  pub ends : endOf after ≡ e

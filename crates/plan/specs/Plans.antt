@@ -26,6 +26,12 @@ endOf a runs = record { store = lastOr (a .table .store) (runs .running .stores)
 abbrev pub Legal : Accepted → Plan → JobRuns → Type 0
 Legal a plan runs = legalRun a plan ≡ passed runs
 
+-- a legal plan, and how it ends: "A plan ends with that store and the jobs its run noted as failed."
+pub record PlanEnds (a : Accepted) (plan : Plan) (e : End) : Type 0 where
+  pub runs : JobRuns
+  pub legal : Legal a plan runs
+  pub ends : endOf a runs ≡ e
+
 unfoldable pub checkPlan : Accepted → Plan → Checked ℕ End
 checkPlan a plan = do
   runs ← legalRun a plan
