@@ -13,7 +13,7 @@ use timing::JobList;
 use timing::ReadAnswer;
 ghost use mathlib.Core.Path.{_≡_};
 ghost use Rattle.timing.specs.Accepted.{accept};
-ghost use Rattle.timing.specs.AcceptParts.{AcceptedAs};
+ghost use Rattle.timing.specs.Code.AcceptParts.{AcceptedAs};
 ghost use Rattle.timing.specs.ReadEntries.{readAnswer};
 
 // The answer of a file that is refused: no response time and no job.

@@ -9,11 +9,11 @@ use timing::JobRecord;
 ghost use mathlib.Core.Path.{_≡_};
 ghost use mathlib.Core.List.{List, [], _∷_, _++_, map};
 ghost use Prim.Native.Nat.{_+_, _^_, _≤_, _<_};
-ghost use Rattle.taskfile.specs.Lists.{upTo};
+ghost use Rattle.notation.specs.Lists.{upTo};
 ghost use Rattle.timing.specs.declared.JobRecord.{JobRecord};
 ghost use Rattle.timing.specs.Jobs.{jobsWithin, jobCount, jobOf, jobsOf};
-ghost use Rattle.timing.specs.JobParts.{jobListOf, WithinPeriods};
-ghost use Rattle.timing.specs.ResponseParts.{Timeable};
+ghost use Rattle.timing.specs.Code.JobParts.{jobListOf, WithinPeriods};
+ghost use Rattle.timing.specs.Code.ResponseParts.{Timeable};
 
 // How many jobs of a task arrive before the window ends.
 pub fn jobs_within(window: u32, e: TaskEntry) -> u64

@@ -5,7 +5,7 @@ use timing::JobRecord;
 ghost use mathlib.Core.Path.{_≡_};
 ghost use Prim.Native.Nat.{_<_};
 ghost use Rattle.timing.specs.Accepted.{Accepted};
-ghost use Rattle.timing.specs.JobParts.{jobListOf};
+ghost use Rattle.timing.specs.Code.JobParts.{jobListOf};
 ghost use Rattle.timing.specs.Relations.{jobAt, before, mayPreempt};
 
 // The record of job x: its task, its arrival and its latest finish.

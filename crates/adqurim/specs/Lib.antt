@@ -1,3 +1,2 @@
-pub mod SizeLaws
+pub mod Laws
 pub mod Words
-pub mod WordsLaws

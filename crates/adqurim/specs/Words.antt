@@ -5,7 +5,7 @@ use mathlib.Core.Bool.{Bool, true, false}
 use mathlib.Core.List.{List, [], _∷_, _++_, map}
 use lib.ListN.{length, drop}
 use lib.Dec.{leb}
-use Rattle.taskfile.specs.Lists.{if_then_else_}
+use Rattle.notation.specs.Lists.{if_then_else_}
 use Rattle.timing.specs.declared.ReadAnswer.{ReadAnswer}
 use Rattle.machine.specs.declared.RunAnswer.{RunAnswer}
 use Rattle.walk.specs.declared.Verdict.{Verdict}

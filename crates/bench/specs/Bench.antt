@@ -6,7 +6,7 @@ use Prim.Native.Nat.{ℕ}
 use mathlib.Core.Bool.{Bool, true, false}
 use mathlib.Core.List.{List, [], _∷_, _++_}
 use lib.ListN.{replicate}
-use Rattle.taskfile.specs.Checked.{Checked, refused, passed}
+use Rattle.notation.specs.Checked.{Checked, refused, passed}
 use Rattle.taskfile.specs.Records.{File}
 use Rattle.timing.specs.declared.Job.{Job}
 use Rattle.timing.specs.declared.ReadAnswer.{ReadAnswer}
@@ -23,8 +23,8 @@ use Rattle.walk.specs.WalkEntry.{walkAnswer, walkAfter, refusal}
 use Rattle.plan.specs.Plans.{planAnswer}
 use Rattle.matching.specs.ConversionEntries.{orderToPlanAnswer, orderToPlanAfter, planToOrderAnswer, planToOrderAfter}
 use Rattle.bench.specs.Files.{oneTask, twoTasks, tableX}
-use Rattle.bench.specs.Opened.{opened}
-use Rattle.bench.specs.Overload.{p4}
+use Rattle.bench.specs.Laws.Opened.{opened}
+use Rattle.bench.specs.Laws.Overload.{p4}
 
 -- ---- what the rows say, in short words
 

@@ -1,4 +1,3 @@
 pub mod Bench
 pub mod Files
-pub mod Opened
-pub mod Overload
+pub mod Laws

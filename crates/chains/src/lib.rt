@@ -13,9 +13,9 @@ ghost use Prim.Native.Nat.{ℕ, _≤_};
 ghost use lib.ListN.{length};
 ghost use Rattle.taskfile.specs.declared.Kind.the-variants.{TaskRecord};
 ghost use Rattle.taskfile.specs.Chains.{recordOf, follow, chain, bodyChain, taskChains, recordsOf, chainsOf};
-ghost use Rattle.taskfile.specs.Checked.{noneOf};
-ghost use Rattle.taskfile.specs.Lists.{upTo, member};
-ghost use Rattle.taskfile.specs.Reading.{checkOf, marks, ChainedAs};
+ghost use Rattle.notation.specs.Checked.{noneOf};
+ghost use Rattle.notation.specs.Lists.{upTo, member};
+ghost use Rattle.taskfile.specs.Code.Reading.{checkOf, marks, ChainedAs};
 ghost use Rattle.taskfile.specs.Records.{records};
 
 // 2 and 4 at a record.

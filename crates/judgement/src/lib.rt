@@ -11,11 +11,11 @@ ghost use mathlib.Core.List.{map};
 ghost use Prim.Native.Nat.{_≤_, _<_};
 ghost use lib.ListN.{length, getD, take};
 ghost use Rattle.taskfile.specs.declared.Site.the-variants.{AtTask};
-ghost use Rattle.taskfile.specs.Checked.{noneOf};
+ghost use Rattle.notation.specs.Checked.{noneOf};
 ghost use Rattle.taskfile.specs.Judgement.{taskNumbers, instructionSites, ofInstruction, ofTask, bodyFault, rateFault, ceilingFault, judged};
-ghost use Rattle.taskfile.specs.JudgingParts.{Shaped, ShapedEntry, foundOf, bodyFaultIn, ceilingFaultIn};
-ghost use Rattle.taskfile.specs.Lists.{firstWith, upTo};
-ghost use Rattle.taskfile.specs.Reading.{judgedOf};
+ghost use Rattle.taskfile.specs.Code.JudgingParts.{Shaped, ShapedEntry, foundOf, bodyFaultIn, ceilingFaultIn};
+ghost use Rattle.notation.specs.Lists.{firstWith, upTo};
+ghost use Rattle.taskfile.specs.Code.Reading.{judgedOf};
 ghost use Rattle.taskfile.specs.Tables.{bodyOf, endInstruction};
 
 // Is the instruction at position p the last and not End, or a skip beyond the last?

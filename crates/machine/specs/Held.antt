@@ -8,7 +8,7 @@ use mathlib.Core.Bool.{Bool}
 use mathlib.Core.List.{List, [], _∷_}
 use lib.ListN.{length, getD, set, replicate}
 use lib.Dec.{ltb}
-use Rattle.taskfile.specs.Lists.{if_then_else_}
+use Rattle.notation.specs.Lists.{if_then_else_}
 
 abbrev pub Held : Type 0
 Held = List ℕ

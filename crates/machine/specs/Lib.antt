@@ -1,7 +1,5 @@
-pub mod BodyLaws
+pub mod Buffers
 pub mod Ends
 pub mod Held
-pub mod HeldLaws
-pub mod InstructionLaws
 pub mod Instructions
-pub mod ValueLaws
+pub mod Laws

@@ -1,9 +1,4 @@
 // Instructions: what a job keeps of its own while it runs, and what one instruction does. Document 01, "Instructions".
-pub mod answers;
-pub mod held;
-pub mod locals;
-pub mod operations;
-pub mod values;
 
 // A job's own state: the position of its next instruction, registers 0 to 3, and for each lock 1 if the
 // job holds it, else 0.

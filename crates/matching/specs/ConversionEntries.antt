@@ -5,11 +5,11 @@ use Prim.Native.Nat.{ℕ}
 use mathlib.Core.List.{List}
 use lib.ListN.{length}
 use lib.Dec.{leb}
-use Rattle.taskfile.specs.Checked.{Checked, require, _>>=_, _>>_}
+use Rattle.notation.specs.Checked.{Checked, require, _>>=_, _>>_}
 use Rattle.taskfile.specs.Records.{File}
 use Rattle.timing.specs.Accepted.{accept}
 use Rattle.machine.specs.declared.RunAnswer.{RunAnswer}
-use Rattle.machine.specs.Ends.{Written, runAnswer, bufferAfter, orderRoom, planRoom}
+use Rattle.machine.specs.Buffers.{Written, runAnswer, bufferAfter, orderRoom, planRoom}
 use Rattle.plan.specs.Runs.{Plan}
 use Rattle.matching.specs.Conversions.{orderToPlan, planToOrder}
 

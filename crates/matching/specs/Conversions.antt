@@ -9,12 +9,13 @@ use mathlib.Core.List.{List, [], _∷_, _++_, map}
 use mathlib.Core.Option.{Option, none, some}
 use lib.ListN.{length, take}
 use lib.Dec.{eqb}
-use Rattle.taskfile.specs.Checked.{Checked, passed, _>>=_, _>>_}
-use Rattle.taskfile.specs.Lists.{if_then_else_, upTo, only, each}
+use Rattle.notation.specs.Checked.{Checked, passed, _>>=_, _>>_}
+use Rattle.notation.specs.Lists.{if_then_else_, upTo, only, each}
 use Rattle.timing.specs.declared.Job.{Job}
 use Rattle.timing.specs.Accepted.{Accepted}
 use Rattle.timing.specs.Relations.{base, jobNumbers}
-use Rattle.machine.specs.Ends.{End, Written}
+use Rattle.machine.specs.Ends.{End}
+use Rattle.machine.specs.Buffers.{Written}
 use Rattle.machine.specs.Instructions.{Store}
 use Rattle.order.specs.Orders.{Turn, turnOf, performed}
 use Rattle.order.specs.Replay.{replay}

@@ -7,12 +7,13 @@ use mathlib.Core.Path.{_≡_, refl, sym, ap, _∙_}
 use mathlib.Core.Logic.{_↔_}
 use Prim.Native.Nat.{ℕ}
 use mathlib.Core.List.{List}
-use Rattle.taskfile.specs.Checked.{passed, _>>=_}
-use Rattle.taskfile.specs.CheckedLaws.{passed-same, bind-passed}
+use Rattle.notation.specs.Checked.{passed, _>>=_}
+use Rattle.notation.specs.Laws.CheckedLaws.{passed-same, bind-passed}
 use Rattle.timing.specs.Accepted.{Accepted}
-use Rattle.timing.specs.AcceptedLaws.{IsAccepted}
-use Rattle.machine.specs.Ends.{End, Written}
-use Rattle.order.specs.CompleteLaws.{complete-ends, replay-complete}
+use Rattle.timing.specs.Code.IsAccepted.{IsAccepted}
+use Rattle.machine.specs.Ends.{End}
+use Rattle.machine.specs.Buffers.{Written}
+use Rattle.order.specs.Laws.CompleteLaws.{complete-ends, replay-complete}
 use Rattle.order.specs.Orders as order-specs
 use Rattle.order.specs.Orders.{Complete}
 use Rattle.order.specs.Replay.{replay}
@@ -20,8 +21,8 @@ use Rattle.order.specs.States.{State}
 use Rattle.plan.specs.Plans.{Legal, legalRun, endOf}
 use Rattle.plan.specs.Runs.{Plan, JobRuns}
 use Rattle.matching.specs.Conversions.{planOf, orderToPlan, orderOf, planToOrder}
-use Rattle.matching.specs.OrderPlanned.{runsOf, order-planned}
-use Rattle.matching.specs.PlanOrdered.{planned-order}
+use Rattle.matching.specs.Laws.OrderPlanned.{runsOf, order-planned}
+use Rattle.matching.specs.Laws.PlanOrdered.{planned-order}
 
 pub record Demand3 (a : Accepted) : Type 0 where
   -- the conversions accept exactly the complete orders and the legal plans, with their ends

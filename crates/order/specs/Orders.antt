@@ -12,11 +12,12 @@ use lib.ListN.{length}
 use lib.Dec.{eqb}
 use Rattle.taskfile.specs.declared.Instruction.{Instruction}
 use Rattle.taskfile.specs.Judgement.{instructionOf}
-use Rattle.taskfile.specs.Lists.{if_then_else_, member, firstWith}
+use Rattle.notation.specs.Lists.{if_then_else_, member, firstWith}
 use Rattle.timing.specs.declared.Job.{Job}
 use Rattle.timing.specs.Accepted.{Accepted}
 use Rattle.timing.specs.Relations.{base, jobAt, jobNumbers}
-use Rattle.machine.specs.Ends.{End, flagged, orderRoom}
+use Rattle.machine.specs.Ends.{End, flagged}
+use Rattle.machine.specs.Buffers.{orderRoom}
 use Rattle.machine.specs.declared.Effect.{Effect}
 use Rattle.machine.specs.Instructions.{fresh, values, perform}
 use Rattle.order.specs.declared.Frame.{Frame}

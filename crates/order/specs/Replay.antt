@@ -5,11 +5,12 @@ use Prim.Native.Nat.{ℕ, suc}
 use mathlib.Core.Bool.{Bool, not}
 use mathlib.Core.List.{List, [], _∷_}
 use mathlib.Core.Option.{Option, none, some}
-use Rattle.taskfile.specs.Checked.{Checked, refused, passed, require, _>>=_, _>>_}
+use Rattle.notation.specs.Checked.{Checked, refused, passed, require, _>>=_, _>>_}
 use Rattle.taskfile.specs.Records.{File}
 use Rattle.timing.specs.Accepted.{Accepted, accept}
 use Rattle.machine.specs.declared.RunAnswer.{RunAnswer}
-use Rattle.machine.specs.Ends.{End, runAnswer, unwritten}
+use Rattle.machine.specs.Ends.{End}
+use Rattle.machine.specs.Buffers.{runAnswer, unwritten}
 use Rattle.order.specs.States.{State, initial, allEnded}
 use Rattle.order.specs.Orders.{step, endOf}
 

@@ -7,7 +7,7 @@ use mathlib.Core.Bool.{Bool, false, not, _&&_, _||_}
 use mathlib.Core.List.{List, [], _∷_}
 use lib.ListN.{getD}
 use lib.Dec.{ltb, eqb}
-use Rattle.taskfile.specs.Lists.{all, any}
+use Rattle.notation.specs.Lists.{all, any}
 use Rattle.taskfile.specs.Tables.{ceilingsOf}
 use Rattle.timing.specs.declared.Job.{Job}
 use Rattle.timing.specs.Accepted.{Accepted}

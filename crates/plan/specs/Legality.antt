@@ -9,8 +9,8 @@ use mathlib.Core.Bool.{Bool, not, _&&_, _||_}
 use mathlib.Core.List.{List, [], _∷_, map}
 use lib.ListN.{getD}
 use lib.Dec.{leb, ltb}
-use Rattle.taskfile.specs.Checked.{Checked, noneOf, placedBy, _>>_}
-use Rattle.taskfile.specs.Lists.{upTo, all, only, each, same, firstOr, lastOr}
+use Rattle.notation.specs.Checked.{Checked, noneOf, placedBy, _>>_}
+use Rattle.notation.specs.Lists.{upTo, all, only, each, same, firstOr, lastOr}
 use Rattle.timing.specs.declared.Job.{Job}
 use Rattle.timing.specs.Accepted.{Accepted}
 use Rattle.timing.specs.Relations.{base, before, mayPreempt, jobNumbers}

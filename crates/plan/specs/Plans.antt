@@ -3,12 +3,13 @@
 -- Assumes nothing.
 use mathlib.Core.Path.{_≡_}
 use Prim.Native.Nat.{ℕ}
-use Rattle.taskfile.specs.Checked.{Checked, passed, _>>=_, _>>_}
-use Rattle.taskfile.specs.Lists.{lastOr}
+use Rattle.notation.specs.Checked.{Checked, passed, _>>=_, _>>_}
+use Rattle.notation.specs.Lists.{lastOr}
 use Rattle.taskfile.specs.Records.{File}
 use Rattle.timing.specs.Accepted.{Accepted, accept}
 use Rattle.machine.specs.declared.RunAnswer.{RunAnswer}
-use Rattle.machine.specs.Ends.{End, runAnswer, unwritten}
+use Rattle.machine.specs.Ends.{End}
+use Rattle.machine.specs.Buffers.{runAnswer, unwritten}
 use Rattle.plan.specs.Legality.{legality}
 use Rattle.plan.specs.Runs.{Plan, JobRuns, runPlan}
 

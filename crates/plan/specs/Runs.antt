@@ -9,9 +9,9 @@ use mathlib.Core.List.{List, [], _∷_, map}
 use lib.ListN.{length, getD, set, take, drop}
 use lib.Dec.{leb, ltb, eqb}
 use Rattle.taskfile.specs.Chains.{mostInstructions}
-use Rattle.taskfile.specs.Checked.{Checked, passed, require, _>>=_, _>>_}
+use Rattle.notation.specs.Checked.{Checked, passed, require, _>>=_, _>>_}
 use Rattle.taskfile.specs.Judgement.{instructionOf}
-use Rattle.taskfile.specs.Lists.{if_then_else_, upTo, member}
+use Rattle.notation.specs.Lists.{if_then_else_, upTo, member}
 use Rattle.taskfile.specs.Tables.{ceilingsOf}
 use Rattle.timing.specs.declared.Job.{Job}
 use Rattle.timing.specs.Accepted.{Accepted}

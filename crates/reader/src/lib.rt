@@ -10,7 +10,7 @@ use taskfile::LoadAnswer;
 use taskfile::Table;
 use taskfile::TaskEntry;
 ghost use Rattle.taskfile.specs.File.{load, sized};
-ghost use Rattle.taskfile.specs.Reading.{LoadedAs};
+ghost use Rattle.taskfile.specs.Code.Reading.{LoadedAs};
 ghost use Rattle.taskfile.specs.Tables.{emptyTable};
 ghost use mathlib.Core.Path.{_≡_};
 

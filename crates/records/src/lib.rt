@@ -4,7 +4,7 @@ use taskfile::Kind;
 ghost use mathlib.Core.Path.{_≡_};
 ghost use Prim.Native.Nat.{_+_, _≤_};
 ghost use Rattle.taskfile.specs.Records.{byteAt, wideAt, zeroFrom, instructionAt, usesOf, tidyField, fieldInRange, tidyInstruction, instructionInRange, tidy, inRange, kindNumber};
-ghost use Rattle.taskfile.specs.RecordFields.{limitOf, fieldOf};
+ghost use Rattle.taskfile.specs.Code.RecordFields.{limitOf, fieldOf};
 
 // Byte k of record r, or 0 past the file's end.
 pub fn byte_at(file: &[u8], r: u8, k: u8) -> u8

@@ -1,3 +1,1 @@
-pub mod ReadLaws
-pub mod StartBytes
-pub mod StepBytes
+pub mod Laws

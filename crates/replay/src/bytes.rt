@@ -1,94 +1,16 @@
 // The replay of an order.
-use order::Replayed;
-use order::Snapshot;
-use steps::lent::owned_by;
-use steps::states::eight_at;
-use steps::states::frame_at;
-use steps::states::put_eight;
-use steps::step::step;
+use ends::failed_in;
+use ends::finished;
+use snapshots::Replayed;
+use snapshots::Snapshot;
+use states::bytes::eight_at;
+use states::bytes::frame_at;
+use steps::step;
 use taskfile::Ceilings;
-use taskfile::Task;
-use timing::Job;
 ghost use mathlib.Core.Path.{_≡_};
 ghost use Prim.Native.Nat.{_≤_, _<_};
-ghost use Rattle.taskfile.specs.Lists.{any, upTo};
-ghost use Rattle.order.specs.SnapshotSteps.{hasUpcoming, finishedIn, replayIn, firstFrom, firstSnapshot};
-ghost use Rattle.steps.specs.StateBytes.{snapshotIn, IsState};
-
-// The number of the first job of task i or above, or 32.
-pub fn first_upcoming(program: &[u8; 544], i: Task) -> u8
-    requires { ⌜ i .0 < 8 ⌝ }
-    ensures { λ x. ⌜ x ≡ firstFrom (now (program .entry)) (i .0) 0 32 ⌝ }
-{
-    let mut x: u8 = 0;
-    while x < 32 {
-        let owner = program[512 + (x as usize)];
-        if i.0 <= owner {
-            return x;
-        }
-        x += 1;
-    }
-    x
-}
-
-// The state that an order starts from.
-pub fn first_state(program: &[u8; 544], store: [u8; 8]) -> [u8; 192]
-    ensures shown { λ r. ⌜ snapshotIn r ≡ firstSnapshot (now (program .entry)) store ⌝ }
-    ensures whole { λ r. ⌜ IsState r ⌝ }
-{
-    let upcoming = [
-        first_upcoming(program, Task(0)),
-        first_upcoming(program, Task(1)),
-        first_upcoming(program, Task(2)),
-        first_upcoming(program, Task(3)),
-        first_upcoming(program, Task(4)),
-        first_upcoming(program, Task(5)),
-        first_upcoming(program, Task(6)),
-        first_upcoming(program, Task(7)),
-    ];
-    let mut s = [0u8; 192];
-    put_eight(&mut s, 0, store);
-    put_eight(&mut s, 8, upcoming);
-    s
-}
-
-// Has some task a job not yet begun?
-pub fn some_upcoming(program: &[u8; 544], s: &[u8; 192]) -> bool
-    ensures { λ b. ⌜ b ≡ any (hasUpcoming (now (program .entry)) (snapshotIn (now (s .entry)) .upcoming)) (upTo 8) ⌝ }
-{
-    let mut k: u8 = 0;
-    while k < 8 {
-        let x = Job(s[8 + (k as usize)]);
-        if owned_by(program, Task(k), x) {
-            return true;
-        }
-        k += 1;
-    }
-    false
-}
-
-// Have all jobs ended?
-pub fn finished(program: &[u8; 544], s: &[u8; 192]) -> bool
-    ensures { λ b. ⌜ b ≡ finishedIn (now (program .entry)) (snapshotIn (now (s .entry))) ⌝ }
-{
-    if s[48] != 0 {
-        return false;
-    }
-    !some_upcoming(program, s)
-}
-
-// The flags of the failed jobs.
-pub fn failed_in(s: &[u8; 192]) -> [bool; 32]
-    ensures { λ r. ⌜ r ≡ snapshotIn (now (s .entry)) .failed ⌝ }
-{
-    let mut failed = [false; 32];
-    let mut x: usize = 0;
-    while x < 32 {
-        failed[x] = s[16 + x] != 0;
-        x += 1;
-    }
-    failed
-}
+ghost use Rattle.snapshots.specs.Code.SnapshotSteps.{replayIn};
+ghost use Rattle.states.specs.Code.StateBytes.{snapshotIn, IsState};
 
 // The snapshot that a state's bytes hold.
 pub fn snapshot_of(s: &[u8; 192]) -> Snapshot

@@ -1,22 +1,22 @@
 // The replay's entry.
-use crate::bytes::first_state;
 use crate::bytes::replay_from;
-use crate::lending::program_of;
-use crate::lending::times_of;
 use acceptance::entries::accept_file;
+use answers::ended_run;
+use answers::refused_run;
+use lending::arrays::program_of;
+use lending::arrays::times_of;
+use lending::first::first_state;
 use machine::RunAnswer;
-use machine::answers::ended_run;
-use machine::answers::refused_run;
-use order::Replayed;
+use snapshots::Replayed;
 use taskfile::Ceilings;
 use taskfile::Check;
 use taskfile::Table;
 use timing::JobList;
 ghost use mathlib.Core.Path.{_≡_};
 ghost use Prim.Native.Nat.{_≤_};
-ghost use Rattle.taskfile.specs.JudgingParts.{Shaped};
+ghost use Rattle.taskfile.specs.Code.JudgingParts.{Shaped};
 ghost use Rattle.order.specs.Replay.{replayAnswer};
-ghost use Rattle.order.specs.ReplayEntryLaws.{ReplayOf};
+ghost use Rattle.snapshots.specs.Code.ReplayParts.{ReplayOf};
 
 // The replay of an order of a table's jobs.
 pub fn replay_table(t: Table, list: JobList, order: &[u8]) -> Replayed

@@ -1,4 +1,3 @@
 // The replay of an order: an accepted table in the arrays that the steps read, the bytes of an order, and the entry.
 pub mod bytes;
 pub mod entries;
-pub mod lending;

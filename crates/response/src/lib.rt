@@ -16,7 +16,7 @@ ghost use Rattle.taskfile.specs.Judgement.{taskNumbers};
 ghost use Rattle.taskfile.specs.Tables.{tasksOf};
 ghost use Rattle.timing.specs.Accepted.{responsesOf};
 ghost use Rattle.timing.specs.Response.{roundedUp, tasksAbove, interference, responseOf};
-ghost use Rattle.timing.specs.ResponseParts.{Timeable, Column, executionAt, periodAt, Times, TimesOf, boundOf, SumFits, WithTask, ShareOf, LowerBound, AllFit, fitsFrom, ResponsesAs};
+ghost use Rattle.timing.specs.Code.ResponseParts.{Timeable, Column, executionAt, periodAt, Times, TimesOf, boundOf, SumFits, WithTask, ShareOf, LowerBound, AllFit, fitsFrom, ResponsesAs};
 
 // A number of 32 bits as one of 64.
 pub fn wide(x: u32) -> u64

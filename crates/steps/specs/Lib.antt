@@ -1,9 +1,1 @@
-pub mod EffectWrites
-pub mod FrameReads
-pub mod FrameWrites
-pub mod StateBytes
-pub mod StateReads
-pub mod StateWrites
-pub mod StepCases
-pub mod StepParts
-pub mod ValueLists
+pub mod Laws

@@ -1,5 +1,133 @@
-// The step of an order on states in arrays: who may start, whose turn a byte is, and what it comes to.
-pub mod lent;
-pub mod starts;
-pub mod states;
-pub mod step;
+// The step that an order byte asks for.
+use locals::values::on_offer;
+use machine::Effect;
+use operations::perform_instruction;
+use order::Frame;
+use snapshots::Due;
+use starts::start_of;
+use states::bytes::frame_at;
+use states::bytes::put_eight;
+use states::bytes::put_frame;
+use states::lent::instruction_at;
+use states::lent::owned_by;
+use taskfile::Ceilings;
+use taskfile::Task;
+use timing::Job;
+ghost use mathlib.Core.Path.{_≡_};
+ghost use Prim.Native.Nat.{_/_, _%_, _≤_, _<_};
+ghost use mathlib.Core.Bool.{true};
+ghost use Rattle.snapshots.specs.Code.SnapshotSteps.{turnIn, runsIn, afterIn, stepIn};
+ghost use Rattle.states.specs.Code.StateBytes.{snapshotIn, IsState};
+ghost use Rattle.snapshots.specs.Code.StepParts.{offeredIn, madeIn};
+
+// Is the active job started last one of task i? Tasks are below 8, so that no other number is taken for an index.
+pub fn runs(program: &[u8; 544], s: &[u8; 192], i: Task) -> bool
+    requires { ⌜ IsState (now s) ⌝ }
+    ensures { λ b. ⌜ b ≡ runsIn (now (program .entry)) (snapshotIn (now (s .entry))) (i .0) ⌝ }
+{
+    if 8 <= i.0 {
+        return false;
+    }
+    let depth = s[48];
+    if depth == 0 {
+        return false;
+    }
+    let top = (depth - 1) as usize;
+    owned_by(program, i, Job(s[64 + 16 * top]))
+}
+
+// The turn that a byte of task i takes: the active job started last, if it is of that task, else a start.
+pub fn turn_of(
+    program: &[u8; 544],
+    times: &[u64; 64],
+    locks: Ceilings,
+    s: &[u8; 192],
+    i: Task,
+) -> Due
+    requires { ⌜ (locks .count ≤ 8) × IsState (now s) ⌝ }
+    ensures turn { λ d. ⌜ d ≡ turnIn (now (program .entry)) (now (times .entry)) locks (snapshotIn (now (s .entry))) (i .0) ⌝ }
+    ensures bounds { λ d. ⌜ (d .due ≡ true → (d .under < 8) × (d .frame .job .0 < 32)) ⌝ }
+{
+    if runs(program, s, i) {
+        let top = s[48] - 1;
+        return Due {
+            due: true,
+            frame: frame_at(s, top),
+            under: top,
+        };
+    }
+    start_of(program, times, locks, s, i)
+}
+
+// May the job in the frame, of task i, take a step with the value v?
+pub fn offered(program: &[u8; 544], f: Frame, i: Task, v: u8) -> bool
+    requires { ⌜ i .0 < 8 ⌝ }
+    ensures { λ b. ⌜ b ≡ offeredIn (now (program .entry)) f (i .0) v ⌝ }
+{
+    let local = f.local;
+    let next = local.next;
+    if 16 <= next {
+        return false;
+    }
+    on_offer(instruction_at(program, i, next), v)
+}
+
+// Makes of a state what it is after job x of task i has had an effect, with so many active jobs under it.
+pub fn put_effect(s: &mut [u8; 192], x: Job, under: u8, i: Task, effect: Effect)
+    requires { ⌜ IsState (now s) × (x .0 < 32) × (under < 8) × (i .0 < 8) ⌝ }
+    ensures made { λ _. ⌜ snapshotIn (now (s .exit)) ≡ afterIn (snapshotIn (now (s .entry))) x under (i .0) effect ⌝ }
+    ensures whole { λ _. ⌜ IsState (now (s .exit)) ⌝ }
+{
+    let store = effect.store;
+    put_eight(s, 0, store);
+    s[8 + (i.0 as usize)] = x.0 + 1;
+    if effect.failed {
+        s[16 + (x.0 as usize)] = 1;
+    }
+    if effect.ended {
+        s[48] = under;
+        return;
+    }
+    s[48] = under + 1;
+    put_frame(s, under, x, effect.local);
+}
+
+// Makes the step of the job in the frame, of task i, with the value v.
+pub fn step_with(program: &[u8; 544], s: &mut [u8; 192], f: Frame, under: u8, i: Task, v: u8)
+    requires { ⌜ IsState (now s) × (f .job .0 < 32) × (f .local .next < 16) × (under < 8) × (i .0 < 8) ⌝ }
+    ensures made { λ _. ⌜ snapshotIn (now (s .exit)) ≡ madeIn (now (program .entry)) (snapshotIn (now (s .entry))) f under (i .0) v ⌝ }
+    ensures whole { λ _. ⌜ IsState (now (s .exit)) ⌝ }
+{
+    let local = f.local;
+    let instruction = instruction_at(program, i, local.next);
+    let store = [s[0], s[1], s[2], s[3], s[4], s[5], s[6], s[7]];
+    let effect = perform_instruction(instruction, v, local, store);
+    let x = f.job;
+    put_effect(s, x, under, i, effect);
+}
+
+// The step that a byte asks for, 16 times the task and the value, if it is allowed; else nothing changes.
+pub fn step(
+    program: &[u8; 544],
+    times: &[u64; 64],
+    locks: Ceilings,
+    s: &mut [u8; 192],
+    byte: u8,
+) -> bool
+    requires { ⌜ (locks .count ≤ 8) × IsState (now s) ⌝ }
+    ensures allowed { λ b. ⌜ b ≡ stepIn (now (program .entry)) (now (times .entry)) locks (snapshotIn (now (s .entry))) byte .allowed ⌝ }
+    ensures made { λ _. ⌜ snapshotIn (now (s .exit)) ≡ stepIn (now (program .entry)) (now (times .entry)) locks (snapshotIn (now (s .entry))) byte .state ⌝ }
+    ensures whole { λ _. ⌜ IsState (now (s .exit)) ⌝ }
+{
+    let i = Task(byte / 16);
+    let d = turn_of(program, times, locks, s, i);
+    if !d.due {
+        return false;
+    }
+    let f = d.frame;
+    if !offered(program, f, i, byte % 16) {
+        return false;
+    }
+    step_with(program, s, f, d.under, i, byte % 16);
+    true
+}

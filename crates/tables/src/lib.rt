@@ -12,8 +12,8 @@ use taskfile::TaskEntry;
 ghost use mathlib.Core.Path.{_≡_};
 ghost use Prim.Native.Nat.{_≤_};
 ghost use lib.ListN.{length, take, drop};
-ghost use Rattle.taskfile.specs.Reading.{linkedTask, linkedChains};
-ghost use Rattle.taskfile.specs.ReadingParts.{bodyAt, entriesAt, ceilingsAt, linkAfter, siteRecord};
+ghost use Rattle.taskfile.specs.Code.Reading.{linkedTask, linkedChains};
+ghost use Rattle.taskfile.specs.Code.ReadingParts.{bodyAt, entriesAt, ceilingsAt, linkAfter, siteRecord};
 ghost use Rattle.taskfile.specs.Tables.{entryAt, tableAt};
 
 // The body whose first instruction is at `first`, at most 16 instructions; End fills the array up.

@@ -8,8 +8,8 @@ use mathlib.Core.List.{List, [], _∷_, _++_}
 use lib.Dec.{ltb, eqb}
 use Rattle.taskfile.specs.declared.Kind.{Kind}
 use Rattle.taskfile.specs.declared.Kind.the-variants.{Header, TaskRecord, LockRecord, InstructionRecord}
-use Rattle.taskfile.specs.Checked.{Checked, passed, require, noneOf, _>>=_, _>>_}
-use Rattle.taskfile.specs.Lists.{if_then_else_, upTo, member, each}
+use Rattle.notation.specs.Checked.{Checked, passed, require, noneOf, _>>=_, _>>_}
+use Rattle.notation.specs.Lists.{if_then_else_, upTo, member, each}
 use Rattle.taskfile.specs.Records.{File, kindNumber, records, byteAt, next, tidy, inRange}
 
 -- "1 to 8 tasks, 0 to 8 locks, 1 to 16 instructions in a body"

@@ -10,7 +10,7 @@ use Rattle.taskfile.specs.declared.Site.{Site}
 use Rattle.taskfile.specs.declared.Site.the-variants.{AtHeader, AtTask, AtInstruction}
 use Rattle.taskfile.specs.declared.Table.{Table}
 use Rattle.taskfile.specs.Chains.{Chains, TaskChain, chainsOf}
-use Rattle.taskfile.specs.Checked.{Checked, passed, require, placedBy, _>>=_, _>>_}
+use Rattle.notation.specs.Checked.{Checked, passed, require, placedBy, _>>=_, _>>_}
 use Rattle.taskfile.specs.Judgement.{judged}
 use Rattle.taskfile.specs.Records.{File}
 use Rattle.taskfile.specs.Tables.{tableAt}

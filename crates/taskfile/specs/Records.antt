@@ -10,7 +10,7 @@ use lib.Dec.{leb, ltb, eqb}
 use Rattle.taskfile.specs.declared.Instruction.{Instruction}
 use Rattle.taskfile.specs.declared.Kind.{Kind}
 use Rattle.taskfile.specs.declared.Kind.the-variants.{Header, TaskRecord, LockRecord, InstructionRecord}
-use Rattle.taskfile.specs.Lists.{from, all}
+use Rattle.notation.specs.Lists.{from, all}
 
 -- a task file is any bytes
 abbrev pub File : Type 0

@@ -10,7 +10,7 @@ use Rattle.taskfile.specs.declared.Table.{Table}
 use Rattle.taskfile.specs.declared.Task.{Task}
 use Rattle.taskfile.specs.declared.TaskEntry.{TaskEntry}
 use Rattle.taskfile.specs.Chains.{Chains, TaskChain, mostInstructions, mostTasks, mostLocks}
-use Rattle.taskfile.specs.Lists.{padded}
+use Rattle.notation.specs.Lists.{padded}
 use Rattle.taskfile.specs.Records.{File, byteAt, wideAt, instructionAt}
 
 -- the instruction End, and a task with no body: what fills the arrays up

@@ -10,7 +10,7 @@ use Rattle.taskfile.specs.declared.Site.{Site}
 use Rattle.taskfile.specs.declared.Site.the-variants.{AtHeader, AtTask}
 use Rattle.taskfile.specs.declared.Table.{Table}
 use Rattle.taskfile.specs.declared.Task.{Task}
-use Rattle.taskfile.specs.Checked.{Checked, refused, passed, require, placedBy, _>>=_, _>>_}
+use Rattle.notation.specs.Checked.{Checked, refused, passed, require, placedBy, _>>=_, _>>_}
 use Rattle.taskfile.specs.File.{load, recordAt}
 use Rattle.taskfile.specs.Judgement.{taskNumbers}
 use Rattle.taskfile.specs.Records.{File}

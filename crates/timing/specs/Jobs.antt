@@ -8,7 +8,7 @@ use Rattle.taskfile.specs.declared.Table.{Table}
 use Rattle.taskfile.specs.declared.Task.{Task}
 use Rattle.taskfile.specs.declared.TaskEntry.{TaskEntry}
 use Rattle.taskfile.specs.Judgement.{taskNumbers}
-use Rattle.taskfile.specs.Lists.{upTo, each, sum}
+use Rattle.notation.specs.Lists.{upTo, each, sum}
 use Rattle.taskfile.specs.Tables.{tasksOf, taskOf}
 use Rattle.timing.specs.declared.JobRecord.{JobRecord}
 use Rattle.timing.specs.Response.{roundedUp}

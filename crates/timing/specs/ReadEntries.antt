@@ -5,8 +5,8 @@ use Prim.Native.Nat.{ℕ}
 use mathlib.Core.List.{List, [], _++_}
 use lib.ListN.{length, drop}
 use lib.Dec.{leb}
-use Rattle.taskfile.specs.Checked.{Checked, refused, passed, require, _>>=_, _>>_}
-use Rattle.taskfile.specs.Lists.{padded}
+use Rattle.notation.specs.Checked.{Checked, refused, passed, require, _>>=_, _>>_}
+use Rattle.notation.specs.Lists.{padded}
 use Rattle.taskfile.specs.Records.{File}
 use Rattle.timing.specs.declared.JobRecord.{JobRecord}
 use Rattle.timing.specs.declared.ListAnswer.{ListAnswer}

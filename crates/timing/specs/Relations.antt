@@ -1,12 +1,12 @@
 -- Which job comes before which, and which may preempt which. Document 01, "Response times and jobs".
 -- A job goes by its number; its base priority is its task's number.
 -- Assumes nothing.
-use Prim.Native.Nat.{ℕ}
+use Prim.Native.Nat.{ℕ, _<_}
 use mathlib.Core.Bool.{Bool, not, _&&_, _||_}
 use mathlib.Core.List.{List, map}
 use lib.ListN.{length, getD}
 use lib.Dec.{leb, ltb, eqb}
-use Rattle.taskfile.specs.Lists.{upTo}
+use Rattle.notation.specs.Lists.{upTo}
 use Rattle.timing.specs.declared.Job.{Job}
 use Rattle.timing.specs.declared.JobRecord.{JobRecord}
 use Rattle.timing.specs.Accepted.{Accepted}
@@ -39,3 +39,7 @@ mayPreempt a y x =
     ltb (base a x) (base a y)
     && ltb (jobAt a x .arrival) (jobAt a y .arrival)
     && ltb (jobAt a y .arrival) (jobAt a x .latest)
+
+-- a number that is one of the table's jobs
+abbrev pub IsJob : Accepted → Job → Type 0
+IsJob a x = x .0 < length (a .jobs)

@@ -12,7 +12,7 @@ use lib.Dec.{eqb}
 use Rattle.taskfile.specs.declared.Table.{Table}
 use Rattle.taskfile.specs.declared.Task.{Task}
 use Rattle.taskfile.specs.declared.TaskEntry.{TaskEntry}
-use Rattle.taskfile.specs.Lists.{if_then_else_, sum}
+use Rattle.notation.specs.Lists.{if_then_else_, sum}
 use Rattle.taskfile.specs.Tables.{tasksOf, taskOf}
 
 -- ceil(n / d)

@@ -8,20 +8,20 @@ use Prim.Native.Nat.{ℕ, suc, _≤_, _<_}
 use mathlib.Core.List.{List, _∷_, _++_, List·Memᴰ}
 use mathlib.Core.Option.{none, some}
 use lib.ListN.{length}
-use Rattle.taskfile.specs.Lists.{firstWith}
-use Rattle.taskfile.specs.Pairs.{Ordered}
+use Rattle.notation.specs.Lists.{firstWith}
+use Rattle.notation.specs.Ordered.{Ordered}
 use Rattle.timing.specs.Accepted.{Accepted}
-use Rattle.timing.specs.AcceptedLaws.{IsAccepted}
-use Rattle.machine.specs.Ends.{orderRoom}
+use Rattle.timing.specs.Code.IsAccepted.{IsAccepted}
+use Rattle.machine.specs.Buffers.{orderRoom}
 use Rattle.order.specs.Orders.{run, endOf, Complete}
 use Rattle.order.specs.States.{State, initial}
-use Rattle.order.specs.StepLaws.{initial-invariant}
-use Rattle.walk.specs.CountLaws.{from-counted, initial-sound}
-use Rattle.walk.specs.ListedLaws.{from-listed, listed-from, from-ascends}
-use Rattle.walk.specs.PathLaws.{path-listed, listed-path, from-once}
+use Rattle.order.specs.Laws.StepLaws.{initial-invariant}
+use Rattle.walk.specs.Laws.MoveCountLaws.{from-counted, initial-sound}
+use Rattle.walk.specs.Laws.ListedLaws.{from-listed, listed-from, from-ascends}
+use Rattle.walk.specs.Laws.PathLaws.{path-listed, listed-path, from-once}
 use Rattle.walk.specs.Paths.{Lex, Sooner, paths}
 use Rattle.walk.specs.WalkEntry.{decided, decidedAnswer}
-use Rattle.walk.specs.WalkLaws.{from-first, undecided-when}
+use Rattle.walk.specs.Laws.WalkLaws.{from-first, undecided-when}
 use Rattle.walk.specs.Walks.{Found, fails, orders, walk}
 
 pub record Demand2 (a : Accepted) : Type 0 where

@@ -5,7 +5,7 @@ use Prim.Native.Nat.{ℕ, _+_, _*_}
 use mathlib.Core.List.{List, [], _∷_, _++_, map}
 use mathlib.Core.Option.{Option, none, some}
 use Rattle.taskfile.specs.Judgement.{taskNumbers}
-use Rattle.taskfile.specs.Lists.{each}
+use Rattle.notation.specs.Lists.{each}
 use Rattle.timing.specs.Accepted.{Accepted}
 use Rattle.timing.specs.Relations.{base}
 use Rattle.machine.specs.Instructions.{values}

@@ -7,7 +7,7 @@ use Prim.Native.Nat.{ℕ, zero, suc, _<_}
 use mathlib.Core.Bool.{true, false}
 use mathlib.Core.List.{List, [], _∷_, _++_, map}
 use Rattle.timing.specs.Accepted.{Accepted}
-use Rattle.machine.specs.Ends.{orderRoom}
+use Rattle.machine.specs.Buffers.{orderRoom}
 use Rattle.order.specs.States.{State, initial, allEnded}
 use Rattle.walk.specs.Moves.{Move, moves}
 

@@ -6,10 +6,11 @@ use mathlib.Core.List.{List, []}
 use mathlib.Core.Option.{Option, none, some}
 use lib.ListN.{length}
 use lib.Dec.{leb}
-use Rattle.taskfile.specs.Checked.{Checked, refused, passed, require, _>>=_, _>>_}
+use Rattle.notation.specs.Checked.{Checked, refused, passed, require, _>>=_, _>>_}
 use Rattle.taskfile.specs.Records.{File}
 use Rattle.timing.specs.Accepted.{Accepted, accept}
-use Rattle.machine.specs.Ends.{orderRoom, noFlags, noStore, filled}
+use Rattle.machine.specs.Ends.{noFlags, noStore}
+use Rattle.machine.specs.Buffers.{orderRoom, filled}
 use Rattle.walk.specs.declared.Verdict.the-variants.{None, Holds, Fails}
 use Rattle.walk.specs.declared.WalkAnswer.{WalkAnswer}
 use Rattle.walk.specs.Walks.{Found, Walked, walk}

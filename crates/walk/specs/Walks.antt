@@ -7,9 +7,10 @@ use Prim.Native.Nat.{ℕ, zero, suc, _+_}
 use mathlib.Core.Bool.{Bool, true, false, _&&_}
 use mathlib.Core.List.{List, [], _∷_, _++_, map}
 use mathlib.Core.Option.{Option, none, some, Option·map}
-use Rattle.taskfile.specs.Lists.{if_then_else_, any}
+use Rattle.notation.specs.Lists.{if_then_else_, any}
 use Rattle.timing.specs.Accepted.{Accepted}
-use Rattle.machine.specs.Ends.{End, orderRoom}
+use Rattle.machine.specs.Ends.{End}
+use Rattle.machine.specs.Buffers.{orderRoom}
 use Rattle.order.specs.Orders.{endOf}
 use Rattle.order.specs.States.{State, initial, allEnded}
 use Rattle.walk.specs.Moves.{Move, moves}

@@ -4,7 +4,7 @@ use mathlib.Core.Path.{sym}
 use native.Mathlib.Omega.{arith}
 use lib.ListN.{length-set}
 use borrow.Author.Tests.{le-leb, lt-leb}
-use Rattle.adqurim.specs.WordsLaws.{read-stored, read-no-room}
+use Rattle.adqurim.specs.Laws.WordsLaws.{read-stored, read-no-room}
 use borrow.Author.Needs.{needs}
 use Rattle.adqurim.proofs.adqurim_read.Statement.{statement}
 use Rattle.adqurim.proofs.adqurim_read.Tie as tie

@@ -6,7 +6,7 @@ use borrow.Author.Needs.{needs}
 use borrow.Author.Tests.{lt-leb}
 use Rattle.walk.specs.declared.WalkAnswer.{WalkAnswer}
 use Rattle.adqurim.specs.Words.{walkWords, filledWith}
-use Rattle.adqurim.specs.WordsLaws.{walk-unfilled, buffer-kept, buffer-walked}
+use Rattle.adqurim.specs.Laws.WordsLaws.{walk-unfilled, buffer-kept, buffer-walked}
 use Rattle.adqurim.proofs.adqurim_walk.Statement.{statement}
 use Rattle.adqurim.proofs.adqurim_walk.Tie as tie
 

@@ -5,7 +5,7 @@ use Prim.Native.Nat.{ℕ, _<_}
 use native.Mathlib.Omega.{arith}
 use mathlib.Core.Path.{refl}
 use borrow.Author.Needs.{needs}
-use Rattle.taskfile.specs.ChainReading.{step-allowed, chain-empty, chain-stops, chain-breaks, chain-longer}
+use Rattle.taskfile.specs.Laws.ChainReading.{step-allowed, chain-empty, chain-stops, chain-breaks, chain-longer}
 use borrow.Fn.Kinds.{In}
 use borrow.Fn.PlainCycle.{Measures, is, falls, and}
 use Rattle.chains.proofs.read_chain.Reads as read-chain

@@ -6,7 +6,7 @@ use Prim.Native.Nat.{ℕ, _<_}
 use native.Mathlib.Omega.{arith}
 use mathlib.Core.Path.{refl}
 use borrow.Author.Needs.{needs}
-use Rattle.taskfile.specs.ChainReading.{step-allowed, tasks-empty, tasks-stop, body-breaks, tasks-break, tasks-longer}
+use Rattle.taskfile.specs.Laws.ChainReading.{step-allowed, tasks-empty, tasks-stop, body-breaks, tasks-break, tasks-longer}
 use borrow.Fn.Kinds.{In}
 use borrow.Fn.PlainCycle.{Measures, is, falls, and}
 use Rattle.chains.proofs.read_tasks.Reads as read-tasks

@@ -3,9 +3,9 @@
 use mathlib.Core.Path.{_∙_}
 use borrow.Author.Needs.{needs}
 use native.Mathlib.Omega.{arith}
-use Rattle.taskfile.specs.ChainCases.{follow-outside, follow-again, follow-many, follow-record}
-use Rattle.taskfile.specs.CheckSteps.{comes}
-use Rattle.taskfile.specs.Reading.{checkOf}
+use Rattle.taskfile.specs.Laws.ChainCases.{follow-outside, follow-again, follow-many, follow-record}
+use Rattle.taskfile.specs.Laws.CheckSteps.{comes}
+use Rattle.taskfile.specs.Code.Reading.{checkOf}
 use Rattle.taskfile.specs.Records.{records}
 use Rattle.chains.proofs.follow_index.Statement.{statement}
 use Rattle.chains.proofs.follow_index.Tie as tie

@@ -7,9 +7,9 @@ use mathlib.Core.Bool.{true, false}
 use lib.ListN.{length, getD}
 use borrow.Author.Count.{below-more}
 use borrow.Author.Tests.{not-true, not-false}
-use Rattle.taskfile.specs.ChainCases.{stray, stray-none}
-use Rattle.taskfile.specs.CheckSteps.{comes}
-use Rattle.taskfile.specs.Reading.{checkOf}
+use Rattle.taskfile.specs.Laws.ChainCases.{stray, stray-none}
+use Rattle.taskfile.specs.Laws.CheckSteps.{comes}
+use Rattle.taskfile.specs.Code.Reading.{checkOf}
 use Rattle.taskfile.specs.Records.{records}
 use Rattle.chains.proofs.no_stray.Statement.{statement}
 use Rattle.chains.proofs.no_stray.Tie as tie

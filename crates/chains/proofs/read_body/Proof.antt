@@ -2,7 +2,7 @@
 -- Assumes nothing.
 use mathlib.Core.Path.{refl}
 use borrow.Author.Needs.{needs}
-use Rattle.taskfile.specs.ChainReading.{body-empty, body-follows}
+use Rattle.taskfile.specs.Laws.ChainReading.{body-empty, body-follows}
 use Rattle.chains.proofs.read_body.Statement.{statement}
 use Rattle.chains.proofs.read_body.Tie as tie
 

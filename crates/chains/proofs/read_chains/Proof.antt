@@ -2,7 +2,7 @@
 -- and no record left over. At first the header's mark alone is set.
 -- Assumes nothing.
 use borrow.Author.Needs.{needs}
-use Rattle.taskfile.specs.ChainReading.{header-fails, no-tasks, tasks-fail, locks-fail, chains-read}
+use Rattle.taskfile.specs.Laws.ChainReading.{header-fails, no-tasks, tasks-fail, locks-fail, chains-read}
 use Rattle.chains.proofs.read_chains.Statement.{statement}
 use Rattle.chains.proofs.read_chains.Tie as tie
 

@@ -3,9 +3,9 @@
 use mathlib.Core.Path.{sym, _∙_}
 use borrow.Author.Needs.{needs}
 use borrow.Author.Tests.{not-true, not-false}
-use Rattle.taskfile.specs.ChainCases.{wrong-kind, untidy, out-of-range, record-passes}
-use Rattle.taskfile.specs.CheckSteps.{comes}
-use Rattle.taskfile.specs.Reading.{checkOf}
+use Rattle.taskfile.specs.Laws.ChainCases.{wrong-kind, untidy, out-of-range, record-passes}
+use Rattle.taskfile.specs.Laws.CheckSteps.{comes}
+use Rattle.taskfile.specs.Code.Reading.{checkOf}
 use Rattle.chains.proofs.record_of.Statement.{statement}
 use Rattle.chains.proofs.record_of.Tie as tie
 

@@ -5,7 +5,7 @@ use mathlib.Core.Bool.{false}
 use mathlib.Core.Logic.{⊎-elim}
 use mathlib.Core.Path.{_≡_}
 use borrow.Author.Needs.{needs}
-use Rattle.taskfile.specs.JudgingLaws.{endsBadly, not-last, ends-well, skip-6, skip-7, last-not-end, no-skip, a-skip}
+use Rattle.taskfile.specs.Laws.JudgingLaws.{endsBadly, not-last, ends-well, skip-6, skip-7, last-not-end, no-skip, a-skip}
 use Rattle.judgement.proofs.body_fault.Statement.{statement}
 use Rattle.judgement.proofs.body_fault.Tie as tie
 

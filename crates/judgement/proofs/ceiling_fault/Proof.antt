@@ -5,7 +5,7 @@ use mathlib.Core.Bool.{true}
 use mathlib.Core.Logic.{⊎-elim}
 use mathlib.Core.Path.{_≡_}
 use borrow.Author.Needs.{needs}
-use Rattle.taskfile.specs.JudgingLaws.{namesLock, acquire-9, release-10, no-lock, lock-unknown, release-known, acquire-known}
+use Rattle.taskfile.specs.Laws.JudgingLaws.{namesLock, acquire-9, release-10, no-lock, lock-unknown, release-known, acquire-known}
 use Rattle.judgement.proofs.ceiling_fault.Statement.{statement}
 use Rattle.judgement.proofs.ceiling_fault.Tie as tie
 

@@ -5,8 +5,8 @@ use Prim.Native.Nat.{_-_}
 use native.Mathlib.Omega.{arith}
 use mathlib.Core.Path.{sym, ap, _∙_}
 use borrow.Author.Needs.{needs}
-use Rattle.taskfile.specs.JudgingParts.{foundOf, bodyFaultIn}
-use Rattle.taskfile.specs.SearchLaws.{Searched, search-starts, search-goes-on, search-finds, search-ends}
+use Rattle.taskfile.specs.Code.JudgingParts.{foundOf, bodyFaultIn}
+use Rattle.notation.specs.Laws.SearchLaws.{Searched, search-starts, search-goes-on, search-finds, search-ends}
 use Rattle.judgement.proofs.first_body_fault.Statement.{statement}
 use Rattle.judgement.proofs.first_body_fault.Tie as tie
 

@@ -6,9 +6,9 @@ use native.Mathlib.Omega.{arith}
 use mathlib.Core.Path.{sym, ap, _∙_}
 use lib.ListN.{getD, take}
 use borrow.Author.Needs.{needs}
-use Rattle.taskfile.specs.JudgingLaws.{body-at}
-use Rattle.taskfile.specs.JudgingParts.{foundOf, ceilingFaultIn}
-use Rattle.taskfile.specs.SearchLaws.{Searched, search-starts, search-goes-on, search-finds, search-ends}
+use Rattle.taskfile.specs.Laws.JudgingLaws.{body-at}
+use Rattle.taskfile.specs.Code.JudgingParts.{foundOf, ceilingFaultIn}
+use Rattle.notation.specs.Laws.SearchLaws.{Searched, search-starts, search-goes-on, search-finds, search-ends}
 use Rattle.taskfile.specs.Tables.{bodyOf, endInstruction}
 use Rattle.judgement.proofs.first_ceiling_fault.Statement.{statement}
 use Rattle.judgement.proofs.first_ceiling_fault.Tie as tie

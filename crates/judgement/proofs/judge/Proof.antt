@@ -3,7 +3,7 @@
 use mathlib.Core.Path.{_∙_}
 use borrow.Author.Needs.{needs}
 use Rattle.taskfile.specs.Judgement.{judged}
-use Rattle.taskfile.specs.JudgingLaws.{judged-first, judged-then}
+use Rattle.taskfile.specs.Laws.JudgingLaws.{judged-first, judged-then}
 use Rattle.judgement.proofs.judge.Statement.{statement}
 use Rattle.judgement.proofs.judge.Tie as tie
 

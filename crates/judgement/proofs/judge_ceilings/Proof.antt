@@ -6,9 +6,9 @@ use native.Mathlib.Omega.{arith}
 use mathlib.Core.Path.{sym, ap}
 use borrow.Author.Needs.{needs}
 use Rattle.taskfile.specs.Judgement.{instructionSites, ofInstruction, ceilingFault}
-use Rattle.taskfile.specs.JudgingLaws.{bodySites, instructionSites-by, entry-shaped, ceilingFault-in, body-faulty, body-sound}
-use Rattle.taskfile.specs.Reading.{judgedOf}
-use Rattle.taskfile.specs.SearchLaws.{CheckedTo, check-starts, check-goes-on, check-refuses, check-ends}
+use Rattle.taskfile.specs.Laws.JudgingLaws.{bodySites, instructionSites-by, entry-shaped, ceilingFault-in, body-faulty, body-sound}
+use Rattle.taskfile.specs.Code.Reading.{judgedOf}
+use Rattle.notation.specs.Laws.SearchLaws.{CheckedTo, check-starts, check-goes-on, check-refuses, check-ends}
 use Rattle.judgement.proofs.judge_ceilings.Statement.{statement}
 use Rattle.judgement.proofs.judge_ceilings.Tie as tie
 

@@ -8,9 +8,9 @@ use mathlib.Core.Logic.{⊎-elim}
 use mathlib.Core.Path.{sym, ap}
 use Rattle.taskfile.specs.declared.Site.the-variants.{AtTask}
 use Rattle.taskfile.specs.Judgement.{taskNumbers, ofTask, rateFault}
-use Rattle.taskfile.specs.JudgingLaws.{taskSite, taskSites-by, task-faulty, task-sound, rate-first, rate-above, rate-within}
-use Rattle.taskfile.specs.Reading.{judgedOf}
-use Rattle.taskfile.specs.SearchLaws.{CheckedTo, check-starts, check-goes-on, check-refuses, check-ends}
+use Rattle.taskfile.specs.Laws.JudgingLaws.{taskSite, taskSites-by, task-faulty, task-sound, rate-first, rate-above, rate-within}
+use Rattle.taskfile.specs.Code.Reading.{judgedOf}
+use Rattle.notation.specs.Laws.SearchLaws.{CheckedTo, check-starts, check-goes-on, check-refuses, check-ends}
 use Rattle.judgement.proofs.judge_rates.Statement.{statement}
 use Rattle.judgement.proofs.judge_rates.Tie as tie
 

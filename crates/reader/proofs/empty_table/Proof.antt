@@ -1,7 +1,7 @@
 -- `reader::empty_table` meets its contract: the two tables compute to the same.
 -- Assumes nothing.
 use mathlib.Core.Path.{refl}
-use Rattle.taskfile.specs.Lists.{padded}
+use Rattle.notation.specs.Lists.{padded}
 use Rattle.taskfile.specs.Tables.{noTask, emptyTable}
 use Rattle.reader.proofs.empty_table.Statement.{statement}
 use Rattle.reader.proofs.empty_table.Tie as tie

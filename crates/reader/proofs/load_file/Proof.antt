@@ -2,8 +2,8 @@
 -- Assumes nothing.
 use mathlib.Core.Path.{sym, refl, _∙_}
 use borrow.Author.Tests.{not-true, not-false}
-use Rattle.taskfile.specs.ChainLaws.{table-shaped}
-use Rattle.taskfile.specs.LoadLaws.{sized-within, answers-unsized, answers-unchained, answers-faulty, answers-sound}
+use Rattle.taskfile.specs.Laws.ChainLaws.{table-shaped}
+use Rattle.taskfile.specs.Laws.LoadLaws.{sized-within, answers-unsized, answers-unchained, answers-faulty, answers-sound}
 use borrow.Author.Needs.{needs}
 use Rattle.reader.proofs.load_file.Statement.{statement}
 use Rattle.reader.proofs.load_file.Tie as tie

@@ -2,7 +2,7 @@
 -- Assumes nothing.
 use mathlib.Core.Path.{refl, sym}
 use borrow.Author.Needs.{needs}
-use Rattle.taskfile.specs.RecordLaws.{byteAt-past}
+use Rattle.taskfile.specs.Laws.RecordLaws.{byteAt-past}
 use Rattle.taskfile.specs.Records.{byteAt}
 use Rattle.records.proofs.byte_at.Statement.{statement}
 use Rattle.records.proofs.byte_at.Tie as tie

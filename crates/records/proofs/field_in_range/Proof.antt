@@ -2,7 +2,7 @@
 -- Assumes nothing.
 use mathlib.Core.Path.{sym, _∙_}
 use borrow.Author.Needs.{needs}
-use Rattle.taskfile.specs.RecordLaws.{limit-unused, fieldInRange-used}
+use Rattle.taskfile.specs.Laws.RecordLaws.{limit-unused, fieldInRange-used}
 use Rattle.taskfile.specs.Records.{fieldInRange}
 use Rattle.records.proofs.field_in_range.Statement.{statement}
 use Rattle.records.proofs.field_in_range.Tie as tie

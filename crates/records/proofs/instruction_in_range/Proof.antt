@@ -3,7 +3,7 @@
 -- Assumes nothing.
 use borrow.Author.Needs.{needs}
 use borrow.Author.Tests.{not-true, not-false, lt-ltb, le-ltb}
-use Rattle.taskfile.specs.RecordFields.{fieldOf}
+use Rattle.taskfile.specs.Code.RecordFields.{fieldOf}
 use Rattle.taskfile.specs.Records.{operations, instructionInRange}
 use Rattle.records.proofs.instruction_in_range.Statement.{statement}
 use Rattle.records.proofs.instruction_in_range.Tie as tie

@@ -2,9 +2,9 @@
 -- Assumes nothing.
 use mathlib.Core.Path.{sym}
 use borrow.Author.Needs.{needs}
-use Rattle.taskfile.specs.Lists.{each}
-use Rattle.taskfile.specs.RecordFields.{limitOf}
-use Rattle.taskfile.specs.RecordLaws.{limits, limits-at, limit-past}
+use Rattle.notation.specs.Lists.{each}
+use Rattle.taskfile.specs.Code.RecordFields.{limitOf}
+use Rattle.taskfile.specs.Laws.RecordLaws.{limits, limits-at, limit-past}
 use Rattle.taskfile.specs.Records.{operations, usesOf}
 use Rattle.records.proofs.limit.Statement.{statement}
 use Rattle.records.proofs.limit.Tie as tie

@@ -2,7 +2,7 @@
 -- Assumes nothing.
 use mathlib.Core.Path.{sym, _∙_}
 use borrow.Author.Needs.{needs}
-use Rattle.taskfile.specs.RecordLaws.{limit-unused, tidyField-used}
+use Rattle.taskfile.specs.Laws.RecordLaws.{limit-unused, tidyField-used}
 use Rattle.taskfile.specs.Records.{tidyField}
 use Rattle.records.proofs.tidy_field.Statement.{statement}
 use Rattle.records.proofs.tidy_field.Tie as tie

@@ -2,7 +2,7 @@
 -- Assumes nothing.
 use borrow.Author.Needs.{needs}
 use borrow.Author.Tests.{not-true, not-false}
-use Rattle.taskfile.specs.RecordFields.{fieldOf}
+use Rattle.taskfile.specs.Code.RecordFields.{fieldOf}
 use Rattle.taskfile.specs.Records.{tidyInstruction}
 use Rattle.records.proofs.tidy_instruction.Statement.{statement}
 use Rattle.records.proofs.tidy_instruction.Tie as tie

@@ -4,7 +4,7 @@ use Prim.Native.Nat.{_+_, _≤_}
 use native.Mathlib.Omega.{arith}
 use mathlib.Core.Path.{_≡_, refl, sym, _∙_}
 use borrow.Author.Needs.{needs}
-use Rattle.taskfile.specs.RecordLaws.{zeroFrom-none, zeroFrom-other, zeroFrom-more}
+use Rattle.taskfile.specs.Laws.RecordLaws.{zeroFrom-none, zeroFrom-other, zeroFrom-more}
 use Rattle.taskfile.specs.Records.{zeroFrom}
 use Rattle.records.proofs.zero_from.Statement.{statement}
 use Rattle.records.proofs.zero_from.Tie as tie

@@ -7,8 +7,8 @@ use Prim.Native.Nat.{ℕ, _+_, _-_, _*_, _/_, _^_, _≤_, _<_}
 use native.Mathlib.Nat.{div-le-self}
 use native.Mathlib.Omega.{arith}
 use lib.ListN.{getD}
-use Rattle.timing.specs.FitLaws.{from-last, from-before, from-short, from-end, from-fits}
-use Rattle.timing.specs.LentTimesLaws.{lent-read}
+use Rattle.timing.specs.Laws.FitLaws.{from-last, from-before, from-short, from-end, from-fits}
+use Rattle.timing.specs.Laws.LentTimesLaws.{lent-read}
 use borrow.Fn.Kinds.{In}
 use borrow.Fn.PlainCycle.{Measures, is, falls, and}
 use Rattle.response.proofs.fits_from.Reads as fits-from

@@ -6,11 +6,11 @@ use Prim.Native.Nat.{suc, _+_, _-_, _^_, _<_}
 use native.Mathlib.Omega.{arith}
 use lib.ListN.{getD}
 use Rattle.taskfile.specs.declared.Table.{Table}
-use Rattle.timing.specs.ClimbLaws.{climb-found, climb-higher, climb-past}
-use Rattle.timing.specs.LentTimesLaws.{lent-read, lent-times}
+use Rattle.timing.specs.Laws.ClimbLaws.{climb-found, climb-higher, climb-past}
+use Rattle.timing.specs.Laws.LentTimesLaws.{lent-read, lent-times}
 use Rattle.timing.specs.Response.{demand}
-use Rattle.timing.specs.ResponseParts.{boundOf, LowerBound, TimesOf}
-use Rattle.timing.specs.TimeableLaws.{TimesRead, demand-read}
+use Rattle.timing.specs.Code.ResponseParts.{boundOf, LowerBound, TimesOf}
+use Rattle.timing.specs.Laws.TimeableLaws.{TimesRead, demand-read}
 use Rattle.response.proofs.climb.Statement.{statement}
 use Rattle.response.proofs.climb.Tie as tie
 

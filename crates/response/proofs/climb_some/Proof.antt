@@ -6,11 +6,11 @@ use Prim.Native.Nat.{_+_, _^_, _<_}
 use native.Mathlib.Omega.{arith}
 use lib.ListN.{getD}
 use Rattle.taskfile.specs.declared.Table.{Table}
-use Rattle.timing.specs.ClimbLaws.{climb-higher}
-use Rattle.timing.specs.LentTimesLaws.{lent-read, lent-times}
+use Rattle.timing.specs.Laws.ClimbLaws.{climb-higher}
+use Rattle.timing.specs.Laws.LentTimesLaws.{lent-read, lent-times}
 use Rattle.timing.specs.Response.{demand}
-use Rattle.timing.specs.ResponseParts.{LowerBound, TimesOf}
-use Rattle.timing.specs.TimeableLaws.{TimesRead, demand-read}
+use Rattle.timing.specs.Code.ResponseParts.{LowerBound, TimesOf}
+use Rattle.timing.specs.Laws.TimeableLaws.{TimesRead, demand-read}
 use Rattle.response.proofs.climb_some.Statement.{statement}
 use Rattle.response.proofs.climb_some.Tie as tie
 

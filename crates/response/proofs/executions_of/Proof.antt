@@ -2,8 +2,8 @@
 -- number of tasks left. Assumes nothing.
 use Prim.Native.Nat.{_-_, _≤_}
 use native.Mathlib.Omega.{arith}
-use Rattle.timing.specs.LentTimesLaws.{column-none, column-more, column-all, execution-stored}
-use Rattle.timing.specs.ResponseParts.{Column, executionAt}
+use Rattle.timing.specs.Laws.LentTimesLaws.{column-none, column-more, column-all, execution-stored}
+use Rattle.timing.specs.Code.ResponseParts.{Column, executionAt}
 use Rattle.response.proofs.executions_of.Statement.{statement}
 use Rattle.response.proofs.executions_of.Tie as tie
 

@@ -8,9 +8,9 @@ use native.Mathlib.Omega.{arith}
 use lib.ListN.{getD, drop}
 use Rattle.taskfile.specs.declared.Table.{Table}
 use Rattle.taskfile.specs.Tables.{tasksOf}
-use Rattle.timing.specs.LentTimesLaws.{lent-fits, lent-step, lent-end}
+use Rattle.timing.specs.Laws.LentTimesLaws.{lent-fits, lent-step, lent-end}
 use Rattle.timing.specs.Response.{interference, tasksAbove}
-use Rattle.timing.specs.ResponseParts.{TimesOf}
+use Rattle.timing.specs.Code.ResponseParts.{TimesOf}
 use Rattle.response.proofs.interference_of.Statement.{statement}
 use Rattle.response.proofs.interference_of.Tie as tie
 

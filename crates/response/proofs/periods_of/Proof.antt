@@ -2,8 +2,8 @@
 -- number of tasks left. Assumes nothing.
 use Prim.Native.Nat.{_-_, _≤_}
 use native.Mathlib.Omega.{arith}
-use Rattle.timing.specs.LentTimesLaws.{column-none, column-more, column-all, period-stored}
-use Rattle.timing.specs.ResponseParts.{Column, periodAt}
+use Rattle.timing.specs.Laws.LentTimesLaws.{column-none, column-more, column-all, period-stored}
+use Rattle.timing.specs.Code.ResponseParts.{Column, periodAt}
 use Rattle.response.proofs.periods_of.Statement.{statement}
 use Rattle.response.proofs.periods_of.Tie as tie
 

@@ -8,10 +8,10 @@ use native.Mathlib.Nat.{le-div-iff-mul-le, div-le-self, mul-div-le, mul-le-mul-l
 use native.Mathlib.Omega.{arith}
 use lib.ListN.{getD}
 use borrow.Author.Needs.{needs}
-use Rattle.timing.specs.ClimbLaws.{overloaded, start-bound}
-use Rattle.timing.specs.LentTimesLaws.{lent-read, lent-times}
-use Rattle.timing.specs.ResponseParts.{boundOf, LowerBound}
-use Rattle.timing.specs.TimeableLaws.{TimesRead}
+use Rattle.timing.specs.Laws.ClimbLaws.{overloaded, start-bound}
+use Rattle.timing.specs.Laws.LentTimesLaws.{lent-read, lent-times}
+use Rattle.timing.specs.Code.ResponseParts.{boundOf, LowerBound}
+use Rattle.timing.specs.Laws.TimeableLaws.{TimesRead}
 use Rattle.response.proofs.response_of.Statement.{statement}
 use Rattle.response.proofs.response_of.Tie as tie
 

@@ -4,8 +4,8 @@ use mathlib.Core.Path.{_≡_, refl, sym, _∙_}
 use Prim.Native.Nat.{suc, _-_, _≤_}
 use native.Mathlib.Omega.{arith}
 use borrow.Author.Tests.{not-true, not-false}
-use Rattle.timing.specs.LentTimesLaws.{times-filled}
-use Rattle.timing.specs.TableResponseLaws.{AllFound, FoundFrom, found-none, found-fit, found-more, found-refused}
+use Rattle.timing.specs.Laws.LentTimesLaws.{times-filled}
+use Rattle.timing.specs.Laws.TableResponseLaws.{AllFound, FoundFrom, found-none, found-fit, found-more, found-refused}
 use Rattle.response.proofs.responses_of.Statement.{statement}
 use Rattle.response.proofs.responses_of.Tie as tie
 

@@ -6,7 +6,7 @@ use native.Mathlib.Nat.{div-add-mod', le-mul-of-pos-right}
 use native.Mathlib.Omega.{arith}
 use borrow.Author.Needs.{needs}
 use borrow.Author.Tests.{eq-eqb, ne-eqb}
-use Rattle.taskfile.specs.Lists.{if_then_else_}
+use Rattle.notation.specs.Lists.{if_then_else_}
 use Rattle.timing.specs.Response.{roundedUp}
 use Rattle.response.proofs.rounded_up.Statement.{statement}
 use Rattle.response.proofs.rounded_up.Tie as tie

@@ -10,12 +10,12 @@ use lib.ListN.{getD, drop}
 use borrow.Author.Tests.{not-true, not-false}
 use Rattle.taskfile.specs.declared.Table.{Table}
 use Rattle.taskfile.specs.Tables.{tasksOf, taskOf}
-use Rattle.timing.specs.ClimbLaws.{climb-found, climb-past}
-use Rattle.timing.specs.LentTimesLaws.{lent-read, lent-times}
+use Rattle.timing.specs.Laws.ClimbLaws.{climb-found, climb-past}
+use Rattle.timing.specs.Laws.LentTimesLaws.{lent-read, lent-times}
 use Rattle.timing.specs.Response.{tasksAbove}
-use Rattle.timing.specs.ResponseParts.{boundOf, fitsFrom, LowerBound, AllFit, TimesOf}
-use Rattle.timing.specs.SearchLaws.{DoneBy, Between, done-read, search-none, search-start, search-down, search-up, search-found}
-use Rattle.timing.specs.TimeableLaws.{TimesRead, demand-read}
+use Rattle.timing.specs.Code.ResponseParts.{boundOf, fitsFrom, LowerBound, AllFit, TimesOf}
+use Rattle.timing.specs.Laws.HalvingLaws.{DoneBy, Between, done-read, search-none, search-start, search-down, search-up, search-found}
+use Rattle.timing.specs.Laws.TimeableLaws.{TimesRead, demand-read}
 use Rattle.response.proofs.search.Statement.{statement}
 use Rattle.response.proofs.search.Tie as tie
 

@@ -5,9 +5,9 @@ use Prim.Native.Nat.{_≤_, _-_}
 use native.Mathlib.Omega.{arith}
 use Rattle.taskfile.specs.declared.Table.{Table}
 use Rattle.taskfile.specs.Judgement.{numbered}
-use Rattle.timing.specs.LentTimesLaws.{lent-read}
-use Rattle.timing.specs.ResponseParts.{TimesOf}
-use Rattle.timing.specs.ShareLaws.{ShareBefore, share-none, share-more, share-found}
+use Rattle.timing.specs.Laws.LentTimesLaws.{lent-read}
+use Rattle.timing.specs.Code.ResponseParts.{TimesOf}
+use Rattle.timing.specs.Laws.ShareLaws.{ShareBefore, share-none, share-more, share-found}
 use Rattle.response.proofs.share_above.Statement.{statement}
 use Rattle.response.proofs.share_above.Tie as tie
 

@@ -5,8 +5,8 @@ use native.Mathlib.Nat.{le-div-iff-mul-le}
 use native.Mathlib.Omega.{arith}
 use borrow.Author.Needs.{needs}
 use Prim.Native.Nat.{_-_, _/_, _^_, _≤_}
-use Rattle.timing.specs.ResponseLaws.{roundedUp-positive}
-use Rattle.timing.specs.ShareLaws.{Grouped, grouped, rounded-product, rounded-fits, rounded-most}
+use Rattle.timing.specs.Laws.ResponseLaws.{roundedUp-positive}
+use Rattle.timing.specs.Laws.ShareLaws.{Grouped, grouped, rounded-product, rounded-fits, rounded-most}
 use Rattle.response.proofs.with_rounded.Statement.{statement}
 use Rattle.response.proofs.with_rounded.Tie as tie
 

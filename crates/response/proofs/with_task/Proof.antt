@@ -4,7 +4,7 @@
 use Prim.Native.Nat.{_*_, _/_, _≤_}
 use native.Mathlib.Omega.{arith}
 use borrow.Author.Needs.{needs}
-use Rattle.timing.specs.ShareLaws.{times-positive, exact-ranges, exact-most}
+use Rattle.timing.specs.Laws.ShareLaws.{times-positive, exact-ranges, exact-most}
 use Rattle.response.proofs.with_task.Statement.{statement}
 use Rattle.response.proofs.with_task.Tie as tie
 

@@ -6,8 +6,8 @@ use native.Mathlib.Omega.{arith}
 use borrow.Author.Needs.{needs}
 use mathlib.Core.Logic.{inl, inr, ⊎-elim}
 use borrow.Author.Tests.{ltb-true, ltb-false}
-use Rattle.taskfile.specs.LinkedLaws.{Filled, filled-none, filled-more, filled-end}
-use Rattle.taskfile.specs.ReadingParts.{ceilingsAt}
+use Rattle.taskfile.specs.Laws.LinkedLaws.{Filled, filled-none, filled-more, filled-end}
+use Rattle.taskfile.specs.Code.ReadingParts.{ceilingsAt}
 use Rattle.taskfile.specs.Records.{next, byteAt}
 use Rattle.tables.proofs.ceilings_at.Statement.{statement}
 use Rattle.tables.proofs.ceilings_at.Tie as tie

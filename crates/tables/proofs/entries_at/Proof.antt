@@ -6,10 +6,10 @@ use native.Mathlib.Omega.{arith}
 use borrow.Author.Needs.{needs}
 use mathlib.Core.Logic.{inl, inr, ⊎-elim}
 use borrow.Author.Tests.{ltb-true, ltb-false}
-use Rattle.taskfile.specs.LinkedLaws.{Filled, filled-none, filled-more, filled-end}
-use Rattle.taskfile.specs.Lists.{padded}
-use Rattle.taskfile.specs.Reading.{linkedTask}
-use Rattle.taskfile.specs.ReadingParts.{entriesAt}
+use Rattle.taskfile.specs.Laws.LinkedLaws.{Filled, filled-none, filled-more, filled-end}
+use Rattle.notation.specs.Lists.{padded}
+use Rattle.taskfile.specs.Code.Reading.{linkedTask}
+use Rattle.taskfile.specs.Code.ReadingParts.{entriesAt}
 use Rattle.taskfile.specs.Records.{next}
 use Rattle.taskfile.specs.Tables.{noTask, entryAt}
 use Rattle.tables.proofs.entries_at.Statement.{statement}

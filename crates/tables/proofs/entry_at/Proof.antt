@@ -5,8 +5,8 @@ use Prim.Native.Nat.{ℕ}
 use mathlib.Core.Path.{_≡_, ap, _∙_}
 use Rattle.taskfile.specs.declared.Body.{Body}
 use Rattle.taskfile.specs.declared.TaskEntry.{TaskEntry}
-use Rattle.taskfile.specs.Reading.{linkedTask}
-use Rattle.taskfile.specs.ReadingParts.{bodyAt}
+use Rattle.taskfile.specs.Code.Reading.{linkedTask}
+use Rattle.taskfile.specs.Code.ReadingParts.{bodyAt}
 use Rattle.taskfile.specs.Records.{File, byteAt, wideAt}
 use Rattle.taskfile.specs.Tables.{entryAt}
 use Rattle.tables.proofs.entry_at.Statement.{statement}

@@ -5,8 +5,8 @@ use Prim.Native.Nat.{ℕ, _≤_, _<_, _-_}
 use native.Mathlib.Omega.{arith}
 use borrow.Author.Needs.{needs}
 use mathlib.Core.Path.{_≡_, refl, sym, ap, _∙_}
-use Rattle.taskfile.specs.LinkedLaws.{link-more, link-none}
-use Rattle.taskfile.specs.ReadingParts.{linkAfter}
+use Rattle.taskfile.specs.Laws.LinkedLaws.{link-more, link-none}
+use Rattle.taskfile.specs.Code.ReadingParts.{linkAfter}
 use Rattle.taskfile.specs.Records.{File, next}
 use Rattle.tables.proofs.link_after.Statement.{statement}
 use Rattle.tables.proofs.link_after.Tie as tie

@@ -6,7 +6,7 @@ use mathlib.Core.Path.{_≡_, sym, ap, _∙_}
 use Rattle.taskfile.specs.declared.Site.{Site}
 use Rattle.taskfile.specs.declared.Site.the-variants.{AtTask, AtInstruction}
 use Rattle.taskfile.specs.declared.Task.{Task}
-use Rattle.taskfile.specs.ReadingParts.{linkAfter, siteRecord}
+use Rattle.taskfile.specs.Code.ReadingParts.{linkAfter, siteRecord}
 use Rattle.taskfile.specs.Records.{File, byteAt}
 use Rattle.tables.proofs.record_at.Statement.{statement}
 use Rattle.tables.proofs.record_at.Tie as tie

@@ -7,7 +7,7 @@ use Prim.Native.Nat.{ℕ, zero, suc, _+_, _≤_}
 use native.Mathlib.Omega.{arith}
 use lib.ListN.{length, getD, take, drop}
 use lib.Seq.{drop-cons}
-use Rattle.taskfile.specs.Lists.{from}
+use Rattle.notation.specs.Lists.{from}
 use Rattle.tables.proofs.store_at.Statement.{statement}
 use Rattle.tables.proofs.store_at.Tie as tie
 

@@ -10,9 +10,9 @@ use Rattle.taskfile.specs.declared.Ceilings.{Ceilings}
 use Rattle.taskfile.specs.declared.Entries.{Entries}
 use Rattle.taskfile.specs.declared.Table.{Table}
 use Rattle.taskfile.specs.Chains.{mostTasks}
-use Rattle.taskfile.specs.Lists.{padded}
-use Rattle.taskfile.specs.Reading.{linked, linkedTask, linkedChains}
-use Rattle.taskfile.specs.ReadingParts.{entriesAt, ceilingsAt}
+use Rattle.notation.specs.Lists.{padded}
+use Rattle.taskfile.specs.Code.Reading.{linked, linkedTask, linkedChains}
+use Rattle.taskfile.specs.Code.ReadingParts.{entriesAt, ceilingsAt}
 use Rattle.taskfile.specs.Records.{File, byteAt, wideAt}
 use Rattle.taskfile.specs.Tables.{noTask, entryAt, tableAt}
 use Rattle.tables.proofs.table_at.Statement.{statement}

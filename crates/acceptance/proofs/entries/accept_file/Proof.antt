@@ -2,7 +2,7 @@
 -- Assumes nothing.
 use Prim.Native.Nat.{ℕ, _≤_}
 use mathlib.Core.Path.{refl, subst}
-use Rattle.timing.specs.AcceptLaws.{answers-refused, answers-timeable, answers-overload, answers-within, answers-many, answers-accepted}
+use Rattle.timing.specs.Laws.AcceptLaws.{answers-refused, answers-timeable, answers-overload, answers-within, answers-many, answers-accepted}
 use borrow.Author.Needs.{needs}
 use Rattle.acceptance.proofs.entries.accept_file.Statement.{statement}
 use Rattle.acceptance.proofs.entries.accept_file.Tie as tie

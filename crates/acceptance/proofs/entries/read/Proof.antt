@@ -1,6 +1,6 @@
 -- `acceptance::entries::read` meets its contract: the answer of a refused file, and that of an accepted one.
 -- Assumes nothing.
-use Rattle.timing.specs.AcceptLaws.{reads-refused, reads-accepted}
+use Rattle.timing.specs.Laws.AcceptLaws.{reads-refused, reads-accepted}
 use borrow.Author.Needs.{needs}
 use Rattle.acceptance.proofs.entries.read.Statement.{statement}
 use Rattle.acceptance.proofs.entries.read.Tie as tie

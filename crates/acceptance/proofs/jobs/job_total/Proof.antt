@@ -5,10 +5,10 @@ use native.Mathlib.Omega.{arith}
 use mathlib.Core.Path.{_≡_}
 use mathlib.Core.List.{map}
 use lib.ListN.{drop}
-use Rattle.taskfile.specs.Lists.{sum}
+use Rattle.notation.specs.Lists.{sum}
 use Rattle.taskfile.specs.Tables.{tasksOf}
 use Rattle.timing.specs.Jobs.{jobsWithin, jobCount}
-use Rattle.timing.specs.TimeableLaws.{period-read, jobs-step, sum-end}
+use Rattle.timing.specs.Laws.TimeableLaws.{period-read, jobs-step, sum-end}
 use Rattle.acceptance.proofs.jobs.job_total.Statement.{statement}
 use Rattle.acceptance.proofs.jobs.job_total.Tie as tie
 

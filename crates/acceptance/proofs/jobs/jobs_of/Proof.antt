@@ -7,13 +7,13 @@ use mathlib.Core.Path.{_≡_, ap, _∙_}
 use mathlib.Core.List.{map}
 use lib.ListN.{drop}
 use borrow.Author.Needs.{needs}
-use Rattle.taskfile.specs.Lists.{sum}
+use Rattle.notation.specs.Lists.{sum}
 use Rattle.taskfile.specs.Tables.{tasksOf}
 use Rattle.timing.specs.declared.JobList.{JobList}
 use Rattle.timing.specs.Jobs.{jobsWithin, jobCount}
-use Rattle.timing.specs.JobParts.{jobListOf}
-use Rattle.timing.specs.JobListLaws.{jobsBelow, none-below, task-added, below-all}
-use Rattle.timing.specs.TimeableLaws.{period-read, jobs-step, task-read}
+use Rattle.timing.specs.Code.JobParts.{jobListOf}
+use Rattle.timing.specs.Laws.JobListLaws.{jobsBelow, none-below, task-added, below-all}
+use Rattle.timing.specs.Laws.TimeableLaws.{period-read, jobs-step, task-read}
 use Rattle.acceptance.proofs.jobs.jobs_of.Statement.{statement}
 use Rattle.acceptance.proofs.jobs.jobs_of.Tie as tie
 

@@ -5,7 +5,7 @@ use mathlib.Core.Path.{_≡_, ap₂, _∙_}
 use Prim.Native.Nat.{_-_}
 use native.Mathlib.Omega.{arith}
 use Rattle.timing.specs.Jobs.{jobsWithin}
-use Rattle.timing.specs.JobListLaws.{none-within, roundedUp-le}
+use Rattle.timing.specs.Laws.JobListLaws.{none-within, roundedUp-le}
 use Rattle.timing.specs.Response.{roundedUp}
 use borrow.Author.Needs.{needs}
 use Rattle.acceptance.proofs.jobs.jobs_within.Statement.{statement}

@@ -1,8 +1,8 @@
 -- `acceptance::jobs::no_jobs` meets its contract: the empty list, filled up.
 -- Assumes nothing.
 use mathlib.Core.Path.{refl}
-use Rattle.taskfile.specs.Lists.{padded}
-use Rattle.timing.specs.JobParts.{jobListOf}
+use Rattle.notation.specs.Lists.{padded}
+use Rattle.timing.specs.Code.JobParts.{jobListOf}
 use Rattle.acceptance.proofs.jobs.no_jobs.Statement.{statement}
 use Rattle.acceptance.proofs.jobs.no_jobs.Tie as tie
 

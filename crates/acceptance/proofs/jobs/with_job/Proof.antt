@@ -1,7 +1,7 @@
 -- `acceptance::jobs::with_job` meets its contract: a store behind the last job is one job more.
 -- Assumes nothing.
 use mathlib.Core.Path.{refl}
-use Rattle.timing.specs.JobListLaws.{job-added}
+use Rattle.timing.specs.Laws.JobListLaws.{job-added}
 use borrow.Author.Needs.{needs}
 use Rattle.acceptance.proofs.jobs.with_job.Statement.{statement}
 use Rattle.acceptance.proofs.jobs.with_job.Tie as tie

@@ -5,10 +5,10 @@ use native.Mathlib.Omega.{arith}
 use mathlib.Core.Path.{_≡_, ap, _∙_}
 use mathlib.Core.List.{List, _++_, map}
 use borrow.Author.Needs.{needs}
-use Rattle.taskfile.specs.Lists.{upTo}
+use Rattle.notation.specs.Lists.{upTo}
 use Rattle.timing.specs.declared.JobRecord.{JobRecord}
-use Rattle.timing.specs.JobParts.{jobListOf}
-use Rattle.timing.specs.JobListLaws.{jobAs, none-added, one-added, all-added, product-fits}
+use Rattle.timing.specs.Code.JobParts.{jobListOf}
+use Rattle.timing.specs.Laws.JobListLaws.{jobAs, none-added, one-added, all-added, product-fits}
 use Rattle.acceptance.proofs.jobs.with_jobs.Statement.{statement}
 use Rattle.acceptance.proofs.jobs.with_jobs.Tie as tie
 

@@ -3,8 +3,8 @@
 use mathlib.Core.Path.{sym, ap, _∙_}
 use mathlib.Core.Bool.{not}
 use borrow.Author.Tests.{eq-eqb, ne-eqb, lt-ltb, le-ltb, le-leb, lt-leb}
-use Rattle.taskfile.specs.Tests.{or-left, and-first, and-second, or-second}
-use Rattle.timing.specs.JobListLaws.{before-listed}
+use Rattle.notation.specs.Laws.TestLaws.{or-left, and-first, and-second, or-second}
+use Rattle.timing.specs.Laws.JobListLaws.{before-listed}
 use borrow.Author.Needs.{needs}
 use Rattle.acceptance.proofs.relations.comes_before.Statement.{statement}
 use Rattle.acceptance.proofs.relations.comes_before.Tie as tie

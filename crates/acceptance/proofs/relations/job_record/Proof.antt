@@ -1,6 +1,6 @@
 -- `acceptance::relations::job_record` meets its contract: an array that holds a list holds its elements.
 -- Assumes nothing.
-use Rattle.timing.specs.JobListLaws.{record-listed}
+use Rattle.timing.specs.Laws.JobListLaws.{record-listed}
 use borrow.Author.Needs.{needs}
 use Rattle.acceptance.proofs.relations.job_record.Statement.{statement}
 use Rattle.acceptance.proofs.relations.job_record.Tie as tie

@@ -2,8 +2,8 @@
 -- Assumes nothing.
 use mathlib.Core.Path.{sym, _∙_}
 use borrow.Author.Tests.{lt-ltb, le-ltb}
-use Rattle.taskfile.specs.Tests.{and-second, and-holds}
-use Rattle.timing.specs.JobListLaws.{preempt-listed}
+use Rattle.notation.specs.Laws.TestLaws.{and-second, and-holds}
+use Rattle.timing.specs.Laws.JobListLaws.{preempt-listed}
 use borrow.Author.Needs.{needs}
 use Rattle.acceptance.proofs.relations.may_preempt.Statement.{statement}
 use Rattle.acceptance.proofs.relations.may_preempt.Tie as tie

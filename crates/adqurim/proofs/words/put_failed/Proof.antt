@@ -6,9 +6,9 @@ use Prim.Native.Nat.{_-_}
 use native.Mathlib.Omega.{arith}
 use mathlib.Core.List.{map}
 use lib.ListN.{length}
-use Rattle.taskfile.specs.QuantifierLaws.{map-length}
+use Rattle.notation.specs.Laws.QuantifierLaws.{map-length}
 use Rattle.adqurim.specs.Words.{flag}
-use Rattle.adqurim.specs.WordsLaws.{StoredTo, stored-length, stored-more, stored-all, flag-at}
+use Rattle.adqurim.specs.Laws.WordsLaws.{StoredTo, stored-length, stored-more, stored-all, flag-at}
 use Rattle.adqurim.proofs.words.put_failed.Statement.{statement}
 use Rattle.adqurim.proofs.words.put_failed.Tie as tie
 

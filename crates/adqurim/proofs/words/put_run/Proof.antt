@@ -7,7 +7,7 @@ use lib.ListN.{length, length-map, length-set}
 use lib.Seq.{length-sets}
 use borrow.Author.Needs.{needs}
 use borrow.Author.Tests.{le-leb, lt-leb}
-use Rattle.adqurim.specs.WordsLaws.{run-no-room, run-stored}
+use Rattle.adqurim.specs.Laws.WordsLaws.{run-no-room, run-stored}
 use Rattle.adqurim.proofs.words.put_run.Statement.{statement}
 use Rattle.adqurim.proofs.words.put_run.Tie as tie
 

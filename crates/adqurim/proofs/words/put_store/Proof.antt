@@ -5,7 +5,7 @@ use mathlib.Core.Path.{_≡_, refl}
 use Prim.Native.Nat.{_-_}
 use native.Mathlib.Omega.{arith}
 use lib.ListN.{length}
-use Rattle.adqurim.specs.WordsLaws.{StoredTo, stored-length, stored-more, stored-all}
+use Rattle.adqurim.specs.Laws.WordsLaws.{StoredTo, stored-length, stored-more, stored-all}
 use Rattle.adqurim.proofs.words.put_store.Statement.{statement}
 use Rattle.adqurim.proofs.words.put_store.Tie as tie
 

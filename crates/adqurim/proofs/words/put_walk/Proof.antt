@@ -5,7 +5,7 @@ use native.Mathlib.Omega.{arith}
 use lib.ListN.{length, length-map, length-set}
 use borrow.Author.Needs.{needs}
 use borrow.Author.Tests.{le-leb, lt-leb}
-use Rattle.adqurim.specs.WordsLaws.{walk-no-room, part-filled, walk-stored}
+use Rattle.adqurim.specs.Laws.WordsLaws.{walk-no-room, part-filled, walk-stored}
 use Rattle.adqurim.proofs.words.put_walk.Statement.{statement}
 use Rattle.adqurim.proofs.words.put_walk.Tie as tie
 

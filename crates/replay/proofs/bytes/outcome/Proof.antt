@@ -1,7 +1,7 @@
 -- `replay::bytes::outcome` meets its contract: the state is what `snapshot_of` ensures.
 -- Assumes nothing.
 use borrow.Author.Needs.{needs}
-use Rattle.replay.specs.ReadLaws.{outcome-made}
+use Rattle.replay.specs.Laws.ReadLaws.{outcome-made}
 use Rattle.replay.proofs.bytes.outcome.Statement.{statement}
 use Rattle.replay.proofs.bytes.outcome.Tie as tie
 

@@ -5,9 +5,9 @@ use mathlib.Core.Path.{refl, _∙_}
 use Prim.Native.Nat.{_-_}
 use native.Mathlib.Omega.{arith}
 use lib.ListN.{length}
-use Rattle.order.specs.ReplayLoopLaws.{Reached, replay-past, replay-whole, replay-short}
-use Rattle.steps.specs.StateBytes.{snapshotIn, IsState}
-use Rattle.replay.specs.StepBytes.{step-refused, step-goes}
+use Rattle.snapshots.specs.Laws.ReplayLoopLaws.{Reached, replay-past, replay-whole, replay-short}
+use Rattle.states.specs.Code.StateBytes.{snapshotIn, IsState}
+use Rattle.replay.specs.Laws.StepBytes.{step-refused, step-goes}
 use Rattle.replay.proofs.bytes.replay_from.Statement.{statement}
 use Rattle.replay.proofs.bytes.replay_from.Tie as tie
 

@@ -1,7 +1,7 @@
 -- `replay::bytes::snapshot_of` meets its contract: each part is what its function ensures.
 -- Assumes nothing.
 use borrow.Author.Needs.{needs}
-use Rattle.replay.specs.ReadLaws.{snapshot-read}
+use Rattle.replay.specs.Laws.ReadLaws.{snapshot-read}
 use Rattle.replay.proofs.bytes.snapshot_of.Statement.{statement}
 use Rattle.replay.proofs.bytes.snapshot_of.Tie as tie
 

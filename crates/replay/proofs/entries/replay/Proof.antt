@@ -2,7 +2,7 @@
 -- Assumes nothing.
 use mathlib.Core.Path.{_∙_}
 use native.Mathlib.Omega.{arith}
-use Rattle.order.specs.ReplayEntryLaws.{answers-refused, answers-parts, answers-place, answers-fault, answers-ended}
+use Rattle.snapshots.specs.Laws.ReplayEntryLaws.{answers-refused, answers-parts, answers-place, answers-fault, answers-ended}
 use borrow.Author.Needs.{needs}
 use Rattle.replay.proofs.entries.replay.Statement.{statement}
 use Rattle.replay.proofs.entries.replay.Tie as tie

@@ -1,7 +1,7 @@
 -- `replay::entries::replay_table` meets its contract: the filled arrays hold the table, so the replay on snapshots is that of the definition.
 -- Assumes nothing.
 use borrow.Author.Needs.{needs}
-use Rattle.order.specs.ReplayEntryLaws.{replay-lent}
+use Rattle.snapshots.specs.Laws.ReplayEntryLaws.{replay-lent}
 use Rattle.replay.proofs.entries.replay_table.Statement.{statement}
 use Rattle.replay.proofs.entries.replay_table.Tie as tie
 

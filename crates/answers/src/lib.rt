@@ -1,0 +1,31 @@
+// What an entry that runs jobs answers.
+use machine::RunAnswer;
+ghost use mathlib.Core.Path.{_≡_};
+ghost use Rattle.notation.specs.Checked.{refused, passed};
+ghost use Rattle.machine.specs.Buffers.{runAnswer, unwritten};
+
+// A refusal: number and place, every other field zero.
+pub fn refused_run(number: u8, place: u32) -> RunAnswer
+    ensures { λ r. ⌜ r ≡ runAnswer (refused number place) ⌝ }
+{
+    RunAnswer {
+        number: number,
+        place: place,
+        store: [0; 8],
+        failed: [false; 32],
+        length: 0,
+    }
+}
+
+// An end, with nothing written.
+pub fn ended_run(store: [u8; 8], failed: [bool; 32]) -> RunAnswer
+    ensures { λ r. ⌜ r ≡ runAnswer (unwritten (passed (record { store = store; failed = failed }))) ⌝ }
+{
+    RunAnswer {
+        number: 0,
+        place: 0,
+        store: store,
+        failed: failed,
+        length: 0,
+    }
+}

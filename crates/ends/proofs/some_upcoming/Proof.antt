@@ -1,0 +1,73 @@
+-- `ends::some_upcoming` meets its contract. The loop's invariant: some task has such a job if one from k on has. The measure is the
+-- number of tasks left.
+-- Assumes nothing.
+use mathlib.Core.Path.{_≡_, refl}
+use Prim.Native.Nat.{_≤_, _-_}
+use native.Mathlib.Omega.{arith}
+use Rattle.notation.specs.Lists.{any, from, upTo}
+use Rattle.snapshots.specs.Laws.ReplayLoopLaws.{any-found, any-later, any-missing}
+use Rattle.snapshots.specs.Code.SnapshotSteps.{hasUpcoming}
+use Rattle.states.specs.Code.StateBytes.{snapshotIn}
+use Rattle.ends.specs.Laws.FlagsRead.{upcoming-at}
+use Rattle.ends.proofs.some_upcoming.Statement.{statement}
+use Rattle.ends.proofs.some_upcoming.Tie as tie
+
+abbrev Inv-loop : tie.InvT-loop
+Inv-loop program s k₀ k =
+    (k ≤ 8)
+    × (any (hasUpcoming program (snapshotIn s .upcoming)) (upTo 8) ≡ any (hasUpcoming program (snapshotIn s .upcoming)) (from k (8 - k)))
+
+abbrev μ-loop : tie.MeasureT-loop
+μ-loop program s k₀ k = 8 - k
+
+loop-holds : tie.Need-loop-holds Inv-loop μ-loop
+unfolding upTo
+loop-holds c = (omega arith, refl)
+
+cast-t6 : tie.Need-cast-t6 Inv-loop μ-loop
+cast-t6 c = omega arith
+
+add-t7 : tie.Need-add-t7 Inv-loop μ-loop
+add-t7 c = omega arith
+
+element-copy-out-t10 : tie.Need-element-copy-out-t10 Inv-loop μ-loop
+element-copy-out-t10 c = omega arith
+
+owned-by-requires : tie.Need-owned-by-requires Inv-loop μ-loop
+owned-by-requires c κs = tt
+
+returns : tie.Need-returns Inv-loop μ-loop
+returns c =
+    let lt = c .before .before .before .loop-test .taken in
+    any-found _ _ (c .before .before .before .before .loop .inv .1) lt (upcoming-at _ _ _ lt (c .before .owned-by .ensures)) (c .if1 .taken)
+
+add-k : tie.Need-add-k Inv-loop μ-loop
+add-k c = omega arith
+
+loop-less : tie.Need-loop-less Inv-loop μ-loop
+loop-less c = omega arith
+
+loop-again : tie.Need-loop-again Inv-loop μ-loop
+loop-again c =
+    let lt = c .before .before .before .loop-test .taken in
+    (omega arith, any-later _ _ (c .before .before .before .before .loop .inv .1) lt (upcoming-at _ _ _ lt (c .before .owned-by .ensures)) (c .if1 .left))
+
+returns-2 : tie.Need-returns-2 Inv-loop μ-loop
+returns-2 c = any-missing _ _ (c .before .loop .inv .1) (c .loop-test .left)
+
+pub some-upcoming-spec : {M : Type 1} → statement M
+some-upcoming-spec =
+    tie.close
+    (tie.spec
+    Inv-loop
+    μ-loop
+    loop-holds
+    cast-t6
+    add-t7
+    element-copy-out-t10
+    owned-by-requires
+    returns
+    add-k
+    loop-less
+    loop-again
+    returns-2)

@@ -1,0 +1,4 @@
+pub mod BodyLaws
+pub mod HeldLaws
+pub mod InstructionLaws
+pub mod ValueLaws

@@ -1,0 +1,250 @@
+-- Where all jobs of an order have ended, what holds of any two of them makes their steps, as a plan's run, legal: no pair has the faults of
+-- 43 and 44, and with the right guesses the plan has no fault at all.
+-- Assumes nothing.
+use mathlib.Core.Path.{_≡_, refl, sym, ap, subst, _∙_}
+use mathlib.Core.Logic.{_⊎_, inl, inr}
+use Prim.Native.Nat.{ℕ, _≤_, _<_}
+use native.Mathlib.Omega.{arith}
+use mathlib.Core.Bool.{Bool, true, false, not, _&&_, _||_}
+use mathlib.Core.List.{List, [], _∷_, map, List·Memᴰ, List·Memᴰ·not-nil, List·Memᴰ·head, List·Memᴰ·tail, List·Memᴰ·cases-cons, Memᴰ·of-map}
+use lib.ListN.{length, getD}
+use lib.Dec.{leb, ltb, eqb}
+use borrow.Author.Tests.{ltb-true, leb-true, lt-ltb, le-ltb, le-leb, lt-leb, eq-eqb}
+use Rattle.notation.specs.Checked.{passed, noneOf, placedBy}
+use Rattle.taskfile.specs.Laws.CheckSteps.{then-goes, noneOf-upTo-none}
+use Rattle.notation.specs.Laws.ListLaws.{upTo-member, member-each}
+use Rattle.notation.specs.Lists.{if_then_else_, upTo, only, same, firstOr, lastOr}
+use Rattle.notation.specs.Laws.QuantifierLaws.{at-all, map-length}
+use Rattle.notation.specs.Laws.TestLaws.{both, and-holds, and-first, and-last, or-left, or-right, decided}
+use Rattle.timing.specs.declared.Job.{Job}
+use Rattle.timing.specs.Accepted.{Accepted}
+use Rattle.timing.specs.Laws.JobNumberLaws.{all-jobs}
+use Rattle.timing.specs.Relations.{IsJob, base, before, mayPreempt, jobNumbers}
+use Rattle.order.specs.Code.Invariant.{hasBegun}
+use Rattle.order.specs.States.{State, hasEnded, allEnded}
+use Rattle.plan.specs.Legality.{Pair, pairs, stepsOf, roundsOf, start, end, beforeRule, apart, nested, noStepWithin, preemptRule, priorityAt, lockRule, orderFault, lockFault, dueStore, guessFault, legality}
+use Rattle.plan.specs.Runs.{Plan, Step, JobRuns, guess, jobTotal}
+use Rattle.matching.specs.Laws.LegalLaws.{Rules, asked-holds}
+use Rattle.matching.specs.Laws.Pairings.{Made, madeRounds, first, last, priorityUpTo, Clear, Inside, Paired}
+
+-- ---- lists and tests
+
+-- a round outside those from s + 1 to e
+outside : (s e r : ℕ) → (r ≤ s) ⊎ (e < r) → not (ltb s r && leb r e) ≡ true
+outside s e r h =
+    elim h [
+      | inl low ↦ ap not (and-first (ltb s r) (leb r e) (le-ltb s r low))
+      | inr high ↦ ap not (and-last (ltb s r) (leb r e) (lt-leb r e high))
+    ]
+
+-- a list is the same as itself
+same-refl : (xs : List ℕ) → same xs xs ≡ true
+unfolding same
+same-refl [] = refl
+same-refl (x ∷ xs) = and-holds (eqb x x) _ (eq-eqb x x refl) (same-refl xs)
+
+-- the elements that are kept are elements
+member-only : {A : Type 0} (test : A → Bool) (xs : List A) {x : A} → List·Memᴰ x (only test xs) → List·Memᴰ x xs
+unfolding only if_then_else_
+member-only test [] m = absurd (List·Memᴰ·not-nil m)
+member-only test (y ∷ ys) {x} m = go (test y) m (λ n. member-only test ys n)
+  where
+    go : (b : Bool) → List·Memᴰ x (if b then y ∷ only test ys else only test ys) → (List·Memᴰ x (only test ys) → List·Memᴰ x ys)
+        → List·Memᴰ x (y ∷ ys)
+    go true m later =
+        elim (List·Memᴰ·cases-cons m) [ inl here ↦ List·Memᴰ·head here | inr there ↦ List·Memᴰ·tail (later there) ]
+    go false m later = List·Memᴰ·tail (later m)
+
+-- where no listed place has the fault, the check passes
+none-faulty : {P : Type 0} (number : ℕ) (fault : P → Bool) (places : List P) → ((p : P) → List·Memᴰ p places → fault p ≡ false)
+    → noneOf number fault places ≡ passed tt
+unfolding noneOf if_then_else_
+none-faulty number fault [] h = refl
+none-faulty number fault (p ∷ ps) h = rw (h p (List·Memᴰ·head refl)) (none-faulty number fault ps (λ q m. h q (List·Memᴰ·tail m)))
+
+-- ---- pairs and guesses
+
+jobs-are : (a : Accepted) (x : Job) → List·Memᴰ x (jobNumbers a) → IsJob a x
+unfolding jobNumbers
+jobs-are a x m =
+    let found = Memᴰ·of-map (λ (n : ℕ). record { 0 = n }) (upTo (length (a .jobs))) m in
+    let number = ap (λ (y : Job). y .0) (found .2) in
+    omega (arith, upTo-member (length (a .jobs)) (found .0) .0 (found .1), number)
+
+-- what holds of any two jobs holds of the listed pairs
+pairs-all : (a : Accepted) (P : Pair → Type 0) → ((x y : Job) → IsJob a x → IsJob a y → P (record { lower = x; higher = y }))
+    → (p : Pair) → List·Memᴰ p (pairs a) → P p
+unfolding pairs
+pairs-all a P h p m =
+    let pairsFrom : Job → List Pair = λ x. map (λ y. record { lower = x; higher = y }) (only (λ y. ltb (x .0) (y .0)) (jobNumbers a)) in
+    let outer = member-each (jobNumbers a) pairsFrom m in
+    let x = outer .0 in
+    let inner = Memᴰ·of-map (λ y. record { lower = x; higher = y }) (only (λ y. ltb (x .0) (y .0)) (jobNumbers a)) (outer .2) in
+    let kept = member-only (λ (y : Job). ltb (x .0) (y .0)) (jobNumbers a) (inner .1) in
+    subst P (inner .2) (h x (inner .0) (jobs-are a x (outer .1)) (jobs-are a (inner .0) kept))
+
+guess-right : (a : Accepted) (plan : Plan) (runs : JobRuns) (q : ℕ) → guess plan q ≡ dueStore a runs q → guessFault a plan runs q ≡ false
+unfolding guessFault
+guess-right a plan runs q e = ap not (ap (λ (s : List ℕ). same (guess plan q) s) (sym e) ∙ same-refl (guess plan q))
+
+-- ---- two jobs' rules
+
+-- the run has each job's steps as the order made them
+abbrev pub SameSteps : Accepted → JobRuns → Made → Type 0
+SameSteps a runs made = (x : Job) → IsJob a x → getD (runs .steps) (x .0) [] ≡ made (x .0)
+
+module _ (a : Accepted) (runs : JobRuns) (made : Made) (steps : SameSteps a runs made) where
+  -- so its rounds, starts, ends and priorities are the order's
+  rounds-made : (x : Job) → IsJob a x → roundsOf runs x ≡ madeRounds made x
+  unfolding roundsOf madeRounds stepsOf
+  rounds-made x isJob = ap (map (λ (step : Step). step .round .0)) (steps x isJob)
+
+  start-made : (x : Job) → IsJob a x → start runs x ≡ first made x
+  unfolding start first
+  start-made x isJob = ap (firstOr 0) (rounds-made x isJob)
+
+  end-made : (x : Job) → IsJob a x → end runs x ≡ last made x
+  unfolding end last
+  end-made x isJob = ap (lastOr 0) (rounds-made x isJob)
+
+  priority-made : (x : Job) (r : ℕ) → IsJob a x → priorityAt a runs x r ≡ priorityUpTo a made x r
+  unfolding priorityAt priorityUpTo stepsOf
+  priority-made x r isJob =
+      ap (λ (l : List Step). lastOr (base a x) (map (λ step. step .priorityAfter) (only (λ step. leb (step .round .0) r) l))) (steps x isJob)
+
+  -- no step of x within y
+  clear-made : (x y : Job) → IsJob a x → IsJob a y → Clear made x y → noStepWithin runs x y ≡ true
+  unfolding noStepWithin
+  clear-made x y isX isY clear =
+      rw (rounds-made x isX, start-made y isY, end-made y isY)
+      (at-all (λ r. not (ltb (first made y) r && leb r (last made y))) (madeRounds made x) 0
+      (λ k lt. outside (first made y) (last made y) (getD (madeRounds made x) k 0) (clear k lt)))
+
+  module _ {s : State} {r : ℕ} (paired : Paired a s r made) (done : allEnded a s ≡ true) where
+    ended : (x : Job) → IsJob a x → hasEnded s x ≡ true
+    unfolding allEnded
+    ended x isJob = all-jobs a (hasEnded s) done x isJob
+
+    begun : (x : Job) → IsJob a x → hasBegun s x ≡ true
+    unfolding hasBegun
+    begun x isJob = or-left (hasEnded s x) _ (ended x isJob)
+
+    -- a job's first round is not after its last
+    first-last : (x : Job) → IsJob a x → first made x ≤ last made x
+    unfolding madeRounds
+    first-last x isJob =
+        let some = paired .some-made x isJob (begun x isJob) in
+        let count = map-length (λ (step : Step). step .round .0) (made (x .0)) in
+        let lies = paired .rising x 0 isJob (omega (arith, some, count)) in
+        omega (arith, lies .0, lies .1)
+
+    -- "X before Y: end X < start Y."
+    before-made : (x y : Job) → IsJob a x → IsJob a y → beforeRule a runs x y ≡ true
+    unfolding beforeRule
+    before-made x y isX isY =
+        asked-holds (before a x y) (ltb (end runs x) (start runs y))
+        (λ h. lt-ltb (end runs x) (start runs y)
+        (omega (arith, paired .preceding x y isX isY h (begun y isY), end-made x isX, start-made y isY)))
+
+    -- "start X ≤ start Y and end Y < end X", with no step of X within Y
+    nested-made : (x y : Job) → IsJob a x → IsJob a y → Inside a made y x → last made y < last made x
+        → (nested runs y x && noStepWithin runs x y) ≡ true
+    unfolding nested
+    nested-made x y isX isY inside ends =
+        let starts : start runs x ≤ start runs y = omega (arith, inside .starts, start-made x isX, start-made y isY) in
+        let closes : end runs y < end runs x = omega (arith, ends, end-made x isX, end-made y isY) in
+        and-holds _ _ (and-holds _ _ (le-leb _ _ starts) (lt-ltb _ _ closes)) (clear-made x y isX isY (inside .clear))
+
+    -- "Y may preempt X: either end X < start Y, or end Y < start X, or .."
+    lies-made : (x y : Job) → IsJob a x → IsJob a y → mayPreempt a y x ≡ true
+        → (apart runs x y ≡ true) ⊎ ((nested runs y x && noStepWithin runs x y) ≡ true)
+    unfolding apart
+    lies-made x y isX isY may =
+        elim (paired .both-ended x y isX isY may (ended x isX) (ended y isY)) [
+          | inl earlier ↦
+              let lt : end runs x < start runs y = omega (arith, earlier, end-made x isX, start-made y isY) in
+              inl (or-left (ltb (end runs x) (start runs y)) _ (lt-ltb _ _ lt))
+          | inr (inl later) ↦
+              let lt : end runs y < start runs x = omega (arith, later, end-made y isY, start-made x isX) in
+              inl (or-right (ltb (end runs x) (start runs y)) _ (lt-ltb _ _ lt))
+          | inr (inr inner) ↦ inr (nested-made x y isX isY (inner .0) (inner .1))
+        ]
+
+    preempt-made : (x y : Job) → IsJob a x → IsJob a y → preemptRule a runs y x ≡ true
+    unfolding preemptRule
+    preempt-made x y isX isY =
+        elim (decided (mayPreempt a y x)) [
+          | inr never ↦ or-left (not (mayPreempt a y x) || apart runs x y) _ (or-left (not (mayPreempt a y x)) _ (ap not never))
+          | inl may ↦
+              elim (lies-made x y isX isY may) [
+                | inl aside ↦ or-left (not (mayPreempt a y x) || apart runs x y) _ (or-right (not (mayPreempt a y x)) _ aside)
+                | inr inside ↦ or-right (not (mayPreempt a y x) || apart runs x y) _ inside
+              ]
+        ]
+
+    -- y nested in x, by the order's rounds
+    nested-says : (x y : Job) → IsJob a x → IsJob a y → nested runs y x ≡ true
+        → (first made x ≤ first made y) × (last made y < last made x)
+    unfolding nested
+    nested-says x y isX isY nest =
+        let parts = both (leb (start runs x) (start runs y)) _ nest in
+        let starts = leb-true (start runs x) (start runs y) (parts .0) in
+        let closes = ltb-true (end runs y) (end runs x) (parts .1) in (
+          omega (arith, starts, start-made x isX, start-made y isY),
+          omega (arith, closes, end-made x isX, end-made y isY),
+        )
+
+    -- then x's priority was below y's base when y started, since the first two cases are out
+    unlocked-made : (x y : Job) → IsJob a x → IsJob a y → mayPreempt a y x ≡ true → nested runs y x ≡ true
+        → priorityAt a runs x (start runs y) < base a y
+    unlocked-made x y isX isY may nest =
+        let says = nested-says x y isX isY nest in
+        elim (paired .both-ended x y isX isY may (ended x isX) (ended y isY)) [
+          | inl earlier ↦ absurd (omega (arith, says .1, earlier, first-last y isY))
+          | inr (inl later) ↦ absurd (omega (arith, says .0, later, first-last y isY))
+          | inr (inr inner) ↦ rw (start-made y isY, priority-made x (first made y) isX) (inner .0 .unlocked)
+        ]
+
+    lock-made : (x y : Job) → IsJob a x → IsJob a y → lockRule a runs y x ≡ true
+    unfolding lockRule
+    lock-made x y isX isY =
+        asked-holds (mayPreempt a y x && nested runs y x) (ltb (priorityAt a runs x (start runs y)) (base a y))
+        (λ h. (let parts = both (mayPreempt a y x) _ h in lt-ltb _ _ (unlocked-made x y isX isY (parts .0) (parts .1))))
+
+    -- so any two jobs keep the three rules
+    pub paired-rules : (x y : Job) → IsJob a x → IsJob a y → Rules a runs x y
+    paired-rules x y isX isY = (before-made x y isX isY, preempt-made y x isY isX, lock-made y x isY isX)
+
+    -- ---- the plan
+
+    -- two jobs have no fault
+    paired-order : (x y : Job) → IsJob a x → IsJob a y → orderFault a runs (record { lower = x; higher = y }) ≡ false
+    unfolding orderFault
+    paired-order x y isX isY =
+        ap not
+        (and-holds (beforeRule a runs x y && beforeRule a runs y x && preemptRule a runs y x) _
+        (and-holds (beforeRule a runs x y && beforeRule a runs y x) _
+        (and-holds (beforeRule a runs x y) _ (before-made x y isX isY) (before-made y x isY isX)) (preempt-made x y isX isY))
+        (preempt-made y x isY isX))
+
+    paired-lock : (x y : Job) → IsJob a x → IsJob a y → lockFault a runs (record { lower = x; higher = y }) ≡ false
+    unfolding lockFault
+    paired-lock x y isX isY = ap not (and-holds (lockRule a runs y x) _ (lock-made x y isX isY) (lock-made y x isY isX))
+
+    -- so no pair has one
+    pub paired-orders : (p : Pair) → List·Memᴰ p (pairs a) → orderFault a runs p ≡ false
+    paired-orders = pairs-all a (λ p. orderFault a runs p ≡ false) paired-order
+
+    pub paired-locks : (p : Pair) → List·Memᴰ p (pairs a) → lockFault a runs p ≡ false
+    paired-locks = pairs-all a (λ p. lockFault a runs p ≡ false) paired-lock
+
+    -- and with the right guesses the run is legal
+    pub paired-legal : (plan : Plan) → ((q : ℕ) → q < jobTotal a → guess plan q ≡ dueStore a runs q) → legality a plan runs ≡ passed tt
+    unfolding legality placedBy
+    paired-legal plan right =
+        let orders = none-faulty 43 (orderFault a runs) (pairs a) paired-orders in
+        let locks = none-faulty 44 (lockFault a runs) (pairs a) paired-locks in
+        let guesses = noneOf-upTo-none 45 (guessFault a plan runs) (jobTotal a) (λ q lt. guess-right a plan runs q (right q lt)) in
+        then-goes _ (ap (placedBy (λ (p : Pair). p .lower .0)) orders)
+        ∙ then-goes _ (ap (placedBy (λ (p : Pair). p .lower .0)) locks)
+        ∙ guesses

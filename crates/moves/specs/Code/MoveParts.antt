@@ -1,0 +1,52 @@
+-- The moves of a snapshot, as their functions yield them: the next byte that is a step, and where it is looked for.
+-- Assumes nothing.
+use mathlib.Core.Path.{_≡_}
+use Prim.Native.Nat.{ℕ, _+_, _*_, _/_, _%_, _≤_, _<_}
+use mathlib.Core.Bool.{Bool, true, false, _&&_, _||_}
+use mathlib.Core.List.{List}
+use lib.Dec.{ltb, eqb}
+use lib.ListN.{getD}
+use Rattle.taskfile.specs.declared.Ceilings.{Ceilings}
+use Rattle.notation.specs.Lists.{if_then_else_}
+use Rattle.order.specs.declared.Frame.{Frame}
+use Rattle.snapshots.specs.declared.Snapshot.{Snapshot}
+use Rattle.snapshots.specs.Code.SnapshotSteps.{ownerIn, ownedBy, instructionIn, topOf, turnIn, stepIn}
+use Rattle.snapshots.specs.Code.StepParts.{offeredIn}
+use Rattle.moves.specs.declared.Candidate.{Candidate}
+
+-- no byte from `first` up to `last` is a step
+abbrev pub NoStep : List ℕ → List ℕ → Ceilings → Snapshot → ℕ → ℕ → Type 0
+NoStep program times locks p first last = (k : ℕ) → first ≤ k → k < last → stepIn program times locks p k .allowed ≡ false
+
+-- the first byte from `byte` on that is a step, if one below 128 is, whose turn that is, and from where on the next may be
+pub record NextStep (program times : List ℕ) (locks : Ceilings) (p : Snapshot) (byte : ℕ) (m : Candidate) : Type 0 where
+  pub none-before : NoStep program times locks p byte (m .byte)
+  pub ahead : byte ≤ m .byte
+  pub below : m .byte ≤ 128
+  pub allowed : m .byte < 128 → stepIn program times locks p (m .byte) .allowed ≡ true
+  pub turn : m .byte < 128 → m .turn ≡ turnIn program times locks p (m .byte / 16)
+  pub due : m .byte < 128 → m .turn .due ≡ true
+  pub offered : m .byte < 128 → offeredIn program (m .turn .frame) (m .byte / 16) (m .byte % 16) ≡ true
+  pub onward : m .byte < 128 → m .byte < m .next
+  pub bounded : m .next ≤ 128
+  pub none-between : m .byte < 128 → NoStep program times locks p (m .byte + 1) (m .next)
+
+-- the active job started last, or 32
+unfoldable pub topJob : Snapshot → ℕ
+topJob p = if eqb (p .depth) 0 then 32 else topOf p .job .0
+
+-- may it be task i's turn, where `top` is the active job started last?
+unfoldable pub maybeDue : List ℕ → List ℕ → ℕ → ℕ → Bool
+maybeDue program upcoming top i = ownedBy program i top || ownedBy program i (getD upcoming i 0)
+
+-- the first byte from here on of a task that is not below that of `top`
+unfoldable pub firstByte : List ℕ → ℕ → ℕ → ℕ
+firstByte program top byte =
+    let first = 16 * ownerIn program top in
+    if ltb top 32 && ltb (ownerIn program top) 8 && ltb byte first then first else byte
+
+-- where the next value is looked for after a step at this byte
+unfoldable pub valueAfter : List ℕ → Frame → ℕ → ℕ
+valueAfter program f byte =
+    let o = instructionIn program (byte / 16) (f .local .next) in
+    if eqb (o .operation) 8 && ltb (byte % 16) (o .b) && ltb (byte % 16) 15 then byte + 1 else 16 * (byte / 16 + 1)

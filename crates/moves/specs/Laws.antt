@@ -1,0 +1,4 @@
+pub mod DueLaws
+pub mod FirstLaws
+pub mod NextLaws
+pub mod StateLaws

@@ -1,0 +1,12 @@
+pub mod CheckedLaws
+pub mod ClearLaws
+pub mod CountLaws
+pub mod ElementLaws
+pub mod ListLaws
+pub mod PaddedLaws
+pub mod PairLaws
+pub mod QuantifierLaws
+pub mod SearchLaws
+pub mod SomeLaws
+pub mod TabulateLaws
+pub mod TestLaws

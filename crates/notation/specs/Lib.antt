@@ -1,0 +1,4 @@
+pub mod Checked
+pub mod Laws
+pub mod Lists
+pub mod Ordered

@@ -1,0 +1,4 @@
+pub mod CompleteLaws
+pub mod LengthLaws
+pub mod ProgressLaws
+pub mod StepLaws

@@ -1,0 +1,5 @@
+pub mod Lent
+pub mod ReplayParts
+pub mod Shows
+pub mod SnapshotSteps
+pub mod StepParts

@@ -1,0 +1,42 @@
+-- Which table the lent arrays hold, and which state a snapshot shows.
+-- Assumes nothing.
+use mathlib.Core.Path.{_≡_}
+use Prim.Native.Nat.{ℕ, _≤_, _<_}
+use mathlib.Core.List.{List, reverse}
+use lib.ListN.{length, getD, take}
+use lib.Dec.{ltb}
+use Rattle.taskfile.specs.declared.Ceilings.{Ceilings}
+use Rattle.taskfile.specs.declared.Task.{Task}
+use Rattle.taskfile.specs.Judgement.{instructionOf}
+use Rattle.taskfile.specs.Tables.{tasksOf, taskOf, bodyOf, ceilingsOf}
+use Rattle.timing.specs.declared.Job.{Job}
+use Rattle.timing.specs.Accepted.{Accepted}
+use Rattle.timing.specs.Relations.{IsJob, jobAt, base}
+use Rattle.snapshots.specs.declared.Snapshot.{Snapshot}
+use Rattle.order.specs.Code.Invariant.{hasBegun}
+use Rattle.snapshots.specs.Code.SnapshotSteps.{ownerIn, instructionIn, arrivalIn, latestIn, stackOf}
+use Rattle.order.specs.States.{State}
+
+-- ---- what is lent, and what is shown
+
+-- the lent arrays hold an accepted table: each job's task, arrival and latest finish, each instruction, and the ceilings
+pub record Lends (a : Accepted) (program times : List ℕ) (locks : Ceilings) : Type 0 where
+  pub owner : (x : Job) → IsJob a x → ownerIn program (x .0) ≡ base a x
+  pub noOwner : (x : ℕ) → length (a .jobs) ≤ x → x < 32 → ownerIn program x ≡ 8
+  pub arrival : (x : Job) → IsJob a x → arrivalIn times (x .0) ≡ jobAt a x .arrival
+  pub latest : (x : Job) → IsJob a x → latestIn times (x .0) ≡ jobAt a x .latest
+  pub body : (i : Task) (p : ℕ) → i .0 < length (tasksOf (a .table)) → p < length (bodyOf (taskOf (a .table) i))
+      → instructionIn program (i .0) p ≡ instructionOf (a .table) i p
+  pub ceilings : take (locks .count) (locks .ceilings) ≡ ceilingsOf (a .table)
+
+-- the snapshot shows the state: a job has begun if its number is below its task's first job not yet begun, and the jobs of lower tasks
+-- have lower numbers than that
+pub record Shows (a : Accepted) (p : Snapshot) (s : State) : Type 0 where
+  pub store : p .store ≡ s .store
+  pub failed : p .failed ≡ s .failed
+  pub active : s .active ≡ reverse (stackOf p)
+  pub depth : p .depth ≤ 8
+  pub full : length (p .stack) ≡ 8
+  pub places : length (p .upcoming) ≡ 8
+  pub begun : (x : Job) → IsJob a x → hasBegun s x ≡ ltb (x .0) (getD (p .upcoming) (base a x) 0)
+  pub lowest : (k : ℕ) (x : Job) → k < 8 → IsJob a x → base a x < k → x .0 < getD (p .upcoming) k 0

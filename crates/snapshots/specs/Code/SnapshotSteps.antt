@@ -1,0 +1,201 @@
+-- The step on a snapshot, as its functions yield it. The step reads an accepted table in lent arrays of numbers: the program, which is
+-- four bytes for each of sixteen instructions of each of eight tasks, and from 512 on the task of each job (8 where there is no
+-- job); and the times, which are the arrival of each of 32 jobs, and from 32 on each one's latest finish.
+-- `SnapshotLaws` says that this is the step of `Orders`.
+-- Assumes nothing.
+use Prim.Native.Nat.{ℕ, zero, suc, _+_, _-_, _*_, _/_, _%_}
+use mathlib.Core.Bool.{Bool, true, false, not, _&&_, _||_}
+use mathlib.Core.List.{List, [], _∷_, map}
+use lib.ListN.{getD, set, take, replicate}
+use lib.Dec.{leb, ltb, eqb}
+use Rattle.taskfile.specs.declared.Ceilings.{Ceilings}
+use Rattle.taskfile.specs.declared.Instruction.{Instruction}
+use Rattle.notation.specs.Lists.{if_then_else_, all, any, upTo, member}
+use Rattle.timing.specs.declared.Job.{Job}
+use Rattle.machine.specs.declared.Effect.{Effect}
+use Rattle.machine.specs.declared.Local.{Local}
+use Rattle.machine.specs.Ends.{flagged, noFlags}
+use Rattle.machine.specs.Held.{priority}
+use Rattle.machine.specs.Instructions.{Store, fresh, values, perform}
+use Rattle.snapshots.specs.declared.Due.{Due}
+use Rattle.order.specs.declared.Frame.{Frame}
+use Rattle.snapshots.specs.declared.Replayed.{Replayed}
+use Rattle.snapshots.specs.declared.Snapshot.{Snapshot}
+use Rattle.snapshots.specs.declared.Stepped.{Stepped}
+
+-- ---- what the lent arrays say
+
+abbrev pub Program : Type 0
+Program = List ℕ
+
+abbrev pub Times : Type 0
+Times = List ℕ
+
+-- the task of job x
+unfoldable pub ownerIn : Program → ℕ → ℕ
+ownerIn program x = getD program (512 + x) 0
+
+unfoldable pub instructionIn : Program → ℕ → ℕ → Instruction
+instructionIn program i p =
+    record {
+      operation = getD program (64 * i + 4 * p) 0;
+      a = getD program (64 * i + 4 * p + 1) 0;
+      b = getD program (64 * i + 4 * p + 2) 0;
+      c = getD program (64 * i + 4 * p + 3) 0;
+    }
+
+unfoldable pub arrivalIn : Times → ℕ → ℕ
+arrivalIn times x = getD times x 0
+
+unfoldable pub latestIn : Times → ℕ → ℕ
+latestIn times x = getD times (32 + x) 0
+
+-- does job x come before job y, another job?
+unfoldable pub beforeIn : Program → Times → ℕ → ℕ → Bool
+beforeIn program times x y =
+    leb (latestIn times x) (arrivalIn times y)
+    || leb (arrivalIn times x) (arrivalIn times y) && leb (ownerIn program y) (ownerIn program x)
+
+-- may job y preempt job x?
+unfoldable pub preemptsIn : Program → Times → ℕ → ℕ → Bool
+preemptsIn program times y x =
+    ltb (ownerIn program x) (ownerIn program y)
+    && ltb (arrivalIn times x) (arrivalIn times y)
+    && ltb (arrivalIn times y) (latestIn times x)
+
+-- ---- who may start
+
+-- is job x one of task k?
+unfoldable pub ownedBy : Program → ℕ → ℕ → Bool
+ownedBy program k x = ltb x 32 && eqb (ownerIn program x) k
+
+-- must job y wait for task k's first job not yet begun?
+unfoldable pub waitsFor : Program → Times → List ℕ → ℕ → ℕ → Bool
+waitsFor program times upcoming y k =
+    let x = getD upcoming k 0 in
+    ownedBy program k x && not (eqb x y) && beforeIn program times x y
+
+-- must it wait for any?
+unfoldable pub waits : Program → Times → List ℕ → ℕ → Bool
+waits program times upcoming y = any (waitsFor program times upcoming y) (upTo 8)
+
+-- may job y start over an active job?
+unfoldable pub goesOver : Program → Times → Ceilings → ℕ → Frame → Bool
+goesOver program times locks y f =
+    ltb (f .job .0) 32
+    && preemptsIn program times y (f .job .0)
+    && ltb (priority (take (locks .count) (locks .ceilings)) (ownerIn program (f .job .0)) (f .local .held)) (ownerIn program y)
+
+unfoldable pub stackOf : Snapshot → List Frame
+stackOf p = take (p .depth) (p .stack)
+
+-- what stands for a frame that is not there
+unfoldable pub noFrame : Frame
+noFrame = record { job = record { 0 = 0 }; local = fresh }
+
+-- it is nobody's turn
+unfoldable pub nobody : Due
+nobody = record { due = false; frame = noFrame; under = 0 }
+
+-- may task i's first job not yet begun start?
+unfoldable pub startsIn : Program → Times → Ceilings → Snapshot → ℕ → Bool
+startsIn program times locks p i =
+    let y = getD (p .upcoming) i 0 in
+    ltb i 8
+    && ltb (p .depth) 8
+    && ownedBy program i y
+    && not (waits program times (p .upcoming) y)
+    && all (goesOver program times locks y) (stackOf p)
+
+unfoldable pub startIn : Program → Times → Ceilings → Snapshot → ℕ → Due
+startIn program times locks p i =
+    if startsIn program times locks p i
+    then record { due = true; frame = record { job = record { 0 = getD (p .upcoming) i 0 }; local = fresh }; under = p .depth }
+    else nobody
+
+-- ---- the turn and the step
+
+-- what a read past the end of the stack gives
+unfoldable pub beyond : Frame
+beyond = record { job = record { 0 = 0 }; local = record { next = 0; registers = []; held = [] } }
+
+-- the active job started last
+unfoldable pub topOf : Snapshot → Frame
+topOf p = getD (p .stack) (p .depth - 1) beyond
+
+-- is it one of task i, of the eight?
+unfoldable pub runsIn : Program → Snapshot → ℕ → Bool
+runsIn program p i = ltb i 8 && ltb 0 (p .depth) && ownedBy program i (topOf p .job .0)
+
+unfoldable pub turnIn : Program → Times → Ceilings → Snapshot → ℕ → Due
+turnIn program times locks p i =
+    if runsIn program p i
+    then record { due = true; frame = topOf p; under = p .depth - 1 }
+    else startIn program times locks p i
+
+-- the snapshot after job x of task i has had an effect, with so many active jobs under it
+unfoldable pub afterIn : Snapshot → Job → ℕ → ℕ → Effect → Snapshot
+afterIn p x under i effect =
+    record {
+      store = effect .store;
+      upcoming = set (p .upcoming) i (x .0 + 1);
+      failed = flagged (effect .failed) (x .0) (p .failed);
+      depth = if effect .ended then under else under + 1;
+      stack = if effect .ended then p .stack else set (p .stack) under (record { job = x; local = effect .local });
+    }
+
+-- the step of the job in the frame, with the value v, if that value is on offer
+unfoldable pub stepWithIn : Program → Snapshot → Frame → ℕ → ℕ → ℕ → Stepped
+stepWithIn program p f under i v =
+    let instruction = instructionIn program i (f .local .next) in
+    if ltb (f .local .next) 16 && member v (values instruction)
+    then record { allowed = true; state = afterIn p (f .job) under i (perform instruction v (f .local) (p .store)) }
+    else record { allowed = false; state = p }
+
+unfoldable pub dueStep : Program → Snapshot → ℕ → ℕ → Due → Stepped
+dueStep program p i v d =
+    if d .due then stepWithIn program p (d .frame) (d .under) i v else record { allowed = false; state = p }
+
+unfoldable pub stepIn : Program → Times → Ceilings → Snapshot → ℕ → Stepped
+stepIn program times locks p byte = dueStep program p (byte / 16) (byte % 16) (turnIn program times locks p (byte / 16))
+
+-- ---- the replay
+
+-- has task k a job not yet begun?
+unfoldable pub hasUpcoming : Program → List ℕ → ℕ → Bool
+hasUpcoming program upcoming k = ownedBy program k (getD upcoming k 0)
+
+unfoldable pub finishedIn : Program → Snapshot → Bool
+finishedIn program p = eqb (p .depth) 0 && not (any (hasUpcoming program (p .upcoming)) (upTo 8))
+
+-- the bytes from `index` on
+unfoldable pub replayIn : Program → Times → Ceilings → Snapshot → ℕ → List ℕ → Replayed
+replayIn program times locks p index [] =
+    record { number = if finishedIn program p then 0 else 31; place = if finishedIn program p then 0 else index; state = p }
+replayIn program times locks p index (byte ∷ bytes) =
+    let stepped = stepIn program times locks p byte in
+    elim (finishedIn program p) [
+      | true ↦ record { number = 32; place = index; state = p }
+      | false ↦
+          elim (stepped .allowed) [
+            | true ↦ replayIn program times locks (stepped .state) (suc index) bytes
+            | false ↦ record { number = 30; place = index; state = p }
+          ]
+    ]
+
+-- ---- the snapshot that an order starts from
+
+-- how many jobs, of n from job x on, stand before the first of task i or above
+unfoldable pub firstFrom : Program → ℕ → ℕ → ℕ → ℕ
+firstFrom program i x zero = x
+firstFrom program i x (suc n) = elim (ltb (ownerIn program x) i) [ true ↦ firstFrom program i (suc x) n | false ↦ x ]
+
+unfoldable pub firstSnapshot : Program → Store → Snapshot
+firstSnapshot program store =
+    record {
+      store = store;
+      upcoming = map (λ k. firstFrom program k 0 32) (upTo 8);
+      failed = noFlags;
+      depth = 0;
+      stack = replicate 8 noFrame;
+    }

@@ -1,0 +1,11 @@
+pub mod LentLaws
+pub mod ReplayEntryLaws
+pub mod ReplayLaws
+pub mod ReplayLoopLaws
+pub mod ShowLaws
+pub mod SnapshotLaws
+pub mod StartAgreed
+pub mod StartLaws
+pub mod StepPartLaws
+pub mod TurnAgreed
+pub mod TurnLaws

@@ -1,0 +1,292 @@
+-- The step on a snapshot is the step of `Orders`: a byte leads from it to a snapshot that shows the state after that step, or is no step
+-- of either; and a snapshot is at the end exactly if the state is.
+-- Assumes nothing.
+use mathlib.Core.Path.{_≡_, refl, sym, ap, subst, _∙_}
+use mathlib.Core.Logic.{inl, inr}
+use Prim.Native.Nat.{ℕ, _+_, _/_, _%_, _≤_, _<_}
+use native.Mathlib.Decide.{ℕ-discrete, decLt}
+use native.Mathlib.Omega.{arith}
+use native.Mathlib.Numerals.{add-one}
+use mathlib.Core.Bool.{Bool, true, false, true≢false, not}
+use mathlib.Core.List.{List, [], _∷_, reverse, reverse-append}
+use mathlib.Core.Option.{none, some, bind}
+use lib.ListN.{length, getD, set, take, length-set}
+use lib.Dec.{ltb, eqb}
+use lib.Seq.{getD-set-same, getD-set-other, take-suc-set}
+use borrow.Author.Tests.{eqb-true, eq-eqb, lt-ltb, le-ltb, not-true}
+use Rattle.taskfile.specs.declared.Ceilings.{Ceilings}
+use Rattle.notation.specs.Laws.ListLaws.{getD-upTo}
+use Rattle.notation.specs.Lists.{if_then_else_, any, member, from, upTo}
+use Rattle.notation.specs.Ordered.{Every}
+use Rattle.notation.specs.Laws.TestLaws.{both, and-holds, or-left, decided, not-both}
+use Rattle.timing.specs.declared.Job.{Job}
+use Rattle.timing.specs.Accepted.{Accepted}
+use Rattle.timing.specs.Relations.{IsJob, jobAt, base}
+use Rattle.machine.specs.declared.Effect.{Effect}
+use Rattle.machine.specs.Ends.{flagged}
+use Rattle.machine.specs.Instructions.{perform, values}
+use Rattle.snapshots.specs.declared.Due.{Due}
+use Rattle.order.specs.declared.Frame.{Frame}
+use Rattle.snapshots.specs.declared.Snapshot.{Snapshot}
+use Rattle.snapshots.specs.declared.Stepped.{Stepped}
+use Rattle.order.specs.Code.Invariant.{Running, hasBegun, Invariant}
+use Rattle.timing.specs.Laws.JobFacts.{job-task, same-task}
+use Rattle.order.specs.Laws.LengthLaws.{body-short}
+use Rattle.order.specs.Orders.{Turn, turnOf, nextOf, performed, stepWith, step}
+use Rattle.notation.specs.Laws.QuantifierLaws.{none-at, at-none}
+use Rattle.timing.specs.Laws.JobNumberLaws.{all-jobs, jobs-all}
+use Rattle.snapshots.specs.Laws.ShowLaws.{owned-job, job-owned, first-unbegun, first-waits}
+use Rattle.timing.specs.Laws.BaseLaws.{base-rises, base-small}
+use Rattle.snapshots.specs.Code.Shows.{Lends, Shows}
+use Rattle.snapshots.specs.Code.SnapshotSteps.{instructionIn, ownedBy, stackOf, topOf, turnIn, afterIn, stepWithIn, dueStep, stepIn, hasUpcoming, finishedIn}
+use Rattle.timing.specs.Code.IsAccepted.{IsAccepted}
+use Rattle.order.specs.States.{State, hasEnded, isActive, allEnded}
+use Rattle.order.specs.Laws.StepLaws.{GoodTurn, good-turn, afterEffect, performed-is, begun-before, begun-stays, begun-here, active-ended, active-goes}
+use Rattle.snapshots.specs.Laws.TurnAgreed.{Turned, active-top, no-active, turn-turned}
+
+-- ---- the step
+
+ended-first : (s : State) (y : Job) → hasEnded s y ≡ true → hasBegun s y ≡ true
+unfolding hasBegun
+ended-first s y h = or-left (hasEnded s y) _ h
+
+not-true-false : (b : Bool) → (b ≡ true → ⊥) → b ≡ false
+not-true-false true h = absurd (h refl)
+not-true-false false h = refl
+
+-- two tests that follow from each other are the same
+both-ways : (p q : Bool) → (p ≡ true → q ≡ true) → (q ≡ true → p ≡ true) → p ≡ q
+both-ways true true f g = refl
+both-ways true false f g = sym (f refl)
+both-ways false true f g = g refl
+both-ways false false f g = refl
+
+module _ {a : Accepted} (ok : IsAccepted a) {program times : List ℕ} {locks : Ceilings} (lends : Lends a program times locks)
+    {p : Snapshot} {s : State} (inv : Invariant a s) (shows : Shows a p s) where
+  module _ {turn : Turn} (good : GoodTurn a s turn) (i : ℕ) (task : base a (turn .frame .job) ≡ i) (under : ℕ)
+      (below : turn .under ≡ reverse (take under (p .stack))) (room : under < 8) where
+    abbrev x : Job
+    x = turn .frame .job
+
+    isX : IsJob a x
+    isX = good .running .job
+
+    small : i < 8
+    small = omega (arith, base-small ok x isX)
+
+    -- its next instruction is the lent one
+    pub instruction-lent : (turn .frame .local .next < 16) × (instructionIn program i (turn .frame .local .next) ≡ nextOf a (turn .frame))
+    unfolding nextOf base
+    instruction-lent =
+        let owner = jobAt a x .task in
+        let known = job-task (ok .isTimed) x isX in
+        let inside = good .running .inside in (
+          omega (arith, inside, body-short (ok .isMade .shaped) owner known),
+          ap (λ (k : ℕ). instructionIn program k (turn .frame .local .next)) (sym task) ∙ lends .body owner (turn .frame .local .next) known inside,
+        )
+
+    module _ (effect : Effect) where
+      abbrev p′ : Snapshot
+      p′ = afterIn p x under i effect
+
+      abbrev s′ : State
+      s′ = afterEffect s turn effect
+
+      -- the turn's job is active on, or has ended
+      stack-shown : (b : Bool) → effect .ended ≡ b → s′ .active ≡ reverse (stackOf p′)
+      unfolding stackOf afterIn if_then_else_
+      stack-shown true e = active-ended ok inv good effect e ∙ below ∙ rw e refl
+      stack-shown false e =
+          active-goes ok inv good effect e
+          ∙ ap (λ (fs : List Frame). record { job = x; local = effect .local } ∷ fs) below
+          ∙ sym (reverse-append (take under (p .stack)) (record { job = x; local = effect .local } ∷ []))
+          ∙ ap reverse (sym (take-suc-set (p .stack) under (record { job = x; local = effect .local }) (omega (arith, shows .full))))
+          ∙ rw (e, add-one) refl
+
+      depth-shown : (b : Bool) → (if b then under else under + 1) ≤ 8
+      unfolding if_then_else_
+      depth-shown true = omega arith
+      depth-shown false = omega arith
+
+      full-shown : (b : Bool) → length (if b then p .stack else set (p .stack) under (record { job = x; local = effect .local })) ≡ 8
+      unfolding if_then_else_
+      full-shown true = shows .full
+      full-shown false = length-set (p .stack) under _ ∙ shows .full
+
+      -- a job of the turn's task has begun if its number is no higher
+      begun-task : (y : Job) → IsJob a y → base a y ≡ i → hasBegun s′ y ≡ ltb (y .0) (x .0 + 1)
+      begun-task y isY same =
+          elim (ℕ-discrete (y .0) (x .0)) [
+            | yes equal ↦
+                ap (λ (n : ℕ). hasBegun s′ (record { 0 = n })) equal ∙ begun-here ok inv good effect
+                ∙ sym (lt-ltb (y .0) (x .0 + 1) (omega arith))
+            | no apart ↦ elim (decLt (y .0) (x .0)) [
+              | yes lower ↦
+                  begun-stays ok inv good effect y apart (ended-first s y (good .preceded y isY (same-task (ok .isTimed) y x lower isX (same ∙ sym task))))
+                  ∙ sym (lt-ltb (y .0) (x .0 + 1) (omega arith))
+              | no higher ↦
+                  not-true-false _ (λ begun.
+                  not-both _ (inv .preceded x y isX isY (same-task (ok .isTimed) x y (omega arith) isY (task ∙ sym same)) (begun-before ok inv good effect y apart begun))
+                  (good .running .unended))
+                  ∙ sym (le-ltb (y .0) (x .0 + 1) (omega arith))
+            ]
+          ]
+
+      begun-other : (y : Job) → (y .0 ≡ x .0 → ⊥) → hasBegun s′ y ≡ hasBegun s y
+      begun-other y apart = both-ways _ _ (begun-before ok inv good effect y apart) (begun-stays ok inv good effect y apart)
+
+      begun-shown : (y : Job) → IsJob a y → hasBegun s′ y ≡ ltb (y .0) (getD (set (p .upcoming) i (x .0 + 1)) (base a y) 0)
+      begun-shown y isY =
+          elim (ℕ-discrete (base a y) i) [
+            | yes same ↦
+                begun-task y isY same
+                ∙ ap (λ (n : ℕ). ltb (y .0) n) (sym (getD-set-same (p .upcoming) i (x .0 + 1) 0 (omega (arith, shows .places, small))))
+                ∙ ap (λ (k : ℕ). ltb (y .0) (getD (set (p .upcoming) i (x .0 + 1)) k 0)) (sym same)
+            | no apart ↦
+                begun-other y (λ equal. apart (ap (λ (n : ℕ). base a (record { 0 = n })) equal ∙ task))
+                ∙ shows .begun y isY
+                ∙ ap (λ (n : ℕ). ltb (y .0) n) (sym (getD-set-other (p .upcoming) i (base a y) (x .0 + 1) 0 apart))
+          ]
+
+      lowest-shown : (k : ℕ) (y : Job) → k < 8 → IsJob a y → base a y < k → y .0 < getD (set (p .upcoming) i (x .0 + 1)) k 0
+      lowest-shown k y lt isY low =
+          elim (ℕ-discrete k i) [
+            | yes same ↦
+                let lower : x .0 ≤ y .0 → ⊥ = λ le. omega (arith, base-rises ok x y le isY) in
+                let stored : getD (set (p .upcoming) i (x .0 + 1)) k 0 ≡ x .0 + 1 =
+                ap (λ (n : ℕ). getD (set (p .upcoming) i (x .0 + 1)) n 0) same ∙ getD-set-same (p .upcoming) i (x .0 + 1) 0 (omega (arith, shows .places, small)) in
+                omega arith
+            | no apart ↦ rw (getD-set-other (p .upcoming) i k (x .0 + 1) 0 apart) (shows .lowest k y lt isY low)
+          ]
+
+      -- the snapshot after its effect shows the state after it
+      pub after-shown : Shows a p′ s′
+      unfolding afterIn afterEffect
+      after-shown = record {
+        store = refl;
+        failed = ap (flagged (effect .failed) (x .0)) (shows .failed);
+        active = stack-shown (effect .ended) refl;
+        depth = depth-shown (effect .ended);
+        full = full-shown (effect .ended);
+        places = length-set (p .upcoming) i (x .0 + 1) ∙ shows .places;
+        begun = begun-shown;
+        lowest = lowest-shown;
+      }
+
+  -- what the code makes of a byte is what the definition makes of it
+  abbrev Agreed : ℕ → Stepped → Type 0
+  Agreed byte r =
+      (r .allowed ≡ true → (after : State) × (step a s byte ≡ some after) × Shows a (r .state) after)
+      × (r .allowed ≡ false → step a s byte ≡ none)
+
+  module _ (byte : ℕ) (turn : Turn) (due : turnOf a s (byte / 16) ≡ some turn) (under : ℕ)
+      (below : turn .under ≡ reverse (take under (p .stack))) (room : under < 8) where
+    abbrev good : GoodTurn a s turn × (base a (turn .frame .job) ≡ byte / 16)
+    good = good-turn ok inv (byte / 16) due
+
+    abbrev offered : Bool
+    offered = member (byte % 16) (values (nextOf a (turn .frame)))
+
+    step-of : step a s byte ≡ (if offered then some (performed a s (byte % 16) turn) else none)
+    unfolding step stepWith bind
+    step-of = rw due refl
+
+    with-of : stepWithIn program p (turn .frame) under (byte / 16) (byte % 16)
+        ≡ (if offered
+        then record { allowed = true; state = afterIn p (turn .frame .job) under (byte / 16) (perform (nextOf a (turn .frame)) (byte % 16) (turn .frame .local) (s .store)) }
+        else record { allowed = false; state = p })
+    unfolding stepWithIn
+    with-of =
+        let lent = instruction-lent (good .0) (byte / 16) (good .1) under below room in
+        rw (lent .1, lt-ltb (turn .frame .local .next) 16 (lent .0), shows .store) refl
+
+    pub with-agreed : Agreed byte (stepWithIn program p (turn .frame) under (byte / 16) (byte % 16))
+    unfolding if_then_else_
+    with-agreed =
+        elim (decided offered) [
+          | inl e ↦
+              let effect = perform (nextOf a (turn .frame)) (byte % 16) (turn .frame .local) (s .store) in
+              let is : stepWithIn program p (turn .frame) under (byte / 16) (byte % 16)
+              ≡ record { allowed = true; state = afterIn p (turn .frame .job) under (byte / 16) effect } = with-of ∙ rw e refl in
+              let steps : step a s byte ≡ some (afterEffect s turn effect) = step-of ∙ rw e (ap some (performed-is a s (byte % 16) turn)) in
+              subst (Agreed byte) (sym is) (
+                λ h. (afterEffect s turn effect, steps, after-shown (good .0) (byte / 16) (good .1) under below room effect),
+                λ h. absurd (true≢false h),
+              )
+          | inr e ↦
+              let is : stepWithIn program p (turn .frame) under (byte / 16) (byte % 16) ≡ record { allowed = false; state = p } = with-of ∙ rw e refl in
+              subst (Agreed byte) (sym is) (λ h. absurd (true≢false (sym h)), λ h. step-of ∙ rw e refl)
+        ]
+
+  due-agreed : (byte : ℕ) (d : Due) → Turned ok lends inv shows (byte / 16) d → Agreed byte (dueStep program p (byte / 16) (byte % 16) d)
+  unfolding dueStep if_then_else_ step bind
+  due-agreed byte d turned =
+      elim (decided (d .due)) [
+        | inl e ↦
+            let shown = turned .0 e in
+            let is : stepWithIn program p (shown .turn .frame) (d .under) (byte / 16) (byte % 16) ≡ dueStep program p (byte / 16) (byte % 16) d =
+            rw (e, shown .frame) refl in
+            subst (Agreed byte) is (with-agreed byte (shown .turn) (shown .due) (d .under) (shown .under) (shown .room))
+        | inr e ↦
+            let is : dueStep program p (byte / 16) (byte % 16) d ≡ record { allowed = false; state = p } = rw e refl in
+            subst (Agreed byte) (sym is) (λ h. absurd (true≢false (sym h)), λ h. rw (turned .1 e) refl)
+      ]
+
+  -- a byte is an allowed step of the snapshot exactly if it is one of the state, and then leads to what shows the state after it
+  pub step-agreed : (byte : ℕ) → Agreed byte (stepIn program times locks p byte)
+  unfolding stepIn
+  step-agreed byte = due-agreed byte (turnIn program times locks p (byte / 16)) (turn-turned ok lends inv shows (byte / 16))
+
+  -- ---- the end
+
+  module _ (finished : finishedIn program p ≡ true) where
+    depth-none : p .depth ≡ 0
+    unfolding finishedIn
+    depth-none = eqb-true (p .depth) 0 (both (eqb (p .depth) 0) _ finished .0)
+
+    none-upcoming : (k : ℕ) → k < 8 → hasUpcoming program (p .upcoming) k ≡ false
+    unfolding finishedIn upTo from
+    none-upcoming k lt =
+        ap (hasUpcoming program (p .upcoming)) (sym (getD-upTo 8 k 0 lt))
+        ∙ none-at (hasUpcoming program (p .upcoming)) (upTo 8) k 0 (not-true _ (both (eqb (p .depth) 0) _ finished .1)) lt
+
+    -- a job that has not ended is active, or its task has one not yet begun
+    finished-ended : (x : Job) → IsJob a x → hasEnded s x ≡ true
+    unfolding hasBegun isActive any hasUpcoming
+    finished-ended x isX = elim (decided (hasEnded s x)) [
+      | inl ended ↦ ended
+      | inr unended ↦
+          let idle : isActive s x ≡ false = ap (any (λ f. eqb (f .job .0) (x .0))) (no-active ok lends inv shows depth-none) in
+          let first = first-unbegun ok lends inv shows x isX (rw (unended, idle) refl) in
+          let owned = ap (λ (k : ℕ). ownedBy program k (getD (p .upcoming) (base a x) 0)) (sym (first .2))
+          ∙ job-owned ok lends inv shows (record { 0 = getD (p .upcoming) (base a x) 0 }) (first .1) in
+          absurd (not-both _ owned (none-upcoming (base a x) (base-small ok x isX)))
+    ]
+
+  module _ (ended : (x : Job) → IsJob a x → hasEnded s x ≡ true) where
+    ended-flat : p .depth ≡ 0
+    ended-flat = elim (decLt 0 (p .depth)) [
+      | yes deeper ↦
+          let top = subst (Every (Running a s)) (active-top ok lends inv shows deeper) (inv .running) .0 in
+          absurd (not-both _ (ended (topOf p .job) (top .job)) (top .unended))
+      | no flat ↦ omega arith
+    ]
+
+    ended-upcoming : (k : ℕ) → k < 8 → hasUpcoming program (p .upcoming) k ≡ false
+    unfolding hasUpcoming
+    ended-upcoming k lt = not-true-false _ (λ h.
+        (let owned = owned-job ok lends inv shows k _ lt h in
+        first-waits ok lends inv shows k (owned .0) (owned .1) (ended-first s _ (ended _ (owned .0)))))
+
+    ended-finished : finishedIn program p ≡ true
+    unfolding finishedIn upTo from
+    ended-finished =
+        and-holds (eqb (p .depth) 0) _ (eq-eqb _ _ ended-flat)
+        (ap not (at-none (hasUpcoming program (p .upcoming)) (upTo 8) 0
+        (λ k lt. ap (hasUpcoming program (p .upcoming)) (getD-upTo 8 k 0 lt) ∙ ended-upcoming k lt)))
+
+  -- all jobs have ended exactly if none is active and no task has one not yet begun
+  pub finished-agreed : finishedIn program p ≡ allEnded a s
+  unfolding allEnded
+  finished-agreed =
+      both-ways _ _ (λ h. jobs-all a (hasEnded s) (finished-ended h)) (λ h. ended-finished (all-jobs a (hasEnded s) h))

@@ -1,0 +1,4 @@
+pub mod FrameReads
+pub mod FrameWrites
+pub mod StateReads
+pub mod StateWrites

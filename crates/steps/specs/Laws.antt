@@ -1,0 +1,2 @@
+pub mod EffectWrites
+pub mod StepCases

@@ -1,0 +1,5 @@
+pub mod JudgingParts
+pub mod Reading
+pub mod ReadingParts
+pub mod RecordFields
+pub mod WellMade

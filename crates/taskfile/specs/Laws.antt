@@ -1,0 +1,13 @@
+pub mod ChainCases
+pub mod ChainLaws
+pub mod ChainReading
+pub mod CheckSteps
+pub mod JudgementLaws
+pub mod JudgingLaws
+pub mod LinkedLaws
+pub mod LoadLaws
+pub mod LoadedLaws
+pub mod MarksLaws
+pub mod RecordLaws
+pub mod TableLaws
+pub mod TimesLaws

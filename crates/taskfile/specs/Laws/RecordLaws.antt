@@ -1,0 +1,123 @@
+-- Laws of the records of a task file: bytes past the file's end, zero bytes one by one, the largest values of all fields as
+-- one list, and what its largest value says of a field.
+-- Assumes nothing.
+use Prim.Native.Nat.{ℕ, zero, suc, _+_, _*_, _-_, _≤_, _<_}
+use native.Mathlib.Numerals.{add-one}
+use native.Mathlib.Omega.{arith}
+use mathlib.Core.Path.{_≡_, refl, sym, ap}
+use mathlib.Core.Bool.{Bool, true, false, _&&_}
+use mathlib.Core.List.{List, [], _∷_}
+use lib.ListN.{length, getD, List·getD-eq-default}
+use lib.Dec.{leb, ltb}
+use borrow.Author.Tests.{eq-eqb, ne-eqb, le-leb, ltb-true}
+use Rattle.notation.specs.Lists.{from, all, each}
+use Rattle.taskfile.specs.Code.RecordFields.{fieldOf, limitOf}
+use Rattle.taskfile.specs.Records.{File, byteAt, zeroFrom, Use, unused, most, lockNumber, Uses, uses, operations, usesOf, tidyField, fieldInRange}
+use Rattle.notation.specs.Laws.TestLaws.{both}
+
+-- past the file's end every byte is 0
+pub byteAt-past : (f : File) (r k : ℕ) → length f ≤ 16 * r + k → byteAt f r k ≡ 0
+unfolding byteAt
+byteAt-past f r k h = List·getD-eq-default f 0 h
+
+-- the test of no bytes holds; it fails where the first byte is not 0, and where it is, it is the test of the others
+pub zeroFrom-none : (f : File) (r k n : ℕ) → n ≤ 0 → zeroFrom f r k n ≡ true
+unfolding zeroFrom from all
+zeroFrom-none f r k zero h = refl
+zeroFrom-none f r k (suc n) h = absurd (omega arith)
+
+pub zeroFrom-other : (f : File) (r k n : ℕ) → 0 < n → (byteAt f r k ≡ 0 → ⊥) → zeroFrom f r k n ≡ false
+unfolding zeroFrom from all
+zeroFrom-other f r k zero h other = absurd (omega arith)
+zeroFrom-other f r k (suc n) h other = rw (ne-eqb (byteAt f r k) 0 other)
+
+pub zeroFrom-more : (f : File) (r k n : ℕ) → 0 < n → byteAt f r k ≡ 0 → zeroFrom f r k n ≡ zeroFrom f r (k + 1) (n - 1)
+unfolding zeroFrom from all
+zeroFrom-more f r k zero h same = absurd (omega arith)
+zeroFrom-more f r k (suc n) h same =
+    let fewer : suc n - 1 ≡ n = omega arith in
+    rw (eq-eqb (byteAt f r k) 0 same, fewer, add-one k)
+
+-- an operation past the last uses no field
+abbrev pub noUses : Uses
+noUses = uses unused unused unused
+
+noUses-field : (field : ℕ) → fieldOf field noUses ≡ unused
+unfolding fieldOf
+noUses-field zero = refl
+noUses-field (suc zero) = refl
+noUses-field (suc (suc n)) = refl
+
+pub limit-past : (o field : ℕ) → length operations ≤ o → limitOf (fieldOf field (usesOf o)) ≡ 0
+unfolding usesOf limitOf
+limit-past o field h = rw (List·getD-eq-default operations noUses h, noUses-field field)
+
+-- the largest values of the fields a, b and c of each operation, in one list
+unfoldable pub limits : List Uses → List ℕ
+limits us = each us (λ u. limitOf (u .a) ∷ limitOf (u .b) ∷ limitOf (u .c) ∷ [])
+
+pub limits-at : (us : List Uses) (o field : ℕ) → field ≤ 2
+    → getD (limits us) (3 * o + field) 0 ≡ limitOf (fieldOf field (getD us o noUses))
+unfolding limits each limitOf fieldOf
+limits-at [] o field h = sym (ap limitOf (noUses-field field))
+limits-at (u ∷ us) zero zero h = refl
+limits-at (u ∷ us) zero (suc zero) h = refl
+limits-at (u ∷ us) zero (suc (suc zero)) h = refl
+limits-at (u ∷ us) zero (suc (suc (suc n))) h = absurd (omega arith)
+limits-at (u ∷ us) (suc o) field h =
+    let later : 3 * suc o + field ≡ suc (suc (suc (3 * o + field))) = omega arith in
+    rw later (limits-at us o field h)
+
+-- a test of every element of a list and of the default holds of what is read at any index
+pub all-getD : {A : Type 0} (test : A → Bool) (xs : List A) (k : ℕ) (d : A) → all test xs ≡ true → test d ≡ true
+    → test (getD xs k d) ≡ true
+unfolding all
+all-getD test [] k d h default = default
+all-getD test (x ∷ xs) zero d h default = both (test x) (all test xs) h .0
+all-getD test (x ∷ xs) (suc k) d h default = all-getD test xs k d (both (test x) (all test xs) h .1) default
+
+-- a used field has a largest value above 0
+bounded : Use → Bool
+bounded unused = true
+bounded (most n) = ltb 0 n
+bounded lockNumber = true
+
+allBounded : Uses → Bool
+allBounded u = bounded (u .a) && (bounded (u .b) && bounded (u .c))
+
+operations-bounded : all allBounded operations ≡ true
+unfolding all operations allBounded bounded
+operations-bounded = refl
+
+usesOf-bounded : (o : ℕ) → allBounded (usesOf o) ≡ true
+unfolding usesOf allBounded bounded
+usesOf-bounded o = all-getD allBounded operations o noUses operations-bounded refl
+
+field-bounded : (field : ℕ) (u : Uses) → allBounded u ≡ true → bounded (fieldOf field u) ≡ true
+unfolding fieldOf allBounded
+field-bounded zero u h = both (bounded (u .a)) _ h .0
+field-bounded (suc zero) u h = both (bounded (u .b)) _ (both (bounded (u .a)) _ h .1) .0
+field-bounded (suc (suc n)) u h = both (bounded (u .b)) _ (both (bounded (u .a)) _ h .1) .1
+
+bounded-unused : (u : Use) → bounded u ≡ true → limitOf u ≡ 0 → u ≡ unused
+unfolding bounded limitOf
+bounded-unused unused h e = refl
+bounded-unused (most n) h e = absurd (omega (arith, ltb-true 0 n h))
+bounded-unused lockNumber h e = absurd (omega arith)
+
+-- a field whose largest value is 0 is unused
+pub limit-unused : (o field : ℕ) → limitOf (fieldOf field (usesOf o)) ≡ 0 → fieldOf field (usesOf o) ≡ unused
+limit-unused o field e = bounded-unused (fieldOf field (usesOf o)) (field-bounded field (usesOf o) (usesOf-bounded o)) e
+
+-- a field of another largest value is used, and a byte in it is in range up to that value
+pub tidyField-used : (u : Use) (x : ℕ) → (limitOf u ≡ 0 → ⊥) → tidyField u x ≡ true
+unfolding tidyField limitOf
+tidyField-used unused x h = absurd (h refl)
+tidyField-used (most n) x h = refl
+tidyField-used lockNumber x h = refl
+
+pub fieldInRange-used : (u : Use) (x : ℕ) → x < 256 → (limitOf u ≡ 0 → ⊥) → fieldInRange u x ≡ leb x (limitOf u)
+unfolding fieldInRange limitOf
+fieldInRange-used unused x b h = absurd (h refl)
+fieldInRange-used (most n) x b h = refl
+fieldInRange-used lockNumber x b h = sym (le-leb x 255 (omega arith))

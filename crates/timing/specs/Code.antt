@@ -1,0 +1,4 @@
+pub mod AcceptParts
+pub mod IsAccepted
+pub mod JobParts
+pub mod ResponseParts

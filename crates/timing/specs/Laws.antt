@@ -1,0 +1,16 @@
+pub mod AcceptLaws
+pub mod AcceptedLaws
+pub mod BaseLaws
+pub mod ClimbLaws
+pub mod FitLaws
+pub mod HalvingLaws
+pub mod JobFacts
+pub mod JobLaws
+pub mod JobListLaws
+pub mod JobNumberLaws
+pub mod LentTimesLaws
+pub mod RelationLaws
+pub mod ResponseLaws
+pub mod ShareLaws
+pub mod TableResponseLaws
+pub mod TimeableLaws

@@ -1,0 +1,127 @@
+-- Laws of the search for all response times, from the highest task down: what is known of the tasks from task i on.
+-- Assumes nothing.
+use mathlib.Core.Path.{_≡_, refl, sym, ap, _∙_}
+use Prim.Native.Nat.{ℕ, zero, suc, _-_, _≤_, _<_}
+use native.Mathlib.Numerals.{add-one, unary-clauses}
+use native.Mathlib.Omega.{arith}
+use mathlib.Core.Bool.{Bool, true, false, false≢true}
+use mathlib.Core.List.{List, [], _∷_}
+use mathlib.Core.Option.{Option, none, some}
+use lib.ListN.{length, drop, set, replicate, length-set, drop-of-length-le}
+use lib.Seq.{drop-cons, drop-set-lt, getD-set-same}
+use Rattle.taskfile.specs.declared.Site.the-variants.{AtTask}
+use Rattle.taskfile.specs.declared.Table.{Table}
+use Rattle.notation.specs.Checked.{refused, passed, _>>=_}
+use Rattle.taskfile.specs.Judgement.{numbered, taskNumbers}
+use Rattle.taskfile.specs.Code.JudgingParts.{Shaped}
+use Rattle.notation.specs.Lists.{padded}
+use Rattle.notation.specs.Laws.PaddedLaws.{padded-cons, padded-nil}
+use Rattle.taskfile.specs.Laws.TableLaws.{taskNumbers-length, taskNumbers-at}
+use Rattle.taskfile.specs.Tables.{tasksOf}
+use Rattle.timing.specs.declared.Bound.the-variants.{Within, Overload}
+use Rattle.timing.specs.Accepted.{bounded, responsesOf}
+use Rattle.timing.specs.Response.{tasksAbove, responseOf}
+use Rattle.timing.specs.Code.ResponseParts.{Timeable, boundOf, AllFit}
+use Rattle.timing.specs.Laws.HalvingLaws.{response-done}
+use Rattle.timing.specs.Laws.TimeableLaws.{tasks-length, tasks-next, tasks-end}
+
+-- ---- one task
+
+bound-some : (o : Option ℕ) {R : ℕ} → boundOf o ≡ Within R → o ≡ some R
+unfolding boundOf
+bound-some none e = absurd (let z : _≡_ {A = ℕ} 0 1 = cc in omega arith)
+bound-some (some Q) e = cc
+
+bound-none : (o : Option ℕ) → boundOf o ≡ Overload → o ≡ none
+unfolding boundOf
+bound-none none e = refl
+bound-none (some Q) e = absurd (let z : _≡_ {A = ℕ} 0 1 = cc in omega arith)
+
+-- task i is the first of the tasks from i on
+numbers-next : {t : Table} → Shaped t → (i : ℕ) → i < t .tasks → drop i (taskNumbers t) ≡ numbered i ∷ drop (suc i) (taskNumbers t)
+numbers-next {t} shaped i lt =
+    let below : i < length (taskNumbers t) = omega (arith, taskNumbers-length t, tasks-length shaped) in
+    rw (drop-cons (taskNumbers t) i (numbered i), taskNumbers-at t (numbered i) (numbered i) (omega (arith, tasks-length shaped)))
+
+-- ---- the tasks from task i on
+
+-- all of them meet their periods, and the array holds their response times from place i on
+pub record AllFound (t : Table) (i : ℕ) (times : List ℕ) : Type 0 where
+  pub fit : AllFit (drop i (tasksOf t))
+  pub Rs : List ℕ
+  pub outcome : responsesOf t (drop i (taskNumbers t)) ≡ passed Rs
+  pub full : length times ≡ 8
+  pub held : drop i times ≡ padded (8 - i) 0 Rs
+
+-- either so, or the lowest that has no response time is known
+pub record FoundFrom (t : Table) (i : ℕ) (times : List ℕ) (fit : Bool) (lowest : ℕ) : Type 0 where
+  pub all : fit ≡ true → AllFound t i times
+  pub lacking : fit ≡ false → responsesOf t (drop i (taskNumbers t)) ≡ refused 10 (AtTask (numbered lowest))
+
+drop-replicate : (i n x : ℕ) → drop i (replicate n x) ≡ replicate (n - i) x
+drop-replicate zero n x = simp unary-clauses
+drop-replicate (suc i) zero x = let none : 0 - suc i ≡ 0 = omega arith in rw none
+drop-replicate (suc i) (suc n) x = simp unary-clauses (drop-replicate i n x)
+
+-- past the last task there is nothing to find
+pub found-none : {t : Table} → Timeable t → FoundFrom t (t .tasks) (replicate 8 0) true 0
+unfolding responsesOf
+found-none {t} timeable =
+    let shaped = timeable .shaped in
+    let past : length (taskNumbers t) ≤ t .tasks = omega (arith, taskNumbers-length t, tasks-length shaped) in
+    record {
+      all = λ e.
+          record {
+            fit = rw (tasks-end shaped (t .tasks) (omega arith)) tt;
+            Rs = [];
+            outcome = rw (drop-of-length-le (taskNumbers t) past);
+            full = refl;
+            held = drop-replicate (t .tasks) 8 0 ∙ sym (padded-nil (8 - t .tasks) 0);
+          };
+      lacking = λ e. absurd (false≢true (sym e));
+    }
+
+-- the place of task i holds its response time, and the places after it are as they were
+held-more : (i R : ℕ) (times Rs : List ℕ) → i < 8 → length times ≡ 8 → drop (suc i) times ≡ padded (8 - suc i) 0 Rs
+    → drop i (set times i R) ≡ padded (8 - i) 0 (R ∷ Rs)
+held-more i R times Rs lt full held =
+    let inside : i < length (set times i R) = simp length-set (omega arith) in
+    let short : i < length times = omega arith in
+    let room : 8 - i ≡ suc (8 - suc i) = omega arith in
+    rw (drop-cons (set times i R) i 0, getD-set-same times i R 0, drop-set-lt (suc i) times i R (omega arith), room, padded-cons)
+    (ap (λ (l : List ℕ). R ∷ l) held)
+
+module _ {t : Table} (timeable : Timeable t) {i : ℕ} (lt : i < t .tasks) {times : List ℕ} {fit : Bool} {lowest : ℕ}
+    (found : FoundFrom t (suc i) times fit lowest) where
+  -- the tasks above task i meet their periods
+  pub found-fit : fit ≡ true → AllFit (tasksAbove t (numbered i))
+  unfolding tasksAbove
+  found-fit e = found .all e .fit
+
+  -- where task i has a response time
+  pub found-more : {R : ℕ} → boundOf (responseOf t (numbered i)) ≡ Within R → FoundFrom t i (set times i R) fit lowest
+  unfolding responsesOf bounded _>>=_ tasksAbove
+  found-more {R} b =
+      let response = bound-some _ b in
+      record {
+        all = λ e.
+            let above = found .all e in
+            record {
+              fit = rw (tasks-next (timeable .shaped) i lt, add-one)
+                  (response-done t (numbered i) (timeable .positive (numbered i) lt) response, above .fit);
+              Rs = R ∷ above .Rs;
+              outcome = rw (numbers-next (timeable .shaped) i lt, response, above .outcome);
+              full = simp length-set (above .full);
+              held = held-more i R times (above .Rs) (omega (arith, timeable .shaped .tasksWithin)) (above .full) (above .held);
+            };
+        lacking = λ e. rw (numbers-next (timeable .shaped) i lt, response, found .lacking e);
+      }
+
+  -- where it has none, it is the lowest so far
+  pub found-refused : boundOf (responseOf t (numbered i)) ≡ Overload → FoundFrom t i times false i
+  unfolding responsesOf bounded _>>=_
+  found-refused b =
+      record {
+        all = λ e. absurd (false≢true e);
+        lacking = λ e. rw (numbers-next (timeable .shaped) i lt, bound-none _ b);
+      }

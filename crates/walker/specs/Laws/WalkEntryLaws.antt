@@ -1,0 +1,246 @@
+-- The walk's entry: what it answers and what the lent buffer then holds, by what the file and the walk come to.
+-- Assumes nothing.
+use mathlib.Core.Path.{_≡_, refl, sym, ap, subst, _∙_}
+use Prim.Native.Nat.{ℕ, zero, suc, _-_, _^_, _≤_, _<_}
+use native.Mathlib.Decide.{decLe}
+use native.Mathlib.Nat.{zero-add}
+use native.Mathlib.Omega.{arith}
+use mathlib.Core.Bool.{Bool, true, false}
+use mathlib.Core.List.{List, [], _∷_, _++_, append-assoc, List·Memᴰ}
+use mathlib.Core.Option.{Option, none, some}
+use lib.Dec.{leb}
+use lib.ListN.{length, take, drop, replicate}
+use borrow.Author.Tests.{le-leb, lt-leb}
+use Rattle.taskfile.specs.declared.Check.the-variants.{Passed, Refused}
+use Rattle.taskfile.specs.declared.Table.{Table}
+use Rattle.notation.specs.Checked.{Checked, refused, passed}
+use Rattle.taskfile.specs.Laws.CheckSteps.{require-holds, require-fails, bind-refused, bind-goes}
+use Rattle.taskfile.specs.Code.JudgingParts.{Shaped}
+use Rattle.notation.specs.Laws.ListLaws.{getD-member}
+use Rattle.notation.specs.Lists.{if_then_else_, padded}
+use Rattle.notation.specs.Laws.PaddedLaws.{padded-cons, padded-nil}
+use Rattle.notation.specs.Laws.QuantifierLaws.{first-at}
+use Rattle.taskfile.specs.Records.{File}
+use Rattle.timing.specs.declared.AcceptAnswer.{AcceptAnswer}
+use Rattle.timing.specs.declared.JobList.{JobList}
+use Rattle.timing.specs.Accepted.{Accepted, accept}
+use Rattle.timing.specs.Laws.AcceptedLaws.{accepted}
+use Rattle.timing.specs.Code.IsAccepted.{IsAccepted}
+use Rattle.timing.specs.Laws.AcceptLaws.{accepted-refused, accepted-passed}
+use Rattle.timing.specs.Code.AcceptParts.{AcceptedParts, AcceptedAs}
+use Rattle.timing.specs.Laws.JobFacts.{jobs-few}
+use Rattle.timing.specs.Code.JobParts.{jobListOf}
+use Rattle.machine.specs.Ends.{noStore, noFlags}
+use Rattle.machine.specs.Buffers.{orderRoom, filled}
+use Rattle.snapshots.specs.declared.Snapshot.{Snapshot}
+use Rattle.snapshots.specs.Laws.LentLaws.{lent}
+use Rattle.snapshots.specs.Code.Lent.{OwnersTo, TimesTo}
+use Rattle.snapshots.specs.Laws.ReplayLaws.{first-shown}
+use Rattle.snapshots.specs.Code.Shows.{Shows}
+use Rattle.snapshots.specs.Code.SnapshotSteps.{firstSnapshot}
+use Rattle.order.specs.States.{initial}
+use Rattle.order.specs.Laws.StepLaws.{initial-invariant}
+use Rattle.walker.specs.declared.Outcome.{Outcome}
+use Rattle.walk.specs.declared.Verdict.the-variants.{Holds, Fails}
+use Rattle.walk.specs.WalkEntry.{admitted, decided, refusal, verdictOf, decidedAnswer, shown, decidedBytes, walkAnswerOf, walkAfterOf, walkAnswer, walkAfter}
+use Rattle.walker.specs.Code.WalkParts.{Came, EndsAs, WalksAs, answerOf, WalkOf, shownLength}
+use Rattle.walk.specs.Demand2.{demand2}
+use Rattle.walk.specs.Walks.{Found, Walked, fails, orders, walk}
+
+pub walk-lent : {t : Table} {list : JobList} {program times : List ℕ} {start : Snapshot} {allowance : ℕ} {before after : List ℕ} {r : Outcome}
+    → OwnersTo t list (list .count) program → TimesTo list 32 times → start ≡ firstSnapshot program (t .store)
+    → WalksAs program times (record { count = t .locks; ceilings = t .ceilings }) start 512 0 allowance before after r → WalkOf t list allowance before after r
+unfolding walk
+walk-lent {t} {list} {program} {times} {start} {allowance} {before} {after} {r} owners held first walks a ok table listed =
+    let lends = lent ok listed (subst (λ (u : Table). OwnersTo u list (list .count) program) table owners) held in
+    let begins = subst (λ (u : Table). start ≡ firstSnapshot program (u .store)) table first in
+    subst (λ (u : Table). WalksAs program times (record { count = u .locks; ceilings = u .ceilings }) start 512 0 allowance before after r) table walks
+    a (initial a) ok lends (initial-invariant a) (subst (λ (p : Snapshot). Shows a p (initial a)) (sym begins) (first-shown ok lends))
+
+-- ---- the three answers
+
+pub answer-stopped : (r : Outcome) → r .stopped ≡ true → refusal 21 0 ≡ answerOf r
+unfolding answerOf if_then_else_
+answer-stopped r e = rw e refl
+
+pub answer-found : (r : Outcome) → r .stopped ≡ false → r .found ≡ true
+    → record { number = 0; place = 0; verdict = Fails; count = r .count; length = r .length; store = r .store; failed = r .failed } ≡ answerOf r
+unfolding answerOf if_then_else_
+answer-found r e f = rw (e, f) refl
+
+pub answer-held : (r : Outcome) → r .stopped ≡ false → r .found ≡ false
+    → record { number = 0; place = 0; verdict = Holds; count = r .count; length = 0; store = replicate 8 0; failed = replicate 32 false } ≡ answerOf r
+unfolding answerOf if_then_else_ noStore noFlags
+answer-held r e f = rw (e, f) refl
+
+pub length-found : (r : Outcome) → r .found ≡ true → r .length ≡ shownLength r
+unfolding shownLength if_then_else_
+length-found r e = rw e refl
+
+pub length-none : (r : Outcome) → r .found ≡ false → 0 ≡ shownLength r
+unfolding shownLength if_then_else_
+length-none r e = rw e refl
+
+-- ---- the buffer
+
+-- a list filled up is the list and then as many as are left
+padded-rest : (n : ℕ) (bytes : List ℕ) → length bytes ≤ n → padded n 0 bytes ≡ bytes ++ replicate (n - length bytes) 0
+padded-rest n [] le = padded-nil n 0 ∙ ap (λ (k : ℕ). replicate k 0) (let same : n ≡ n - 0 = omega arith in same)
+padded-rest zero (x ∷ bytes) le = absurd (omega arith)
+padded-rest (suc n) (x ∷ bytes) le =
+    let less : n - length bytes ≡ suc n - suc (length bytes) = omega arith in
+    padded-cons n 0 x bytes ∙ ap (λ (xs : List ℕ). x ∷ xs) (padded-rest n bytes (omega arith) ∙ ap (λ (k : ℕ). bytes ++ replicate k 0) less)
+
+-- cleared behind the bytes, the buffer is filled with them
+buffer-filled : (buffer out : List ℕ) (n : ℕ) (bytes : List ℕ) → length bytes ≤ 512 → n ≡ length bytes → take n out ≡ bytes → drop 512 out ≡ drop 512 buffer
+    → take n out ++ (replicate (512 - n) 0 ++ drop 512 out) ≡ filled orderRoom bytes buffer
+unfolding filled
+buffer-filled buffer out n bytes short counted front beyond =
+    rw (front, beyond)
+    (sym (append-assoc bytes (replicate (512 - n) 0) (drop 512 buffer))
+    ∙ ap (λ (k : ℕ). (bytes ++ replicate (512 - k) 0) ++ drop 512 buffer) counted
+    ∙ ap (λ (xs : List ℕ). xs ++ drop 512 buffer) (sym (padded-rest 512 bytes short)))
+
+-- ---- the outcome
+
+-- an order found is no longer than 512 bytes
+walk-short : {a : Accepted} → IsAccepted a → {f : Found} → walk a .failing ≡ some f → length (f .bytes) ≤ 512
+walk-short {a} ok {f} e =
+    let theorem = demand2 ok in
+    let found = first-at (λ g. fails (g .ending)) (orders a) f (sym (theorem .first) ∙ e) in
+    let member = subst (λ (g : Found). List·Memᴰ g (orders a)) (found .2) (getD-member (orders a) (found .0) f (found .1)) in
+    theorem .complete f member .1 .short
+
+-- the answer is the outcome's, and the buffer's front the order's bytes
+pub record EntryOf (c : Checked ℕ Walked) (out : List ℕ) (r : Outcome) : Type 0 where
+  pub answer : answerOf r ≡ decidedAnswer c
+  pub front : take (shownLength r) out ≡ decidedBytes c
+  pub counted : shownLength r ≡ length (decidedBytes c)
+  pub short : length (decidedBytes c) ≤ 512
+
+outcome-over : (allowance : ℕ) (walked : Walked) → allowance < walked .count → decided allowance walked ≡ refused 21 0
+unfolding decided
+outcome-over allowance walked over = require-fails (leb (walked .count) allowance) 21 0 (passed walked) (lt-leb (walked .count) allowance over)
+
+outcome-within : (allowance : ℕ) (walked : Walked) → walked .count ≤ allowance → decided allowance walked ≡ passed walked
+unfolding decided
+outcome-within allowance walked within = require-holds (leb (walked .count) allowance) 21 0 (passed walked) (le-leb (walked .count) allowance within)
+
+-- stopped by the allowance
+entry-stopped : (out : List ℕ) (r : Outcome) → r .stopped ≡ true → r .found ≡ false → EntryOf (refused 21 0) out r
+unfolding decidedAnswer decidedBytes
+entry-stopped out r stopped lost =
+    let nothing = sym (length-none r lost) in
+    record { answer = sym (answer-stopped r stopped); front = ap (λ (n : ℕ). take n out) nothing; counted = nothing; short = omega arith }
+
+-- nothing found
+entry-held : (out : List ℕ) (r : Outcome) (walked : Walked) → walked .failing ≡ none → r .stopped ≡ false → r .found ≡ false → r .count ≡ walked .count
+    → EntryOf (passed walked) out r
+unfolding decidedAnswer decidedBytes verdictOf shown noStore noFlags
+entry-held out r walked e going lost counted =
+    let nothing = sym (length-none r lost) in
+    record {
+      answer = sym (answer-held r going lost) ∙ rw (e, counted) refl;
+      front = ap (λ (n : ℕ). take n out) nothing ∙ rw e refl;
+      counted = nothing ∙ rw e refl;
+      short = rw e (omega arith);
+    }
+
+-- an order found
+entry-found : (out : List ℕ) (r : Outcome) (walked : Walked) (f : Found) → walked .failing ≡ some f → length (f .bytes) ≤ 512 → r .stopped ≡ false
+    → EndsAs (some f) (walked .count) 0 out r → EntryOf (passed walked) out r
+unfolding decidedAnswer decidedBytes verdictOf shown
+entry-found out r walked f e short going ends =
+    let found = ends .0 in
+    let whole = ends .2 ∙ zero-add (length (f .bytes)) in
+    let long : shownLength r ≡ length (f .bytes) = sym (length-found r found) ∙ whole in
+    record {
+      answer = sym (answer-found r going found) ∙ rw (e, ends .1, whole, ends .4, ends .5) refl;
+      front = ap (λ (n : ℕ). take n out) (long ∙ sym (zero-add (length (f .bytes)))) ∙ ends .3 ∙ rw e refl;
+      counted = long ∙ rw e refl;
+      short = rw e short;
+    }
+
+module _ {a : Accepted} (ok : IsAccepted a) {allowance : ℕ} {buffer out : List ℕ} {r : Outcome} (came : Came (walk a) 0 allowance 0 buffer out r) where
+  entry-within : walk a .count ≤ allowance → (o : Option Found) → walk a .failing ≡ o → EndsAs o (walk a .count) 0 out r → r .stopped ≡ false
+      → EntryOf (passed (walk a)) out r
+  entry-within within none e ends going = entry-held out r (walk a) e going (ends .0) (ends .1)
+  entry-within within (some f) e ends going = entry-found out r (walk a) f e (walk-short ok e) going ends
+
+  pub entry : EntryOf (decided allowance (walk a)) out r
+  entry =
+      elim (decLe (walk a .count) allowance) [
+        | yes within ↦
+            let ended = came .whole (omega arith) in
+            subst (λ (c : Checked ℕ Walked). EntryOf c out r) (sym (outcome-within allowance (walk a) within))
+            (entry-within within (walk a .failing) refl
+            (subst (λ (n : ℕ). EndsAs (walk a .failing) n 0 out r) (zero-add (walk a .count)) (ended .1)) (ended .0))
+        | no over ↦
+            let cut = came .cut (omega arith) in
+            subst (λ (c : Checked ℕ Walked). EntryOf c out r) (sym (outcome-over allowance (walk a) (omega arith))) (entry-stopped out r (cut .0) (cut .1))
+      ]
+
+-- ---- the entry
+
+module _ (f : File) (allowance : ℕ) (buffer : List ℕ) (x : AcceptAnswer) (says : AcceptedAs x (accept f)) where
+  -- a file that is refused leaves the buffer as it was
+  refused-entry : {n p : ℕ} → x .check ≡ Refused n p → admitted f buffer ≡ refused n p
+  unfolding admitted
+  refused-entry e = bind-refused _ (accepted-refused x (accept f) says e)
+
+  pub entry-refused : {n p : ℕ} → x .check ≡ Refused n p → (refusal n p ≡ walkAnswer f allowance buffer) × (buffer ≡ walkAfter f allowance buffer)
+  unfolding walkAnswer walkAfter walkAnswerOf walkAfterOf
+  entry-refused e = (sym (ap (walkAnswerOf allowance) (refused-entry e)), sym (ap (λ (c : Checked ℕ Accepted). walkAfterOf allowance c buffer) (refused-entry e)))
+
+  module _ (passes : x .check ≡ Passed) where
+    abbrev found : (a : Accepted) × (accept f ≡ passed a) × AcceptedParts x a
+    found = accepted-passed x (accept f) says passes
+
+    ok : IsAccepted (found .0)
+    ok = accepted f (found .1)
+
+    -- its parts can be walked
+    pub entry-parts : Shaped (x .table) × (x .list .count ≤ 32)
+    unfolding jobListOf
+    entry-parts = (
+      subst Shaped (sym (found .2 .table)) (ok .isMade .shaped),
+      omega (arith, jobs-few (ok .isTimed), ap (λ (l : JobList). l .count) (found .2 .list)),
+    )
+
+    admitted-is : (b : Bool) → leb orderRoom (length buffer) ≡ b → admitted f buffer ≡ (if b then passed (found .0) else refused 20 0)
+    unfolding admitted if_then_else_
+    admitted-is true e = bind-goes _ (found .1) ∙ require-holds (leb orderRoom (length buffer)) 20 0 (passed (found .0)) e
+    admitted-is false e = bind-goes _ (found .1) ∙ require-fails (leb orderRoom (length buffer)) 20 0 (passed (found .0)) e
+
+    -- a buffer that is too short is left as it was
+    pub entry-no-room : length buffer < 512 → (refusal 20 0 ≡ walkAnswer f allowance buffer) × (buffer ≡ walkAfter f allowance buffer)
+    unfolding walkAnswer walkAfter walkAnswerOf walkAfterOf if_then_else_
+    entry-no-room lt =
+        let is = admitted-is false (lt-leb 512 (length buffer) lt) in
+        (sym (ap (walkAnswerOf allowance) is), sym (ap (λ (c : Checked ℕ Accepted). walkAfterOf allowance c buffer) is))
+
+    module _ (room : 512 ≤ length buffer) {out : List ℕ} {r : Outcome} (walked : WalkOf (x .table) (x .list) allowance buffer out r) where
+      came : Came (walk (found .0)) 0 allowance 0 buffer out r
+      came = walked (found .0) ok (found .2 .table) (found .2 .list)
+
+      abbrev fit : EntryOf (decided allowance (walk (found .0))) out r
+      fit = entry ok came
+
+      -- the order to show fits the room
+      pub entry-short : shownLength r ≤ 512
+      entry-short = omega (arith, fit .counted, fit .short)
+
+      pub entry-length : r .found ≡ true → r .length < 2 ^ 32
+      entry-length e = omega (arith, length-found r e, entry-short)
+
+      pub entry-answer : answerOf r ≡ walkAnswer f allowance buffer
+      unfolding walkAnswer walkAnswerOf if_then_else_
+      entry-answer = fit .answer ∙ sym (ap (walkAnswerOf allowance) (admitted-is true (le-leb 512 (length buffer) room)))
+
+      pub entry-after : {n : ℕ} {after : List ℕ} → n ≡ shownLength r → after ≡ take n out ++ (replicate (512 - n) 0 ++ drop 512 out)
+          → after ≡ walkAfter f allowance buffer
+      unfolding walkAfter walkAfterOf if_then_else_
+      entry-after same is =
+          is ∙ ap (λ (n : ℕ). take n out ++ (replicate (512 - n) 0 ++ drop 512 out)) same
+          ∙ buffer-filled buffer out (shownLength r) (decidedBytes (decided allowance (walk (found .0)))) (fit .short) (fit .counted) (fit .front) (came .beyond)
+          ∙ sym (ap (λ (c : Checked ℕ Accepted). walkAfterOf allowance c buffer) (admitted-is true (le-leb 512 (length buffer) room)))
