@@ -1,11 +1,13 @@
 pub mod AdvanceLaws
 pub mod ColumnLaws
+pub mod ConversionLaws
 pub mod CutColumns
 pub mod CutLaws
 pub mod CutRounds
 pub mod CutRuns
 pub mod Cuts
 pub mod EndedLaws
+pub mod FitsLaws
 pub mod Histories
 pub mod JobHistoryLaws
 pub mod JobReadingLaws
@@ -33,6 +35,7 @@ pub mod PlanReadingLaws
 pub mod PlanRounds
 pub mod PlanSteps
 pub mod PlanTurn
+pub mod PlannedStepLaws
 pub mod PreemptionLaws
 pub mod RowLaws
 pub mod RunLaws
@@ -45,3 +48,4 @@ pub mod TraceStepLaws
 pub mod TraceSteps
 pub mod Traces
 pub mod TurnTraceLaws
+pub mod WrittenLaws

@@ -31,7 +31,7 @@ use Rattle.matching.specs.Laws.PlanReading.{markOf, marksOf}
 use Rattle.matching.specs.Laws.PlanRounds.{none-left, rounds-marked, next-place, next-round}
 use Rattle.matching.specs.Laws.PlanReadingLaws.{numbered}
 use Rattle.matching.specs.Laws.RunLaws.{run-steps, run-below, endAt, legal-rising, ends-below}
-use Rattle.matching.specs.Laws.Traces.{endedCount}
+use Rattle.matching.specs.PlannedSteps.{endedCount}
 
 -- ---- counting
 

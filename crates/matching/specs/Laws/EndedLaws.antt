@@ -16,7 +16,7 @@ use Rattle.order.specs.Laws.StepLaws.{no-flag}
 use Rattle.plan.specs.Runs.{jobTotal}
 use Rattle.notation.specs.Laws.CountLaws.{only-fewer, only-same, only-more}
 use Rattle.notation.specs.Laws.ElementLaws.{only-none, only-every, at-every}
-use Rattle.matching.specs.Laws.Traces.{endedCount}
+use Rattle.matching.specs.PlannedSteps.{endedCount}
 
 -- none where an order starts
 pub ended-none : (a : Accepted) → endedCount a (initial a) ≡ 0

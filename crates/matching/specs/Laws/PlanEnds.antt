@@ -25,7 +25,8 @@ use Rattle.matching.specs.Laws.PlanReading.{marksOf, guessesOf}
 use Rattle.matching.specs.Laws.PlanSteps.{plan-steps}
 use Rattle.matching.specs.Laws.SequenceLaws.{sequence-gathered}
 use Rattle.matching.specs.Laws.TraceEnds.{last-store, failed-flags}
-use Rattle.matching.specs.Laws.Traces.{endedCount, Traced}
+use Rattle.matching.specs.Laws.Traces.{Traced}
+use Rattle.matching.specs.PlannedSteps.{endedCount}
 use Rattle.matching.specs.Laws.TraceStepLaws.{guesses-whole}
 use Rattle.matching.specs.Laws.TraceSteps.{traceOf}
 

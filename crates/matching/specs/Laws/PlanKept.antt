@@ -43,7 +43,8 @@ use Rattle.matching.specs.Laws.PlanColumns.{legal-back, legal-climbs, le
 use Rattle.matching.specs.Laws.PlanReading.{marksOf, guessesOf}
 use Rattle.matching.specs.Laws.PlanTurn.{Stands, NextTurn, plan-turn}
 use Rattle.matching.specs.Laws.TraceMore.{some-same}
-use Rattle.matching.specs.Laws.Traces.{endedCount, Traced}
+use Rattle.matching.specs.Laws.Traces.{Traced}
+use Rattle.matching.specs.PlannedSteps.{endedCount}
 use Rattle.matching.specs.Laws.TraceLaws.{traced-initial}
 use Rattle.matching.specs.Laws.TraceStepLaws.{first-guess}
 use Rattle.matching.specs.Laws.TraceSteps.{traceFrom, firstGuess, startTrace, traceOf}

@@ -30,7 +30,8 @@ use Rattle.matching.specs.Laws.EndedLaws.{ended-same, ended-more}
 use Rattle.matching.specs.Laws.Histories.{Marks, job, marked, inRound, rows, unbegun, Columns, columns}
 use Rattle.matching.specs.Laws.MovedLaws.{markAt, round-open, job-listed, stores-all, none-above, moved, columns-moved, moved-locals, ended-here, moved-endings, moved-failures, moved-present, moved-past}
 use Rattle.matching.specs.Laws.RowLaws.{marked-keeps, rows-marked}
-use Rattle.matching.specs.Laws.Traces.{endedCount, Traced}
+use Rattle.matching.specs.Laws.Traces.{Traced}
+use Rattle.matching.specs.PlannedSteps.{endedCount}
 use Rattle.matching.specs.Laws.TurnTraceLaws.{GoesOn, Starts}
 
 module _ {a : Accepted} (ok : IsAccepted a) {s : State} (inv : Invariant a s) {r : ℕ} {guesses : List Store} {h : Marks} {done : List ℕ}

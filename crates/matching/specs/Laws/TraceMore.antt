@@ -19,7 +19,7 @@ use Rattle.order.specs.States.{State, hasEnded}
 use Rattle.order.specs.Laws.StepLaws.{GoodTurn, good-turn, ended-other, Step, step-says, step-keeps}
 use Rattle.matching.specs.Laws.EndedLaws.{ended-same, ended-more}
 use Rattle.matching.specs.Laws.Histories.{job}
-use Rattle.matching.specs.Laws.Traces.{endedCount}
+use Rattle.matching.specs.PlannedSteps.{endedCount}
 use Rattle.matching.specs.Laws.TraceSteps.{Trace, traced, traceFrom}
 use Rattle.matching.specs.Laws.TurnTraceLaws.{step-after}
 
@@ -92,7 +92,7 @@ module _ {a : Accepted} (ok : IsAccepted a) {s : State} (inv : Invariant a s) {b
       ]
 
   -- a round ends with a job's End, so it stays the number of jobs that have ended
-  round-kept : roundAfter (endedCount a s) after x ≡ endedCount a after
+  pub round-kept : roundAfter (endedCount a s) after x ≡ endedCount a after
   unfolding roundAfter if_then_else_
   round-kept =
       elim (decided (hasEnded after x)) [

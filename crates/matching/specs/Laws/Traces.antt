@@ -6,9 +6,7 @@ use Prim.Native.Nat.{ℕ, suc, _+_, _<_}
 use mathlib.Core.Bool.{true, false}
 use mathlib.Core.List.{List, []}
 use lib.ListN.{length, getD}
-use Rattle.notation.specs.Lists.{only}
 use Rattle.timing.specs.Accepted.{Accepted}
-use Rattle.timing.specs.Relations.{jobNumbers}
 use Rattle.machine.specs.Ends.{noStore}
 use Rattle.machine.specs.Instructions.{Store}
 use Rattle.order.specs.declared.Frame.{Frame}
@@ -16,10 +14,7 @@ use Rattle.order.specs.Code.Invariant.{hasBegun}
 use Rattle.order.specs.States.{State, hasEnded, isActive}
 use Rattle.plan.specs.Runs.{jobTotal}
 use Rattle.matching.specs.Laws.Histories.{Marks, job, inRound, rows, unbegun, columns}
-
--- how many jobs have ended
-unfoldable pub endedCount : Accepted → State → ℕ
-endedCount a s = length (only (hasEnded s) (jobNumbers a))
+use Rattle.matching.specs.PlannedSteps.{endedCount}
 
 -- after the steps `done`, in round r, with the guesses so far
 pub record Traced (a : Accepted) (s : State) (r : ℕ) (guesses : List Store) (h : Marks) (done : List ℕ) : Type 0 where

@@ -1,0 +1,65 @@
+-- The steps of an order in a plan: whose step each byte of the order is, and where that step stands in the plan's run,
+-- with its value and its round. Document 01, "Round plans": "a round ends with a job's End. .. for each job in number
+-- order, for each of its steps, two bytes: round, Pick value or 0."
+-- Assumes nothing.
+use mathlib.Core.Path.{_≡_}
+use Prim.Native.Nat.{ℕ, _/_, _%_}
+use mathlib.Core.List.{List, [], _∷_, _++_}
+use mathlib.Core.Option.{none, some}
+use lib.ListN.{length}
+use lib.Dec.{eqb}
+use Rattle.notation.specs.Lists.{only}
+use Rattle.timing.specs.declared.Job.{Job}
+use Rattle.timing.specs.Accepted.{Accepted}
+use Rattle.timing.specs.Relations.{IsJob, jobNumbers}
+use Rattle.order.specs.Orders.{Turn, turnOf, performed, run}
+use Rattle.order.specs.States.{State, initial, hasEnded}
+use Rattle.plan.specs.Legality.{stepsOf}
+use Rattle.plan.specs.Plans.{Legal}
+use Rattle.plan.specs.Runs.{Plan, Step, JobRuns}
+use Rattle.matching.specs.Laws.Histories.{job}
+
+-- the jobs whose steps the bytes are, byte by byte from a state on
+unfoldable pub jobsFrom : Accepted → State → List ℕ → List Job
+jobsFrom a s [] = []
+jobsFrom a s (byte ∷ bytes) =
+    elim (turnOf a s (byte / 16)) [
+      | none ↦ []
+      | some turn ↦ turn .frame .job ∷ jobsFrom a (performed a s (byte % 16) turn) bytes
+    ]
+
+-- how many of an order's bytes are steps of job x
+unfoldable pub stepsMade : Accepted → List ℕ → Job → ℕ
+stepsMade a bytes x = length (only (λ y. eqb (y .0) (x .0)) (jobsFrom a (initial a) bytes))
+
+-- how many jobs have ended
+unfoldable pub endedCount : Accepted → State → ℕ
+endedCount a s = length (only (hasEnded s) (jobNumbers a))
+
+-- the step of the byte that comes after the bytes `earlier`, in a plan's run
+pub record StepPlanned (a : Accepted) (runs : JobRuns) (earlier : List ℕ) (byte : ℕ) : Type 0 where
+  -- the state after `earlier`, and the job whose turn the byte is
+  pub before : State
+  pub reached : run a (initial a) earlier ≡ some before
+  pub turn : Turn
+  pub due : turnOf a before (byte / 16) ≡ some turn
+  -- the plan's steps of that job: as many as it has made in `earlier`, then this one
+  pub made : List Step
+  pub step : Step
+  pub left : List Step
+  pub cut : stepsOf runs (turn .frame .job) ≡ made ++ (step ∷ left)
+  pub as-many : length made ≡ stepsMade a earlier (turn .frame .job)
+  -- it has its value from the order and, as its round, the number of Ends before it: so many jobs have ended
+  pub value : step .value ≡ byte % 16
+  pub round : step .round .0 ≡ endedCount a before
+
+-- the plan's steps are the order's
+pub record StepsPlanned (a : Accepted) (order : List ℕ) (plan : Plan) : Type 0 where
+  -- the plan's run
+  pub runs : JobRuns
+  pub legal : Legal a plan runs
+  -- each byte of the order has its step in it
+  pub each-byte : (earlier : List ℕ) (byte : ℕ) (later : List ℕ) → order ≡ earlier ++ (byte ∷ later)
+      → StepPlanned a runs earlier byte
+  -- and there are no others: each job has as many as in the order
+  pub no-others : (x : Job) → IsJob a x → length (stepsOf runs x) ≡ stepsMade a order x
