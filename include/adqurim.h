@@ -1,10 +1,14 @@
 /*
  * Adqurim's C interface: the reader of task files, the replay of an order, the walk of all orders.
+ * For C11 and C++11 or later.
  *
- * A slice passes as a pointer and then a length: bytes for a file or an order, words of 64 bits for
- * an answer.
- * A pointer is never null, even where its length is 0. The library keeps nothing between calls and
- * allocates nothing.
+ * Each entry comes twice. adqurim_read, adqurim_replay and adqurim_walk are the proved entries of
+ * the library; they fill words that the caller lends. adqurim_read_file, adqurim_replay_order and
+ * adqurim_walk_orders call them and fill a struct.
+ *
+ * A slice passes as a pointer and then a length: bytes for a file or an order, words of 64 bits
+ * for an answer. A pointer is never null, even where its length is 0. The library keeps nothing
+ * between calls and allocates nothing.
  */
 #ifndef ADQURIM_H
 #define ADQURIM_H
@@ -12,13 +16,117 @@
 #include <stdbool.h>
 #include <stddef.h>
 #include <stdint.h>
+#include <string.h>
 
 #ifdef __cplusplus
 extern "C" {
 #endif
 
-/* How many words adqurim_read fills. */
+/* Limits of a table. */
+#define ADQURIM_MOST_TASKS 8
+#define ADQURIM_MOST_JOBS 32
+#define ADQURIM_VARIABLES 8
+
+/* The room that number 20 asks for: bytes of an order, bytes of a plan, records of a job list. */
+#define ADQURIM_ORDER_ROOM 512
+#define ADQURIM_PLAN_ROOM 1281
+#define ADQURIM_JOB_LIST_ROOM 32
+
+/*
+ * The numbers of an answer. A refusal has its number, its place, and every other field zero.
+ * The entries below give 0 to 32. No entry here takes a plan, which 40 to 45 are about.
+ */
+enum adqurim_number {
+    ADQURIM_ACCEPTED = 0, /* no refusal; place 0 */
+
+    /* The file's author. The place is a record. */
+    ADQURIM_SIZE = 1,    /* length 0, above 4,096 or no multiple of 16; place 0 */
+    ADQURIM_KIND = 2,    /* wrong kind for its chain; that record */
+    ADQURIM_CHAIN = 3,   /* an index outside the file or to a record already reached; its holder */
+    ADQURIM_FIELD = 4,   /* a value out of range (lock numbers are left to 9) or an unused byte not
+                            zero; that record */
+    ADQURIM_COUNT = 5,   /* a task, lock or instruction too many; that record. Or no tasks or an
+                            empty body; the holder */
+    ADQURIM_STRAY = 6,   /* records never reached; the lowest */
+    ADQURIM_BODY = 7,    /* last instruction not End; it. Or a skip beyond it; the skip */
+    ADQURIM_RATE = 8,    /* a period above the previous task's; the first such task */
+    ADQURIM_CEILING = 9, /* Acquire or Release of a lock not in the table, or Acquire of one with
+                            a ceiling below the task's base; the first such instruction */
+
+    /* The bench that supplies times. */
+    ADQURIM_OVERLOAD = 10, /* no response time within the period; the lowest such task's record */
+    ADQURIM_JOBS = 11,     /* more than 32 jobs; place 0 */
+
+    /* The caller. */
+    ADQURIM_ROOM = 20,      /* order buffer below 512 bytes, plan buffer below 1,281, job list
+                               below 32; place 0 */
+    ADQURIM_UNDECIDED = 21, /* the walk's count exceeds the allowance; place 0 */
+
+    /* The author of an order. The place is a step's index. */
+    ADQURIM_STEP = 30,  /* not a legal step; that step */
+    ADQURIM_SHORT = 31, /* bytes end with jobs unfinished; the order's length */
+    ADQURIM_EXTRA = 32, /* bytes remain after all jobs ended; the first of them */
+
+    /* The author of a plan. */
+    ADQURIM_SHAPE = 40, /* first byte not the number of jobs, bytes run out, or bytes left over;
+                           the offset of the first wrong, missing or extra byte */
+    ADQURIM_VALUE = 41, /* not a value its instruction allows; its offset */
+    ADQURIM_ROUND = 42, /* at least the number of jobs, or below the job's previous step; its
+                           offset */
+    ADQURIM_ORDER = 43, /* a pair of jobs breaks the round rules, locks aside; the lower job */
+    ADQURIM_LOCK = 44,  /* the priority clause of a nested pair fails; the lower job */
+    ADQURIM_GUESS = 45  /* wrong guesses; the lowest round that has one */
+};
+
+/* A walk's verdict. */
+enum adqurim_verdict {
+    ADQURIM_VERDICT_NONE = 0,  /* refused */
+    ADQURIM_VERDICT_HOLDS = 1, /* no order fails */
+    ADQURIM_VERDICT_FAILS = 2  /* some order fails; the answer and the buffer show the first */
+};
+
+/* How many words each entry fills. */
 #define ADQURIM_READ_WORDS 11
+#define ADQURIM_REPLAY_WORDS 43
+#define ADQURIM_WALK_WORDS 45
+
+/* What adqurim_read answers, word by word. */
+typedef struct adqurim_read_answer {
+    uint64_t number;                        /* an adqurim_number */
+    uint64_t place;
+    uint64_t responses[ADQURIM_MOST_TASKS]; /* of tasks 0 to 7, 0 past the last task */
+    uint64_t jobs;                          /* how many */
+} adqurim_read_answer;
+
+/* What adqurim_replay answers, word by word: how an order's run ends. */
+typedef struct adqurim_run {
+    uint64_t number;                    /* an adqurim_number */
+    uint64_t place;
+    uint64_t store[ADQURIM_VARIABLES];  /* the end store */
+    uint64_t failed[ADQURIM_MOST_JOBS]; /* 1 if an assertion of the job failed, else 0 */
+    uint64_t length;                    /* bytes written to a lent buffer */
+} adqurim_run;
+
+/* What adqurim_walk answers, word by word: the failing order's run, the verdict, the count. */
+typedef struct adqurim_walk_answer {
+    uint64_t number;                    /* an adqurim_number */
+    uint64_t place;
+    uint64_t store[ADQURIM_VARIABLES];  /* the end store */
+    uint64_t failed[ADQURIM_MOST_JOBS]; /* 1 if an assertion of the job failed, else 0 */
+    uint64_t length;                    /* bytes written to the order buffer */
+    uint64_t verdict;                   /* an adqurim_verdict */
+    uint64_t count;                     /* moves made */
+} adqurim_walk_answer;
+
+#ifdef __cplusplus
+#define ADQURIM_STATIC_ASSERT static_assert
+#else
+#define ADQURIM_STATIC_ASSERT _Static_assert
+#endif
+ADQURIM_STATIC_ASSERT(sizeof(adqurim_read_answer) == ADQURIM_READ_WORDS * 8, "11 words");
+ADQURIM_STATIC_ASSERT(sizeof(adqurim_run) == ADQURIM_REPLAY_WORDS * 8, "43 words");
+ADQURIM_STATIC_ASSERT(sizeof(adqurim_walk_answer) == ADQURIM_WALK_WORDS * 8, "45 words");
+#undef ADQURIM_STATIC_ASSERT
 
 /*
  * Reads a task file and fills the first 11 words of the answer:
@@ -30,43 +138,37 @@ extern "C" {
  *
  * A refusal has every word but 0 and 1 zero. Words past the eleventh never change.
  *
- * Returns whether the answer has room for the 11 words. Without room nothing changes and the answer
- * is false. The file is only read, and it does not overlap the answer.
+ * Returns whether the answer has room for the 11 words. Without room nothing changes and the
+ * answer is false. The file is only read, and it does not overlap the answer.
  */
 bool adqurim_read(const uint8_t *file, size_t file_len, uint64_t *answer, size_t answer_len);
-
-/* How many words adqurim_replay fills. */
-#define ADQURIM_REPLAY_WORDS 43
 
 /*
  * Replays an order of a task file's jobs and fills the first 43 words of the answer:
  *
- *   word 0           the number: 0 if the order is complete, else the number of the refusal, 1 to 11
- *                    for the file, 30 to 32 for the order
- *   word 1           the place of the refusal, a record's index for the file, a step's for the order;
- *                    0 if the order is complete
+ *   word 0           the number: 0 if the order is complete, else the number of the refusal,
+ *                    1 to 11 for the file, 30 to 32 for the order
+ *   word 1           the place of the refusal, a record's index for the file, a step's for the
+ *                    order; 0 if the order is complete
  *   words 2 to 9     the end store, variables 0 to 7
  *   words 10 to 41   for each of jobs 0 to 31 a 1 if an assertion of the job failed, else 0
  *   word 42          how many bytes were written to a lent buffer: 0, since a replay writes none
  *
  * A refusal has every word but 0 and 1 zero. Words past the 43rd never change.
  *
- * Returns whether the answer has room for the 43 words. Without room nothing changes and the answer
- * is false. The file and the order are only read, and neither overlaps the answer.
+ * Returns whether the answer has room for the 43 words. Without room nothing changes and the
+ * answer is false. The file and the order are only read, and neither overlaps the answer.
  */
 bool adqurim_replay(const uint8_t *file, size_t file_len, const uint8_t *order, size_t order_len,
                     uint64_t *answer, size_t answer_len);
 
-/* How many words adqurim_walk fills. */
-#define ADQURIM_WALK_WORDS 45
-
 /*
- * Walks the orders of a task file's jobs up to the first that fails, with at most `allowance` moves,
- * and fills the first 45 words of the answer:
+ * Walks the orders of a task file's jobs up to the first that fails, with at most `allowance`
+ * moves, and fills the first 45 words of the answer:
  *
- *   word 0           the number: 0 if the walk has a verdict, else the number of the refusal, 1 to 11
- *                    for the file, 20 if the order buffer is below 512 bytes, 21 if the count exceeds
- *                    the allowance
+ *   word 0           the number: 0 if the walk has a verdict, else the number of the refusal,
+ *                    1 to 11 for the file, 20 if the order buffer is below 512 bytes, 21 if the
+ *                    count exceeds the allowance
  *   word 1           the place of the refusal, a record's index for the file; else 0
  *   words 2 to 9     the failing order's end store, variables 0 to 7
  *   words 10 to 41   for each of jobs 0 to 31 a 1 if an assertion of the job failed in that order,
@@ -75,8 +177,8 @@ bool adqurim_replay(const uint8_t *file, size_t file_len, const uint8_t *order, 
  *   word 43          the verdict: 0 none, 1 holds (no order fails), 2 fails
  *   word 44          the count: the moves made up to the end of the failing order, or all moves
  *
- * A walk that holds has every word but 43 and 44 zero, a refusal every word but 0 and 1. Words past
- * the 45th never change.
+ * A walk that holds has every word but 43 and 44 zero, a refusal every word but 0 and 1. Words
+ * past the 45th never change.
  *
  * The order buffer then holds
  *
@@ -92,6 +194,43 @@ bool adqurim_replay(const uint8_t *file, size_t file_len, const uint8_t *order, 
  */
 bool adqurim_walk(const uint8_t *file, size_t file_len, uint64_t allowance, uint8_t *order,
                   size_t order_len, uint64_t *answer, size_t answer_len);
+
+/*
+ * The same entries with structs. Each returns the answer's number, 0 if nothing is refused. What
+ * is said above of the lent bytes holds here too.
+ *
+ * The words go through an array of their own and are copied: a pointer to a struct's first word
+ * may not be followed past that word, neither in C nor in C++.
+ */
+
+/* Reads a task file. */
+static inline uint64_t adqurim_read_file(const uint8_t *file, size_t file_len,
+                                         adqurim_read_answer *answer) {
+    uint64_t words[ADQURIM_READ_WORDS];
+    (void)adqurim_read(file, file_len, words, ADQURIM_READ_WORDS);
+    memcpy(answer, words, sizeof words);
+    return answer->number;
+}
+
+/* Replays an order. */
+static inline uint64_t adqurim_replay_order(const uint8_t *file, size_t file_len,
+                                            const uint8_t *order, size_t order_len,
+                                            adqurim_run *answer) {
+    uint64_t words[ADQURIM_REPLAY_WORDS];
+    (void)adqurim_replay(file, file_len, order, order_len, words, ADQURIM_REPLAY_WORDS);
+    memcpy(answer, words, sizeof words);
+    return answer->number;
+}
+
+/* Walks the orders, with at most `allowance` moves. */
+static inline uint64_t adqurim_walk_orders(const uint8_t *file, size_t file_len,
+                                           uint64_t allowance, uint8_t *order, size_t order_len,
+                                           adqurim_walk_answer *answer) {
+    uint64_t words[ADQURIM_WALK_WORDS];
+    (void)adqurim_walk(file, file_len, allowance, order, order_len, words, ADQURIM_WALK_WORDS);
+    memcpy(answer, words, sizeof words);
+    return answer->number;
+}
 
 #ifdef __cplusplus
 }
