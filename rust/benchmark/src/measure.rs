@@ -1,6 +1,6 @@
 //! How long the proved entries and the interpreter take on an input.
 
-use binding::{ReadAnswer, RunAnswer};
+use binding::raw::{self, ReadAnswer, RunAnswer};
 use conformance::proved::{expected_read, expected_replay};
 use std::hint::black_box;
 use std::io::{Read, Result, Write};
@@ -52,9 +52,9 @@ impl Input {
     /// What the proved entry answers.
     fn proved(&self) -> Answer {
         match self {
-            Input::Read(file) => Answer::Read(binding::read(black_box(file))),
+            Input::Read(file) => Answer::Read(raw::read(black_box(file))),
             Input::Replay(file, order) => {
-                Answer::Run(binding::replay(black_box(file), black_box(order)))
+                Answer::Run(raw::replay(black_box(file), black_box(order)))
             }
         }
     }

@@ -1,6 +1,7 @@
 //! How much stack the proved walk needs on a table whose order is as long as any.
 
 use crate::walker::STEPS;
+use binding::raw;
 use conformance::cases::tasks;
 use generator::code;
 use std::io::Result;
@@ -22,8 +23,8 @@ fn deepest() -> Vec<u8> {
 /// Walks the deepest table in a thread with so much stack. An overflow ends the process.
 fn walk_with(kib: usize) -> Result<()> {
     let walk = || {
-        let answer = binding::walk(&deepest(), STEPS as u64, &mut [0; STEPS]);
-        assert_eq!((answer.verdict, answer.count), (binding::Verdict::Holds, STEPS as u64));
+        let answer = raw::walk(&deepest(), STEPS as u64, &mut [0; STEPS]);
+        assert_eq!((answer.verdict, answer.count), (raw::Verdict::Holds, STEPS as u64));
     };
     let thread = std::thread::Builder::new().stack_size(kib * 1024).spawn(walk)?;
     thread.join().expect("both sides agree on the deepest table");

@@ -2,6 +2,7 @@
 //! walk holds after about 20,000,000 moves; the sizes were found by trying.
 
 use crate::walker::{self, Lent, STEPS};
+use binding::raw;
 use conformance::cases::accepted;
 use generator::{code, InstructionDescription, TableDescription, TaskDescription};
 use std::hint::black_box;
@@ -137,12 +138,12 @@ pub fn time_walks(row: WalkRow) -> WalkTiming {
     for _ in 0..WALK_TURNS {
         let mut order = [0; STEPS];
         let begin = Instant::now();
-        let answer = binding::walk(black_box(&file), ALLOWANCE, &mut order);
+        let answer = raw::walk(black_box(&file), ALLOWANCE, &mut order);
         proved.push(begin.elapsed());
         let begin = Instant::now();
         let (verdict, count) = walker::walk(black_box(&lent), ALLOWANCE, &mut order);
         walker.push(begin.elapsed());
-        assert_eq!((answer.verdict, verdict), (binding::Verdict::Holds, walker::Verdict::Holds));
+        assert_eq!((answer.verdict, verdict), (raw::Verdict::Holds, walker::Verdict::Holds));
         assert_eq!(answer.count, count);
         moves = count;
     }

@@ -1,233 +1,95 @@
 //! Safe calls of the proved entries through their C interface, which `include/adqurim.h` describes.
-//! This is the only package with unsafe code.
+//!
+//! [`read`], [`replay`] and [`walk`] give a value or a [`Refusal`], which prints as a sentence. The
+//! module [`raw`] has the same entries with their numbers, places and lent memory.
+//!
+//! ```
+//! let refusal = binding::read(&[1; 7]).unwrap_err();
+//! let says = "the file's length is 0, above 4,096 or no multiple of 16 (1 SIZE)";
+//! assert_eq!(refusal.to_string(), says);
+//! ```
 
-/// How many words the reader's entry fills.
-pub const READ_WORDS: usize = 11;
+pub mod raw;
+mod refusal;
+mod words;
 
-/// What the reader's entry answers, each field as wide as its word so that none is cut.
-#[derive(Debug, Clone, Copy, PartialEq, Eq, Default)]
-pub struct ReadAnswer {
-    pub number: u64,
-    pub place: u64,
-    /// Of tasks 0 to 7; 0 past the last task.
-    pub responses: [u64; 8],
-    pub jobs: u64,
+pub use refusal::{Place, Refusal, Rule};
+pub use words::{JOB_LIST_ROOM, MOST_JOBS, MOST_TASKS, ORDER_ROOM, PLAN_ROOM, VARIABLES};
+
+/// A job's number: jobs are numbered from 0 by task, then by arrival.
+#[derive(Debug, Clone, Copy, PartialEq, Eq, PartialOrd, Ord, Hash)]
+pub struct JobNumber(pub usize);
+
+/// What the reader finds in an accepted file.
+#[derive(Debug, Clone, PartialEq, Eq)]
+pub struct Timing {
+    /// Of each task, by its number. A latest finish is a sum with one, so it has 64 bits.
+    pub response_times: Vec<u64>,
+    /// How many jobs arrive in the window.
+    pub jobs: usize,
 }
 
-/// How many words the replay's entry fills.
-pub const REPLAY_WORDS: usize = 43;
-
-/// What the replay's entry answers, each field as wide as its word so that none is cut.
-#[derive(Debug, Clone, Copy, PartialEq, Eq, Default)]
-pub struct RunAnswer {
-    pub number: u64,
-    pub place: u64,
-    pub end_store: [u64; 8],
-    /// Of jobs 0 to 31: 1 if the job failed, else 0.
-    pub failed_jobs: [u64; 32],
-    /// How many bytes were written to a lent buffer.
-    pub length: u64,
+/// What a complete order ends with.
+#[derive(Debug, Clone, PartialEq, Eq)]
+pub struct Ending {
+    pub end_store: [u8; VARIABLES],
+    /// The jobs with a failed assertion, ascending.
+    pub failed_jobs: Vec<JobNumber>,
 }
 
-/// How many words the walk's entry fills.
-pub const WALK_WORDS: usize = 45;
-
-/// A walk's verdict; `None` is the zero of a refusal.
-#[derive(Debug, Clone, Copy, PartialEq, Eq, Default)]
+/// What a walk comes to, with the count of its moves.
+#[derive(Debug, Clone, PartialEq, Eq)]
 pub enum Verdict {
-    #[default]
-    None,
-    Holds,
-    Fails,
+    /// No order fails.
+    Holds { count: u64 },
+    /// This is the first order that fails, and its ending.
+    Fails { count: u64, order: Vec<u8>, ending: Ending },
 }
 
-/// What the walk's entry answers, each number as wide as its word so that none is cut.
-#[derive(Debug, Clone, Copy, PartialEq, Eq, Default)]
-pub struct WalkAnswer {
-    pub number: u64,
-    pub place: u64,
-    pub verdict: Verdict,
-    /// The moves made.
-    pub count: u64,
-    /// Of the failing order, in bytes; 0 if none fails.
-    pub length: u64,
-    pub end_store: [u64; 8],
-    /// Of jobs 0 to 31: 1 if the job failed, else 0.
-    pub failed_jobs: [u64; 32],
+/// Reads a task file: the response times and the number of jobs, or a refusal by 1 to 11.
+pub fn read(file: &[u8]) -> Result<Timing, Refusal> {
+    let answer = raw::read(file);
+    accept(answer.number, answer.place)?;
+    // A response time is positive, so the first zero stands past the last task.
+    let response_times = answer.responses.into_iter().take_while(|time| *time > 0).collect();
+    Ok(Timing { response_times, jobs: answer.jobs as usize })
 }
 
-mod c {
-    extern "C" {
-        pub fn adqurim_read(
-            file: *const u8,
-            file_len: usize,
-            answer: *mut u64,
-            answer_len: usize,
-        ) -> bool;
+/// Replays an order: its ending, or a refusal by 1 to 11 or 30 to 32.
+pub fn replay(file: &[u8], order: &[u8]) -> Result<Ending, Refusal> {
+    let answer = raw::replay(file, order);
+    accept(answer.number, answer.place)?;
+    Ok(ending(answer.end_store, answer.failed_jobs))
+}
 
-        pub fn adqurim_replay(
-            file: *const u8,
-            file_len: usize,
-            order: *const u8,
-            order_len: usize,
-            answer: *mut u64,
-            answer_len: usize,
-        ) -> bool;
+/// Walks all orders with at most so many moves: a verdict, or a refusal by 1 to 11 or 21.
+pub fn walk(file: &[u8], allowance: u64) -> Result<Verdict, Refusal> {
+    let mut order = [0; ORDER_ROOM];
+    let answer = raw::walk(file, allowance, &mut order);
+    accept(answer.number, answer.place)?;
+    let count = answer.count;
+    Ok(match answer.verdict {
+        raw::Verdict::None => unreachable!("a walk that is not refused has a verdict"),
+        raw::Verdict::Holds => Verdict::Holds { count },
+        raw::Verdict::Fails => Verdict::Fails {
+            count,
+            order: order[..answer.length as usize].to_vec(),
+            ending: ending(answer.end_store, answer.failed_jobs),
+        },
+    })
+}
 
-        pub fn adqurim_walk(
-            file: *const u8,
-            file_len: usize,
-            allowance: u64,
-            order: *mut u8,
-            order_len: usize,
-            answer: *mut u64,
-            answer_len: usize,
-        ) -> bool;
+/// The refusal of an answer, if it is one.
+fn accept(number: u64, place: u64) -> Result<(), Refusal> {
+    match number {
+        0 => Ok(()),
+        _ => Err(Refusal { number, place }),
     }
 }
 
-/// Reads a task file into lent words. False, and no word changed, if there is no room for 11 words.
-pub fn read_words(file: &[u8], answer: &mut [u64]) -> bool {
-    // SAFETY: each pointer and length are those of one slice, never null, and a shared and an
-    // exclusive slice do not overlap. The entry writes only the answer and keeps no pointer.
-    unsafe { c::adqurim_read(file.as_ptr(), file.len(), answer.as_mut_ptr(), answer.len()) }
-}
-
-/// Reads a task file.
-pub fn read(file: &[u8]) -> ReadAnswer {
-    let mut words = [0; READ_WORDS];
-    let room = read_words(file, &mut words);
-    assert!(room, "the entry has room for its words");
-    ReadAnswer::from(words)
-}
-
-/// Replays an order into lent words. False, and no word changed, if there is no room for 43 words.
-pub fn replay_words(file: &[u8], order: &[u8], answer: &mut [u64]) -> bool {
-    // SAFETY: as for the reader. The two shared slices may overlap, since the entry only reads them.
-    unsafe {
-        c::adqurim_replay(
-            file.as_ptr(),
-            file.len(),
-            order.as_ptr(),
-            order.len(),
-            answer.as_mut_ptr(),
-            answer.len(),
-        )
-    }
-}
-
-/// Replays an order.
-pub fn replay(file: &[u8], order: &[u8]) -> RunAnswer {
-    let mut words = [0; REPLAY_WORDS];
-    let room = replay_words(file, order, &mut words);
-    assert!(room, "the entry has room for its words");
-    RunAnswer::from(words)
-}
-
-/// Walks all orders into lent words and a lent order buffer. False, and neither changed, if there is
-/// no room for 45 words.
-pub fn walk_words(file: &[u8], allowance: u64, order: &mut [u8], answer: &mut [u64]) -> bool {
-    // SAFETY: as for the reader. The entry writes only the order and the answer, two exclusive
-    // slices, which overlap neither each other nor the file.
-    unsafe {
-        c::adqurim_walk(
-            file.as_ptr(),
-            file.len(),
-            allowance,
-            order.as_mut_ptr(),
-            order.len(),
-            answer.as_mut_ptr(),
-            answer.len(),
-        )
-    }
-}
-
-/// Walks all orders. The buffer takes the failing order; it is zeroed up to 512 if the walk holds or
-/// is undecided.
-pub fn walk(file: &[u8], allowance: u64, order: &mut [u8]) -> WalkAnswer {
-    let mut words = [0; WALK_WORDS];
-    let room = walk_words(file, allowance, order, &mut words);
-    assert!(room, "the entry has room for its words");
-    WalkAnswer::from(words)
-}
-
-impl From<u64> for Verdict {
-    fn from(word: u64) -> Verdict {
-        match word {
-            0 => Verdict::None,
-            1 => Verdict::Holds,
-            2 => Verdict::Fails,
-            _ => panic!("no verdict has the number {word}"),
-        }
-    }
-}
-
-impl From<Verdict> for u64 {
-    fn from(verdict: Verdict) -> u64 {
-        match verdict {
-            Verdict::None => 0,
-            Verdict::Holds => 1,
-            Verdict::Fails => 2,
-        }
-    }
-}
-
-impl From<[u64; WALK_WORDS]> for WalkAnswer {
-    fn from(words: [u64; WALK_WORDS]) -> WalkAnswer {
-        let [run @ .., verdict, count] = words;
-        let RunAnswer { number, place, end_store, failed_jobs, length } = RunAnswer::from(run);
-        let verdict = Verdict::from(verdict);
-        WalkAnswer { number, place, verdict, count, length, end_store, failed_jobs }
-    }
-}
-
-impl From<WalkAnswer> for [u64; WALK_WORDS] {
-    fn from(answer: WalkAnswer) -> [u64; WALK_WORDS] {
-        let WalkAnswer { number, place, verdict, count, length, end_store, failed_jobs } = answer;
-        let run = RunAnswer { number, place, end_store, failed_jobs, length };
-        let mut words = [0; WALK_WORDS];
-        words[..REPLAY_WORDS].copy_from_slice(&<[u64; REPLAY_WORDS]>::from(run));
-        words[REPLAY_WORDS..].copy_from_slice(&[verdict.into(), count]);
-        words
-    }
-}
-
-impl From<[u64; REPLAY_WORDS]> for RunAnswer {
-    fn from(words: [u64; REPLAY_WORDS]) -> RunAnswer {
-        let [number, place, rest @ .., length] = words;
-        RunAnswer {
-            number,
-            place,
-            end_store: std::array::from_fn(|variable| rest[variable]),
-            failed_jobs: std::array::from_fn(|job| rest[8 + job]),
-            length,
-        }
-    }
-}
-
-impl From<RunAnswer> for [u64; REPLAY_WORDS] {
-    fn from(answer: RunAnswer) -> [u64; REPLAY_WORDS] {
-        let RunAnswer { number, place, end_store, failed_jobs, length } = answer;
-        let mut words = [0; REPLAY_WORDS];
-        words[..2].copy_from_slice(&[number, place]);
-        words[2..10].copy_from_slice(&end_store);
-        words[10..42].copy_from_slice(&failed_jobs);
-        words[42] = length;
-        words
-    }
-}
-
-impl From<[u64; READ_WORDS]> for ReadAnswer {
-    fn from(words: [u64; READ_WORDS]) -> ReadAnswer {
-        let [number, place, responses @ .., jobs] = words;
-        ReadAnswer { number, place, responses, jobs }
-    }
-}
-
-impl From<ReadAnswer> for [u64; READ_WORDS] {
-    fn from(answer: ReadAnswer) -> [u64; READ_WORDS] {
-        let ReadAnswer { number, place, responses, jobs } = answer;
-        let [r0, r1, r2, r3, r4, r5, r6, r7] = responses;
-        [number, place, r0, r1, r2, r3, r4, r5, r6, r7, jobs]
-    }
+/// An ending from its words.
+fn ending(store: [u64; VARIABLES], failed: [u64; MOST_JOBS]) -> Ending {
+    let byte = |word| u8::try_from(word).expect("a variable is a byte");
+    let failed_jobs = (0..MOST_JOBS).filter(|job| failed[*job] != 0).map(JobNumber).collect();
+    Ending { end_store: store.map(byte), failed_jobs }
 }

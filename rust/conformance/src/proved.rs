@@ -1,6 +1,6 @@
 //! The interpreter's answers in the form of the proved entries'.
 
-use binding::{ReadAnswer, RunAnswer, Verdict, WalkAnswer};
+use binding::raw::{ReadAnswer, RunAnswer, Verdict, WalkAnswer};
 
 /// What the proved reader must answer to a file, by the interpreter.
 pub fn expected_read(file: &[u8]) -> ReadAnswer {

@@ -1,7 +1,7 @@
 //! The proved reader, called through its C interface, against the interpreter: every field of the
 //! answer on many files, and the lent words.
 
-use binding::{read, read_words, ReadAnswer, READ_WORDS};
+use binding::raw::{read, read_words, ReadAnswer, READ_WORDS};
 use conformance::cases::{edited, rates, table_x, tasks};
 use conformance::proved::expected_read;
 use generator::files::{damaged, random_bytes, random_records};

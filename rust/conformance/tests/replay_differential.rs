@@ -1,7 +1,7 @@
 //! The proved replay, called through its C interface, against the interpreter: every field of the
 //! answer on many files and orders, and the lent words.
 
-use binding::{replay, replay_words, RunAnswer, REPLAY_WORDS};
+use binding::raw::{replay, replay_words, RunAnswer, REPLAY_WORDS};
 use conformance::cases::{edited, full_table, rates, table_x, tasks, ORDER_OF_X};
 use conformance::orders::random_order;
 use conformance::proved::expected_replay;

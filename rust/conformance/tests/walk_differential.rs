@@ -1,7 +1,7 @@
 //! The proved walk, called through its C interface, against the interpreter: every field of the
 //! answer and every byte of the order buffer on many tables and allowances, and the lent words.
 
-use binding::{walk, walk_words, Verdict, WalkAnswer, WALK_WORDS};
+use binding::raw::{walk, walk_words, Verdict, WalkAnswer, WALK_WORDS};
 use conformance::cases::{edited, full_table, rates, table_x, tasks, ORDER_OF_X};
 use conformance::entries::{filled, pattern};
 use conformance::proved::expected_walk;

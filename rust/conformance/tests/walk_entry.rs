@@ -1,6 +1,6 @@
 //! The proved walk's entry on table X: case P13, the room for the words, and the room for the order.
 
-use binding::{walk, walk_words, Verdict, WalkAnswer, WALK_WORDS};
+use binding::raw::{walk, walk_words, Verdict, WalkAnswer, WALK_WORDS};
 use conformance::cases::{table_x, ORDER_OF_X};
 use conformance::entries::{filled, pattern};
 use generator::code;

@@ -1,0 +1,101 @@
+//! The proved entries as their C interface has them: lent words, and answers with a number and a
+//! place that a caller has to look at. This is the only module with unsafe code.
+
+pub use crate::words::{
+    ReadAnswer, RunAnswer, Verdict, WalkAnswer, READ_WORDS, REPLAY_WORDS, WALK_WORDS,
+};
+
+mod c {
+    extern "C" {
+        pub fn adqurim_read(
+            file: *const u8,
+            file_len: usize,
+            answer: *mut u64,
+            answer_len: usize,
+        ) -> bool;
+
+        pub fn adqurim_replay(
+            file: *const u8,
+            file_len: usize,
+            order: *const u8,
+            order_len: usize,
+            answer: *mut u64,
+            answer_len: usize,
+        ) -> bool;
+
+        pub fn adqurim_walk(
+            file: *const u8,
+            file_len: usize,
+            allowance: u64,
+            order: *mut u8,
+            order_len: usize,
+            answer: *mut u64,
+            answer_len: usize,
+        ) -> bool;
+    }
+}
+
+/// Reads a task file into lent words. False, and no word changed, if there is no room for 11 words.
+pub fn read_words(file: &[u8], answer: &mut [u64]) -> bool {
+    // SAFETY: each pointer and length are those of one slice, never null, and a shared and an
+    // exclusive slice do not overlap. The entry writes only the answer and keeps no pointer.
+    unsafe { c::adqurim_read(file.as_ptr(), file.len(), answer.as_mut_ptr(), answer.len()) }
+}
+
+/// Reads a task file.
+pub fn read(file: &[u8]) -> ReadAnswer {
+    let mut words = [0; READ_WORDS];
+    let room = read_words(file, &mut words);
+    assert!(room, "the entry has room for its words");
+    ReadAnswer::from(words)
+}
+
+/// Replays an order into lent words. False, and no word changed, if there is no room for 43 words.
+pub fn replay_words(file: &[u8], order: &[u8], answer: &mut [u64]) -> bool {
+    // SAFETY: as for the reader. The two shared slices may overlap, since the entry only reads them.
+    unsafe {
+        c::adqurim_replay(
+            file.as_ptr(),
+            file.len(),
+            order.as_ptr(),
+            order.len(),
+            answer.as_mut_ptr(),
+            answer.len(),
+        )
+    }
+}
+
+/// Replays an order.
+pub fn replay(file: &[u8], order: &[u8]) -> RunAnswer {
+    let mut words = [0; REPLAY_WORDS];
+    let room = replay_words(file, order, &mut words);
+    assert!(room, "the entry has room for its words");
+    RunAnswer::from(words)
+}
+
+/// Walks all orders into lent words and a lent order buffer. False, and neither changed, if there is
+/// no room for 45 words.
+pub fn walk_words(file: &[u8], allowance: u64, order: &mut [u8], answer: &mut [u64]) -> bool {
+    // SAFETY: as for the reader. The entry writes only the order and the answer, two exclusive
+    // slices, which overlap neither each other nor the file.
+    unsafe {
+        c::adqurim_walk(
+            file.as_ptr(),
+            file.len(),
+            allowance,
+            order.as_mut_ptr(),
+            order.len(),
+            answer.as_mut_ptr(),
+            answer.len(),
+        )
+    }
+}
+
+/// Walks all orders. The buffer takes the failing order; it is zeroed up to 512 if the walk holds or
+/// is undecided.
+pub fn walk(file: &[u8], allowance: u64, order: &mut [u8]) -> WalkAnswer {
+    let mut words = [0; WALK_WORDS];
+    let room = walk_words(file, allowance, order, &mut words);
+    assert!(room, "the entry has room for its words");
+    WalkAnswer::from(words)
+}

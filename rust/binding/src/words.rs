@@ -1,0 +1,147 @@
+//! The answers of the proved entries, the words that each is made of, and the sizes that both have.
+
+/// Limits of a table.
+pub const MOST_TASKS: usize = 8;
+pub const MOST_JOBS: usize = 32;
+pub const VARIABLES: usize = 8;
+
+/// The room that number 20 asks for: bytes of an order, bytes of a plan, records of a job list.
+pub const ORDER_ROOM: usize = 512;
+pub const PLAN_ROOM: usize = 1281;
+pub const JOB_LIST_ROOM: usize = 32;
+
+/// How many words the reader's entry fills.
+pub const READ_WORDS: usize = 11;
+
+/// What the reader's entry answers, each field as wide as its word so that none is cut.
+#[derive(Debug, Clone, Copy, PartialEq, Eq, Default)]
+pub struct ReadAnswer {
+    pub number: u64,
+    pub place: u64,
+    /// Of tasks 0 to 7; 0 past the last task.
+    pub responses: [u64; MOST_TASKS],
+    pub jobs: u64,
+}
+
+/// How many words the replay's entry fills.
+pub const REPLAY_WORDS: usize = 43;
+
+/// What the replay's entry answers, each field as wide as its word so that none is cut.
+#[derive(Debug, Clone, Copy, PartialEq, Eq, Default)]
+pub struct RunAnswer {
+    pub number: u64,
+    pub place: u64,
+    pub end_store: [u64; VARIABLES],
+    /// Of jobs 0 to 31: 1 if the job failed, else 0.
+    pub failed_jobs: [u64; MOST_JOBS],
+    /// How many bytes were written to a lent buffer.
+    pub length: u64,
+}
+
+/// How many words the walk's entry fills.
+pub const WALK_WORDS: usize = 45;
+
+/// A walk's verdict; `None` is the zero of a refusal.
+#[derive(Debug, Clone, Copy, PartialEq, Eq, Default)]
+pub enum Verdict {
+    #[default]
+    None,
+    Holds,
+    Fails,
+}
+
+/// What the walk's entry answers, each number as wide as its word so that none is cut.
+#[derive(Debug, Clone, Copy, PartialEq, Eq, Default)]
+pub struct WalkAnswer {
+    pub number: u64,
+    pub place: u64,
+    pub verdict: Verdict,
+    /// The moves made.
+    pub count: u64,
+    /// Of the failing order, in bytes; 0 if none fails.
+    pub length: u64,
+    pub end_store: [u64; VARIABLES],
+    /// Of jobs 0 to 31: 1 if the job failed, else 0.
+    pub failed_jobs: [u64; MOST_JOBS],
+}
+
+impl From<u64> for Verdict {
+    fn from(word: u64) -> Verdict {
+        match word {
+            0 => Verdict::None,
+            1 => Verdict::Holds,
+            2 => Verdict::Fails,
+            _ => panic!("no verdict has the number {word}"),
+        }
+    }
+}
+
+impl From<Verdict> for u64 {
+    fn from(verdict: Verdict) -> u64 {
+        match verdict {
+            Verdict::None => 0,
+            Verdict::Holds => 1,
+            Verdict::Fails => 2,
+        }
+    }
+}
+
+impl From<[u64; WALK_WORDS]> for WalkAnswer {
+    fn from(words: [u64; WALK_WORDS]) -> WalkAnswer {
+        let [run @ .., verdict, count] = words;
+        let RunAnswer { number, place, end_store, failed_jobs, length } = RunAnswer::from(run);
+        let verdict = Verdict::from(verdict);
+        WalkAnswer { number, place, verdict, count, length, end_store, failed_jobs }
+    }
+}
+
+impl From<WalkAnswer> for [u64; WALK_WORDS] {
+    fn from(answer: WalkAnswer) -> [u64; WALK_WORDS] {
+        let WalkAnswer { number, place, verdict, count, length, end_store, failed_jobs } = answer;
+        let run = RunAnswer { number, place, end_store, failed_jobs, length };
+        let mut words = [0; WALK_WORDS];
+        words[..REPLAY_WORDS].copy_from_slice(&<[u64; REPLAY_WORDS]>::from(run));
+        words[REPLAY_WORDS..].copy_from_slice(&[verdict.into(), count]);
+        words
+    }
+}
+
+impl From<[u64; REPLAY_WORDS]> for RunAnswer {
+    fn from(words: [u64; REPLAY_WORDS]) -> RunAnswer {
+        let [number, place, rest @ .., length] = words;
+        RunAnswer {
+            number,
+            place,
+            end_store: std::array::from_fn(|variable| rest[variable]),
+            failed_jobs: std::array::from_fn(|job| rest[8 + job]),
+            length,
+        }
+    }
+}
+
+impl From<RunAnswer> for [u64; REPLAY_WORDS] {
+    fn from(answer: RunAnswer) -> [u64; REPLAY_WORDS] {
+        let RunAnswer { number, place, end_store, failed_jobs, length } = answer;
+        let mut words = [0; REPLAY_WORDS];
+        words[..2].copy_from_slice(&[number, place]);
+        words[2..10].copy_from_slice(&end_store);
+        words[10..42].copy_from_slice(&failed_jobs);
+        words[42] = length;
+        words
+    }
+}
+
+impl From<[u64; READ_WORDS]> for ReadAnswer {
+    fn from(words: [u64; READ_WORDS]) -> ReadAnswer {
+        let [number, place, responses @ .., jobs] = words;
+        ReadAnswer { number, place, responses, jobs }
+    }
+}
+
+impl From<ReadAnswer> for [u64; READ_WORDS] {
+    fn from(answer: ReadAnswer) -> [u64; READ_WORDS] {
+        let ReadAnswer { number, place, responses, jobs } = answer;
+        let [r0, r1, r2, r3, r4, r5, r6, r7] = responses;
+        [number, place, r0, r1, r2, r3, r4, r5, r6, r7, jobs]
+    }
+}
