@@ -1,0 +1,90 @@
+//! The numbers of the header and of the README against those of the binding.
+
+use binding::raw::{Verdict, READ_WORDS, REPLAY_WORDS, WALK_WORDS};
+use binding::{Place, Rule, JOB_LIST_ROOM, MOST_JOBS, MOST_TASKS, ORDER_ROOM, PLAN_ROOM, VARIABLES};
+use std::collections::BTreeMap;
+
+const HEADER: &str = include_str!("../../../include/adqurim.h");
+const README: &str = include_str!("../../../README.md");
+
+type Named = BTreeMap<String, u64>;
+
+fn named<'a>(pairs: impl IntoIterator<Item = (&'a str, u64)>) -> Named {
+    pairs.into_iter().map(|(name, number)| (name.to_string(), number)).collect()
+}
+
+/// The enumerators of an enum of the header: the lines between its braces that hold a `=`.
+fn enumerators(name: &str) -> Named {
+    let begin = format!("enum {name} {{");
+    let (_, rest) = HEADER.split_once(&begin).expect("the header has the enum");
+    let (body, _) = rest.split_once("};").expect("the enum ends");
+    let pair = |line: &str| {
+        let (name, rest) = line.trim().split_once(" = ")?;
+        let digits = rest.split(|c: char| !c.is_ascii_digit()).next()?;
+        Some((name.to_string(), digits.parse().expect("an enumerator has a number")))
+    };
+    body.lines().filter_map(pair).collect()
+}
+
+/// The constants that the header defines as numbers.
+fn constants() -> Named {
+    let pair = |line: &str| {
+        let (name, number) = line.strip_prefix("#define ")?.split_once(' ')?;
+        Some((name.to_string(), number.parse().ok()?))
+    };
+    HEADER.lines().filter_map(pair).collect()
+}
+
+#[test]
+fn every_rule_has_its_number_in_the_header() {
+    let name = |rule: Rule| (format!("ADQURIM_{}", rule.name()), rule.number());
+    let mut rules: Named = Rule::all().map(name).collect();
+    assert_eq!(rules.len(), 22);
+    rules.insert("ADQURIM_ACCEPTED".to_string(), 0);
+    assert_eq!(enumerators("adqurim_number"), rules);
+}
+
+#[test]
+fn every_verdict_has_its_number_in_the_header() {
+    let verdicts = [
+        ("ADQURIM_VERDICT_NONE", Verdict::None.into()),
+        ("ADQURIM_VERDICT_HOLDS", Verdict::Holds.into()),
+        ("ADQURIM_VERDICT_FAILS", Verdict::Fails.into()),
+    ];
+    assert_eq!(enumerators("adqurim_verdict"), named(verdicts));
+}
+
+#[test]
+fn every_constant_is_in_the_header() {
+    let expected = [
+        ("ADQURIM_MOST_TASKS", MOST_TASKS),
+        ("ADQURIM_MOST_JOBS", MOST_JOBS),
+        ("ADQURIM_VARIABLES", VARIABLES),
+        ("ADQURIM_ORDER_ROOM", ORDER_ROOM),
+        ("ADQURIM_PLAN_ROOM", PLAN_ROOM),
+        ("ADQURIM_JOB_LIST_ROOM", JOB_LIST_ROOM),
+        ("ADQURIM_READ_WORDS", READ_WORDS),
+        ("ADQURIM_REPLAY_WORDS", REPLAY_WORDS),
+        ("ADQURIM_WALK_WORDS", WALK_WORDS),
+    ];
+    assert_eq!(constants(), named(expected.map(|(name, size)| (name, size as u64))));
+}
+
+/// The rows of the README's table of numbers: number, name and the noun of the place.
+#[test]
+fn every_rule_has_its_row_in_the_readme() {
+    let row = |line: &str| -> Option<(u64, String, String)> {
+        let cells: Vec<&str> = line.trim_matches('|').split('|').map(str::trim).collect();
+        let number = cells[0].parse().ok()?;
+        Some((number, cells[1].to_string(), cells[3].to_string()))
+    };
+    let rows: Vec<_> = README.lines().filter(|line| line.starts_with('|')).filter_map(row).collect();
+    assert_eq!(rows.len(), Rule::all().count());
+    for (rule, (number, name, place)) in Rule::all().zip(rows) {
+        assert_eq!((number, &name[..]), (rule.number(), rule.name()));
+        let counts = rule.place();
+        let noun = counts.noun().unwrap_or("0");
+        assert!(place.contains(noun), "{name}: the place is {place}, not {counts:?}");
+        assert_eq!(place == "0", counts == Place::Nowhere, "{name}");
+    }
+}
