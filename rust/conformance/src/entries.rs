@@ -1,10 +1,26 @@
-//! Buffers with a pattern, and calls of every entry on one file.
+//! Lent memory with a pattern, and calls of every entry on one file.
 
+use generator::Random;
 use interpreter::*;
+use std::ops::Range;
 
 /// A buffer without zeros, so that each change by a zero fill shows.
 pub fn pattern(length: usize) -> Vec<u8> {
     (0..length).map(|at| (at % 251 + 1) as u8).collect()
+}
+
+/// Words that no answer holds.
+pub fn word_pattern(length: usize) -> Vec<u64> {
+    (0..length as u64).map(|at| u64::MAX - 3 * at).collect()
+}
+
+/// A file amid other bytes, and where it is.
+pub fn amid(random: &mut Random, file: &[u8]) -> (Vec<u8>, Range<usize>) {
+    let (before, after) = (random.index(40), random.index(40));
+    let mut bytes: Vec<u8> = (0..before + file.len() + after).map(|_| random.byte()).collect();
+    let place = before..before + file.len();
+    bytes[place.clone()].copy_from_slice(file);
+    (bytes, place)
 }
 
 /// A job list with contents that no job has.

@@ -3,6 +3,7 @@
 
 use binding::raw::{read, read_words, ReadAnswer, READ_WORDS};
 use conformance::cases::{edited, rates, table_x, tasks};
+use conformance::entries::{amid, word_pattern};
 use conformance::proved::expected_read;
 use generator::files::{damaged, random_bytes, random_records};
 use generator::hostile::{hostile_files, nearly_full, tasks_of, WIDEST};
@@ -275,17 +276,10 @@ fn longest_climbs() {
     }
 }
 
-/// Words that no answer holds.
-fn word_pattern(length: usize) -> Vec<u64> {
-    (0..length as u64).map(|at| u64::MAX - 3 * at).collect()
-}
-
 /// Lends some words of a larger list, and a file amid other bytes. Only the eleven words change,
 /// and none without room.
 fn compare_lent(random: &mut Random, file: &[u8], length: usize) {
-    let (before, after) = (random.index(40), random.index(40));
-    let mut bytes: Vec<u8> = (0..before + file.len() + after).map(|_| random.byte()).collect();
-    bytes[before..before + file.len()].copy_from_slice(file);
+    let (bytes, place) = amid(random, file);
     let mut words = word_pattern(length + 16);
     let mut expected = words.clone();
     let room = length >= READ_WORDS;
@@ -294,9 +288,9 @@ fn compare_lent(random: &mut Random, file: &[u8], length: usize) {
         expected[8..8 + READ_WORDS].copy_from_slice(&answer);
     }
     let lent = &mut words[8..8 + length];
-    assert_eq!(read_words(&bytes[before..before + file.len()], lent), room);
+    assert_eq!(read_words(&bytes[place.clone()], lent), room);
     assert_eq!(words, expected, "{length} words: {file:02x?}");
-    assert_eq!(bytes[before..before + file.len()], *file);
+    assert_eq!(bytes[place], *file);
 }
 
 #[test]

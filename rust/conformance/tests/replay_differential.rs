@@ -2,21 +2,15 @@
 //! answer on many files and orders, and the lent words.
 
 use binding::raw::{replay, replay_words, RunAnswer, REPLAY_WORDS};
-use conformance::cases::{edited, full_table, rates, table_x, tasks, ORDER_OF_X};
-use conformance::orders::random_order;
+use conformance::cases::{edited, rates, table_x, tasks, ORDER_OF_X};
+use conformance::entries::word_pattern;
+use conformance::families::{any, free_position, largest, long, small, Family};
+use conformance::orders::{random_order, random_steps, variants};
 use conformance::proved::expected_replay;
 use generator::files::{damaged, random_bytes, random_records};
 use generator::{code, random_nest, random_race, random_table, Random, Sizes, TableDescription};
 use interpreter::timing::accept;
 use std::time::Instant;
-
-/// A family of tables: its seed, how many there are, and how one is made.
-struct Family {
-    name: &'static str,
-    seed: u64,
-    tables: usize,
-    make: fn(&mut Random) -> TableDescription,
-}
 
 /// The seeds differ, so that no family repeats the tables of another.
 const FAMILIES: [Family; 7] = [
@@ -26,20 +20,8 @@ const FAMILIES: [Family; 7] = [
     Family { name: "nests", seed: 303, tables: 2_000, make: random_nest },
     Family { name: "tables of any size", seed: 304, tables: 3_000, make: any },
     Family { name: "many jobs", seed: 305, tables: 3_000, make: crowded },
-    Family { name: "the largest table", seed: 306, tables: 100, make: largest },
+    Family { name: "the largest table", seed: 306, tables: 100, make: largest_with_assertions },
 ];
-
-fn small(random: &mut Random) -> TableDescription {
-    random_table(random, &Sizes::SMALL)
-}
-
-fn long(random: &mut Random) -> TableDescription {
-    random_table(random, &Sizes::LONG)
-}
-
-fn any(random: &mut Random) -> TableDescription {
-    random_table(random, &Sizes::ANY)
-}
 
 /// Several tasks with many jobs in the window, and locks.
 fn crowded(random: &mut Random) -> TableDescription {
@@ -47,12 +29,11 @@ fn crowded(random: &mut Random) -> TableDescription {
     random_table(random, &sizes)
 }
 
-/// The largest table with another initial store and with assertions that fail or hold.
-fn largest(random: &mut Random) -> TableDescription {
-    let mut table = full_table();
-    table.initial_store = std::array::from_fn(|_| random.byte());
+/// The largest table with assertions that fail or hold.
+fn largest_with_assertions(random: &mut Random) -> TableDescription {
+    let mut table = largest(random);
     for task in &mut table.tasks {
-        let place = 1 + 3 * random.index(5);
+        let place = free_position(random);
         let store = code::store(random.index(8) as u8, 0);
         let others = [code::assert(0), code::pick(0, 3), code::load(0, 1), store];
         task.body[place] = others[random.index(4)];
@@ -92,38 +73,6 @@ impl Tally {
         }
         expected
     }
-}
-
-/// An order byte of one of the tasks, or any byte.
-fn random_byte(random: &mut Random, tasks: usize) -> u8 {
-    let value = if random.chance(2, 3) { 0 } else { random.between(0, 15) as u8 };
-    if random.chance(1, 8) { random.byte() } else { 16 * random.index(tasks) as u8 + value }
-}
-
-fn random_steps(random: &mut Random, tasks: usize, most: u64) -> Vec<u8> {
-    (0..random.between(0, most)).map(|_| random_byte(random, tasks)).collect()
-}
-
-/// The order cut short, extended, with a byte changed, with a byte removed, and random bytes, of
-/// which some begin as the order does.
-fn variants(random: &mut Random, order: &[u8], tasks: usize) -> Vec<Vec<u8>> {
-    let mut changed = order.to_vec();
-    let mut shorter = order.to_vec();
-    if !order.is_empty() {
-        let byte = random_byte(random, tasks);
-        changed[random.index(order.len())] = byte;
-        shorter.remove(random.index(order.len()));
-    }
-    let extra = [&[random_byte(random, tasks)], &random_steps(random, tasks, 3)[..]].concat();
-    let begin = &order[..random.index(order.len() + 1)];
-    vec![
-        order[..random.index(order.len().max(1))].to_vec(),
-        [order, &extra].concat(),
-        changed,
-        shorter,
-        random_steps(random, tasks, 20),
-        [begin, &random_steps(random, tasks, 5)].concat(),
-    ]
 }
 
 /// Compares two complete orders of each table of a family, and their variants. A table that is
@@ -216,11 +165,6 @@ fn every_field_of_the_answer() {
     assert!([0, 30, 31, 32].iter().all(|number| tally.counts[*number] >= 1_000));
     assert!((1..=11).all(|number| tally.counts[number] >= 10));
     assert!(tally.failing >= 1_000 && tally.failing_late >= 1_000 && tally.longest == 512);
-}
-
-/// Words that no answer holds.
-fn word_pattern(length: usize) -> Vec<u64> {
-    (0..length as u64).map(|at| u64::MAX - 3 * at).collect()
 }
 
 /// Lends some words of a larger list, and a file and an order amid other bytes. Only the 43 words

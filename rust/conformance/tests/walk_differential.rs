@@ -2,8 +2,9 @@
 //! answer and every byte of the order buffer on many tables and allowances, and the lent words.
 
 use binding::raw::{walk, walk_words, Verdict, WalkAnswer, WALK_WORDS};
-use conformance::cases::{edited, full_table, rates, table_x, tasks, ORDER_OF_X};
-use conformance::entries::{filled, pattern};
+use conformance::cases::{table_x, tasks, ORDER_OF_X};
+use conformance::entries::{amid, filled, pattern, word_pattern};
+use conformance::families::{any, free_position, largest, long, refused_files, small, Family};
 use conformance::proved::expected_walk;
 use generator::files::{damaged, random_bytes, random_records};
 use generator::{code, random_nest, random_race, random_table, Random, Sizes, TableDescription};
@@ -16,15 +17,8 @@ const LENGTHS: [usize; 4] = [4096, 513, 512, 511];
 /// An allowance that suffices for most tables. A larger tree stays undecided.
 const LARGE: u64 = 30_000;
 
-/// A family of tables: its seed, how many accepted ones there are, and how one is made.
-struct Family {
-    name: &'static str,
-    seed: u64,
-    tables: u64,
-    make: fn(&mut Random) -> TableDescription,
-}
-
-/// The seeds differ, so that no family repeats the tables of another.
+/// The seeds differ, so that no family repeats the tables of another. Of the tables only those that
+/// are accepted count.
 const FAMILIES: [Family; 10] = [
     Family { name: "small tables", seed: 400, tables: 900, make: small },
     Family { name: "long bodies", seed: 401, tables: 900, make: long },
@@ -35,16 +29,8 @@ const FAMILIES: [Family; 10] = [
     Family { name: "rich tables", seed: 406, tables: 700, make: rich },
     Family { name: "many jobs", seed: 407, tables: 200, make: crowded },
     Family { name: "tables of any size", seed: 408, tables: 200, make: any },
-    Family { name: "the largest table", seed: 409, tables: 20, make: largest },
+    Family { name: "the largest table", seed: 409, tables: 20, make: largest_that_fails },
 ];
-
-fn small(random: &mut Random) -> TableDescription {
-    random_table(random, &Sizes::SMALL)
-}
-
-fn long(random: &mut Random) -> TableDescription {
-    random_table(random, &Sizes::LONG)
-}
 
 /// Several tasks with locks, Picks and assertions, and a few jobs each.
 fn rich(random: &mut Random) -> TableDescription {
@@ -64,10 +50,6 @@ fn rich(random: &mut Random) -> TableDescription {
 fn crowded(random: &mut Random) -> TableDescription {
     let sizes = Sizes { tasks: (2, 8), jobs: (8, 32), most_pick: 1, ..Sizes::ANY };
     random_table(random, &sizes)
-}
-
-fn any(random: &mut Random) -> TableDescription {
-    random_table(random, &Sizes::ANY)
 }
 
 /// Gives each task one job that may preempt those of all lower tasks.
@@ -98,11 +80,11 @@ fn nested_race(random: &mut Random) -> TableDescription {
 }
 
 /// The largest table with an assertion that fails, so that its first order of 512 steps does.
-fn largest(random: &mut Random) -> TableDescription {
-    let mut table = full_table();
-    table.initial_store = std::array::from_fn(|_| random.byte());
+fn largest_that_fails(random: &mut Random) -> TableDescription {
+    let mut table = largest(random);
     let task = random.index(8);
-    table.tasks[task].body[1 + 3 * random.index(5)] = code::assert(random.index(4) as u8);
+    let assertion = code::assert(random.index(4) as u8);
+    table.tasks[task].body[free_position(random)] = assertion;
     table
 }
 
@@ -204,29 +186,11 @@ impl Tally {
 /// Compares the tables of a family, their records shuffled, until enough were accepted.
 fn compare_family(tally: &mut Tally, family: &Family) {
     let mut random = Random::new(family.seed);
-    let enough = tally.tables() + family.tables;
+    let enough = tally.tables() + family.tables as u64;
     while tally.tables() < enough {
         let table = (family.make)(&mut random);
         tally.compare_file(family.name, &table.write_shuffled(&mut random).0);
     }
-}
-
-/// A file for each of the numbers 1 to 11, in their order.
-fn refused_files() -> Vec<Vec<u8>> {
-    let x = table_x().write();
-    vec![
-        x[..x.len() - 1].to_vec(),
-        edited(&x, &[(0, 2)]),
-        edited(&x, &[(16 + 1, 99)]),
-        edited(&x, &[(16 + 3, 1)]),
-        edited(&x, &[(2, 0)]),
-        [&x[..], &[0; 16]].concat(),
-        edited(&x, &[(6 * 16 + 2, 3)]),
-        edited(&x, &[(7 * 16 + 8, 9)]),
-        edited(&x, &[(2 * 16 + 2, 9)]),
-        rates(&[(3, 8), (3, 4)]).write(),
-        tasks(33, &[[1, 1, 0]], &[code::end()]).write(),
-    ]
 }
 
 /// A file that is mostly refused: a damaged table, or no table at all.
@@ -290,18 +254,11 @@ fn p12_and_p13() {
     assert_eq!(buffer, filled(600, 512, &[]));
 }
 
-/// Words that no answer holds.
-fn word_pattern(length: usize) -> Vec<u64> {
-    (0..length as u64).map(|at| u64::MAX - 3 * at).collect()
-}
-
 /// Lends some words of a larger list, some bytes of a larger buffer, and a file amid other bytes.
 /// Only the 45 words and the first 512 bytes change, and none without room for the words.
 fn compare_lent(random: &mut Random, file: &[u8], allowance: u64, (bytes, words): (usize, usize)) {
-    let (before, after) = (random.index(40), random.index(40));
-    let mut amid: Vec<u8> = (0..before + file.len() + after).map(|_| random.byte()).collect();
-    amid[before..before + file.len()].copy_from_slice(file);
-    let unchanged = amid.clone();
+    let (around, place) = amid(random, file);
+    let unchanged = around.clone();
     let (mut buffer, mut answer) = (pattern(bytes + 16), word_pattern(words + 16));
     let (mut expected_buffer, mut expected) = (buffer.clone(), answer.clone());
     let room = words >= WALK_WORDS;
@@ -310,12 +267,11 @@ fn compare_lent(random: &mut Random, file: &[u8], allowance: u64, (bytes, words)
         let filled: [u64; WALK_WORDS] = expected_walk(file, allowance, lent).into();
         expected[8..8 + WALK_WORDS].copy_from_slice(&filled);
     }
-    let lent_file = &amid[before..before + file.len()];
     let lent = (&mut buffer[8..8 + bytes], &mut answer[8..8 + words]);
-    assert_eq!(walk_words(lent_file, allowance, lent.0, lent.1), room);
+    assert_eq!(walk_words(&around[place], allowance, lent.0, lent.1), room);
     assert_eq!(answer, expected, "{bytes} bytes, {words} words: {file:02x?}");
     assert_eq!(buffer, expected_buffer, "{bytes} bytes, {words} words: {file:02x?}");
-    assert_eq!(amid, unchanged);
+    assert_eq!(around, unchanged);
 }
 
 #[test]
