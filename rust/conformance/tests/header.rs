@@ -1,7 +1,9 @@
 //! The numbers of the header and of the README against those of the binding.
 
 use binding::raw::{Verdict, READ_WORDS, REPLAY_WORDS, WALK_WORDS};
-use binding::{Place, Rule, JOB_LIST_ROOM, MOST_JOBS, MOST_TASKS, ORDER_ROOM, PLAN_ROOM, VARIABLES};
+use binding::{
+    Place, Rule, JOB_LIST_ROOM, MOST_JOBS, MOST_TASKS, ORDER_ROOM, PLAN_ROOM, VARIABLES,
+};
 use std::collections::BTreeMap;
 
 const HEADER: &str = include_str!("../../../include/adqurim.h");
@@ -78,7 +80,8 @@ fn every_rule_has_its_row_in_the_readme() {
         let number = cells[0].parse().ok()?;
         Some((number, cells[1].to_string(), cells[3].to_string()))
     };
-    let rows: Vec<_> = README.lines().filter(|line| line.starts_with('|')).filter_map(row).collect();
+    let rows: Vec<_> =
+        README.lines().filter(|line| line.starts_with('|')).filter_map(row).collect();
     assert_eq!(rows.len(), Rule::all().count());
     for (rule, (number, name, place)) in Rule::all().zip(rows) {
         assert_eq!((number, &name[..]), (rule.number(), rule.name()));

@@ -46,7 +46,7 @@ struct Reader<'a> {
 impl<'a> Reader<'a> {
     /// Number 1: "length 0, above 4,096 or no multiple of 16; place 0."
     fn open(file: &'a [u8]) -> Result<Reader<'a>, Refusal> {
-        if file.is_empty() || file.len() > 256 * RECORD || file.len() % RECORD != 0 {
+        if file.is_empty() || file.len() > 256 * RECORD || !file.len().is_multiple_of(RECORD) {
             return refuse(1, 0);
         }
         Ok(Reader { file, reached: vec![false; file.len() / RECORD] })

@@ -1,0 +1,151 @@
+//! The values that the binding gives, against the interpreter: an accepted answer in its own types,
+//! a refusal by its number and place.
+
+use binding::{read, replay, walk, Ending, JobNumber, Refusal, Timing, Verdict};
+use conformance::cases::{table_x, tasks, ORDER_OF_X};
+use conformance::families::{any, long, refused_files, small, Family};
+use conformance::orders::{random_order, random_steps, variants};
+use generator::{code, random_nest, random_race, Random};
+use interpreter::timing::accept;
+
+/// The seeds differ, so that no family repeats the tables of another.
+const FAMILIES: [Family; 5] = [
+    Family { name: "small tables", seed: 500, tables: 200, make: small },
+    Family { name: "long bodies", seed: 501, tables: 200, make: long },
+    Family { name: "races", seed: 502, tables: 200, make: random_race },
+    Family { name: "nests", seed: 503, tables: 200, make: random_nest },
+    Family { name: "tables of any size", seed: 504, tables: 200, make: any },
+];
+
+const ALLOWANCE: u64 = 10_000;
+
+fn refusal(number: u8, place: usize) -> Refusal {
+    Refusal { number: number.into(), place: place as u64 }
+}
+
+/// The jobs of a set in which bit j is job j.
+fn jobs(set: u32) -> Vec<JobNumber> {
+    (0..32).filter(|job| set >> job & 1 == 1).map(JobNumber).collect()
+}
+
+/// What the reader must give; the number of tasks is the table's own.
+fn expected_read(file: &[u8]) -> Result<Timing, Refusal> {
+    let accepted = accept(file).map_err(|refused| refusal(refused.number, refused.place))?;
+    assert_eq!(accepted.response_times.len(), accepted.table.tasks.len());
+    Ok(Timing { response_times: accepted.response_times, jobs: accepted.jobs.len() })
+}
+
+fn expected_replay(file: &[u8], order: &[u8]) -> Result<Ending, Refusal> {
+    let answer = interpreter::replay(file, order);
+    match answer.number {
+        0 => Ok(Ending { end_store: answer.end_store, failed_jobs: jobs(answer.failed_jobs) }),
+        number => Err(refusal(number, answer.place)),
+    }
+}
+
+fn expected_walk(file: &[u8], allowance: u64) -> Result<Verdict, Refusal> {
+    let mut buffer = [0; 512];
+    let answer = interpreter::walk(file, allowance, &mut buffer);
+    let count = answer.count;
+    match answer.verdict {
+        interpreter::Verdict::None => Err(refusal(answer.number, answer.place)),
+        interpreter::Verdict::Holds => Ok(Verdict::Holds { count }),
+        interpreter::Verdict::Fails => {
+            let order = buffer[..answer.length].to_vec();
+            let failed_jobs = jobs(answer.failed_jobs);
+            let ending = Ending { end_store: answer.end_store, failed_jobs };
+            Ok(Verdict::Fails { count, order, ending })
+        }
+    }
+}
+
+/// How often each came up.
+#[derive(Debug, Default)]
+struct Tally {
+    read: u64,
+    replayed: u64,
+    holds: u64,
+    fails: u64,
+    refused: u64,
+}
+
+impl Tally {
+    fn compare(&mut self, file: &[u8], orders: &[Vec<u8>]) {
+        let timing = read(file);
+        assert_eq!(timing, expected_read(file), "{file:02x?}");
+        self.read += u64::from(timing.is_ok());
+        for order in orders {
+            let ending = replay(file, order);
+            assert_eq!(ending, expected_replay(file, order), "{file:02x?} {order:?}");
+            self.replayed += u64::from(ending.is_ok());
+            self.refused += u64::from(ending.is_err());
+        }
+        for allowance in [5, ALLOWANCE] {
+            let verdict = walk(file, allowance);
+            assert_eq!(verdict, expected_walk(file, allowance), "{file:02x?}");
+            match verdict {
+                Ok(Verdict::Holds { .. }) => self.holds += 1,
+                Ok(Verdict::Fails { .. }) => self.fails += 1,
+                Err(_) => self.refused += 1,
+            }
+        }
+    }
+}
+
+/// Some orders of a file: a complete one and its variants if it is accepted, random bytes if not.
+fn some_orders(random: &mut Random, file: &[u8]) -> Vec<Vec<u8>> {
+    match accept(file) {
+        Err(_) => vec![random_steps(random, 3, 20)],
+        Ok(accepted) => {
+            let order = random_order(random, &accepted);
+            let mut orders = variants(random, &order, accepted.table.tasks.len());
+            orders.push(order);
+            orders
+        }
+    }
+}
+
+#[test]
+fn values_are_the_interpreters() {
+    let mut tally = Tally::default();
+    for file in refused_files() {
+        tally.compare(&file, &[vec![0]]);
+    }
+    for family in FAMILIES {
+        let mut random = Random::new(family.seed);
+        for _ in 0..family.tables {
+            let table = (family.make)(&mut random);
+            let file = table.write_shuffled(&mut random).0;
+            let orders = some_orders(&mut random, &file);
+            tally.compare(&file, &orders);
+        }
+        println!("{}: {tally:?}", family.name);
+    }
+    assert!(tally.read >= 500 && tally.replayed >= 500 && tally.refused >= 500);
+    assert!(tally.holds >= 200 && tally.fails >= 200);
+}
+
+/// Table X with the values of document 01.
+#[test]
+fn table_x_in_values() {
+    let file = table_x().write();
+    assert_eq!(read(&file), Ok(Timing { response_times: vec![3, 1], jobs: 2 }));
+    let ending = Ending { end_store: [1, 0, 0, 0, 0, 0, 0, 0], failed_jobs: vec![JobNumber(0)] };
+    assert_eq!(replay(&file, &ORDER_OF_X), Ok(ending.clone()));
+    assert_eq!(replay(&file, &[0, 16, 16, 0]), Err(Refusal { number: 30, place: 3 }));
+    let fails = Verdict::Fails { count: 23, order: ORDER_OF_X.to_vec(), ending };
+    assert_eq!(walk(&file, 23), Ok(fails));
+    assert_eq!(walk(&file, 22), Err(Refusal { number: 21, place: 0 }));
+}
+
+/// A table of eight tasks has eight response times, one without jobs an empty order.
+#[test]
+fn most_tasks_and_no_jobs() {
+    let eight = tasks(1, &[[1, 100, 0]; 8], &[code::end()]).write();
+    let response_times = (1..=8).rev().collect();
+    assert_eq!(read(&eight), Ok(Timing { response_times, jobs: 8 }));
+    let none = tasks(5, &[[1, 4, 5]], &[code::end()]).write();
+    assert_eq!(read(&none), Ok(Timing { response_times: vec![1], jobs: 0 }));
+    assert_eq!(replay(&none, &[]), Ok(Ending { end_store: [0; 8], failed_jobs: vec![] }));
+    assert_eq!(walk(&none, 0), Ok(Verdict::Holds { count: 0 }));
+}

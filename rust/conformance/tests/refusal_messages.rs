@@ -1,0 +1,161 @@
+//! What a refusal says: its rule by document 01's number and name, and its place in words.
+
+use binding::{Place, Refusal, Rule};
+use conformance::cases::{edited, plan, plan_of_x, table_x, ORDER_OF_X};
+use conformance::entries::pattern;
+use conformance::families::refused_files;
+use generator::{code, TableDescription, TaskDescription};
+use std::collections::BTreeSet;
+
+/// The numbers and names of document 01.
+const NAMES: [(u64, &str); 22] = [
+    (1, "SIZE"),
+    (2, "KIND"),
+    (3, "CHAIN"),
+    (4, "FIELD"),
+    (5, "COUNT"),
+    (6, "STRAY"),
+    (7, "BODY"),
+    (8, "RATE"),
+    (9, "CEILING"),
+    (10, "OVERLOAD"),
+    (11, "JOBS"),
+    (20, "ROOM"),
+    (21, "UNDECIDED"),
+    (30, "STEP"),
+    (31, "SHORT"),
+    (32, "EXTRA"),
+    (40, "SHAPE"),
+    (41, "VALUE"),
+    (42, "ROUND"),
+    (43, "ORDER"),
+    (44, "LOCK"),
+    (45, "GUESS"),
+];
+
+/// What the place is, by document 01: the number says whose.
+fn place_by_document(number: u64) -> Place {
+    match number {
+        1 | 11 | 20 | 21 => Place::Nowhere,
+        2..=10 => Place::Record,
+        30..=32 => Place::Step,
+        40..=42 => Place::Offset,
+        43 | 44 => Place::Job,
+        _ => Place::Round,
+    }
+}
+
+#[test]
+fn rules_are_those_of_document_01() {
+    let rules: Vec<(u64, &str)> = Rule::all().map(|rule| (rule.number(), rule.name())).collect();
+    assert_eq!(rules, NAMES);
+    for number in (0..=1_000).chain([u64::MAX]) {
+        let name = NAMES.iter().find(|named| named.0 == number).map(|named| named.1);
+        assert_eq!(Rule::from_number(number).map(Rule::name), name, "{number}");
+    }
+    for rule in Rule::all() {
+        assert_eq!(Rule::from_number(rule.number()), Some(rule));
+        assert_eq!(rule.place(), place_by_document(rule.number()), "{rule:?}");
+    }
+}
+
+/// Asserts that a message begins with its place, if it has one, and ends with its rule.
+fn assert_says(refusal: Refusal) {
+    let (message, place) = (refusal.to_string(), refusal.place);
+    let rule = refusal.rule().expect("a number of document 01");
+    let end = format!(" ({} {})", rule.number(), rule.name());
+    assert!(message.ends_with(&end), "{message}");
+    match rule.place().noun() {
+        Some(noun) => assert!(message.starts_with(&format!("{noun} {place} ")), "{message}"),
+        None => assert!(message.starts_with("the "), "{message}"),
+    }
+    assert!(message.len() > end.len() + 20, "no rule is said: {message}");
+}
+
+#[test]
+fn each_message_says_its_place_and_rule() {
+    let mut sentences = BTreeSet::new();
+    for (number, _) in NAMES {
+        for place in [0, 7, 255, 1_281] {
+            assert_says(Refusal { number, place });
+        }
+        let message = Refusal { number, place: 0 }.to_string();
+        let (sentence, _) = message.split_once(" (").expect("the rule follows");
+        assert!(sentences.insert(sentence.to_string()), "said twice: {sentence}");
+    }
+}
+
+#[test]
+fn some_messages_whole() {
+    let expected = [
+        (1, 0, "the file's length is 0, above 4,096 or no multiple of 16 (1 SIZE)"),
+        (2, 7, "record 7 has the wrong kind for its chain (2 KIND)"),
+        (11, 0, "the table has more than 32 jobs (11 JOBS)"),
+        (21, 0, "the walk's count exceeds the allowance (21 UNDECIDED)"),
+        (30, 3, "step 3 is not a legal step (30 STEP)"),
+        (31, 8, "step 8 is missing: the order ends with jobs unfinished (31 SHORT)"),
+        (40, 33, "offset 33 of the plan has the first wrong, missing or extra byte (40 SHAPE)"),
+        (45, 1, "round 1 is the lowest with a wrong guess (45 GUESS)"),
+        (12, 4, "refused by the unknown number 12 at place 4"),
+        (u64::MAX, 0, "refused by the unknown number 18446744073709551615 at place 0"),
+    ];
+    for (number, place, message) in expected {
+        let refusal: Box<dyn std::error::Error> = Box::new(Refusal { number, place });
+        assert_eq!(refusal.to_string(), message);
+    }
+}
+
+/// A table in which job 1 would nest in job 0 under a lock that keeps it back, and such a plan.
+fn locked() -> (Vec<u8>, Vec<u8>) {
+    let lower = TaskDescription::new([2, 8, 0], &[code::acquire(0), code::end()]);
+    let upper = TaskDescription::new([1, 4, 1], &[code::end()]);
+    let mut table = TableDescription::new(4, vec![lower, upper]);
+    table.ceilings = vec![1];
+    (table.write(), plan(&[[0; 8]; 2], &[&[0, 1], &[0]]))
+}
+
+/// Numbers and places that the interpreter gives to files, walks and orders.
+fn given_before_plans() -> Vec<(u8, usize)> {
+    let x = table_x().write();
+    let read = |file: &Vec<u8>| {
+        let answer = interpreter::read(file);
+        (answer.number, answer.place)
+    };
+    let mut given: Vec<(u8, usize)> = refused_files().iter().map(read).collect();
+    for (allowance, room) in [(23, 511), (22, 512)] {
+        let answer = interpreter::walk(&x, allowance, &mut pattern(room));
+        given.push((answer.number, answer.place));
+    }
+    let longer = [&ORDER_OF_X[..], &[0]].concat();
+    for order in [&[0, 16, 16, 0][..], &ORDER_OF_X[..5], &longer] {
+        let answer = interpreter::replay(&x, order);
+        given.push((answer.number, answer.place));
+    }
+    given
+}
+
+/// Numbers and places that the interpreter gives to plans: changes of P10, then P11, then a lock.
+fn given_to_plans() -> Vec<(u8, usize)> {
+    let x = table_x().write();
+    let edits = [(0, 3), (18, 1), (17, 2), (8, 1)];
+    let mut cases: Vec<(Vec<u8>, Vec<u8>)> =
+        edits.map(|edit| (x.clone(), edited(&plan_of_x(), &[edit]))).into();
+    cases.push((x, edited(&plan_of_x(), &[(27, 1), (29, 1), (31, 1)])));
+    cases.push(locked());
+    let check = |(file, plan): &(Vec<u8>, Vec<u8>)| {
+        let answer = interpreter::check_plan(file, plan);
+        (answer.number, answer.place)
+    };
+    cases.iter().map(check).collect()
+}
+
+#[test]
+fn every_number_that_the_interpreter_gives_has_a_message() {
+    let mut numbers = BTreeSet::new();
+    for (number, place) in given_before_plans().into_iter().chain(given_to_plans()) {
+        let (number, place) = (number.into(), place as u64);
+        assert_says(Refusal { number, place });
+        numbers.insert(number);
+    }
+    assert_eq!(numbers, NAMES.iter().map(|named| named.0).collect());
+}
