@@ -1,7 +1,7 @@
-//! Safe calls of the proved entries through their C interface, which `include/adqurim.h` describes.
+//! Safe calls of the proved entries through the C interface of `include/adqurim.h`.
 //!
-//! [`read`], [`replay`] and [`walk`] give a value or a [`Refusal`], which prints as a sentence. The
-//! module [`raw`] has the same entries with their numbers, places and lent memory.
+//! [`read`], [`replay`] and [`walk`] give a value or a [`Refusal`], which prints as a sentence.
+//! The module [`raw`] has the same entries with their numbers, places and lent memory.
 //!
 //! ```
 //! let refusal = binding::read(&[1; 7]).unwrap_err();

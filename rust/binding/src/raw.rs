@@ -35,7 +35,7 @@ mod c {
     }
 }
 
-/// Reads a task file into lent words. False, and no word changed, if there is no room for 11 words.
+/// Reads a task file into lent words. False, and no word changed, if there is no room for 11.
 pub fn read_words(file: &[u8], answer: &mut [u64]) -> bool {
     // SAFETY: each pointer and length are those of one slice, never null, and a shared and an
     // exclusive slice do not overlap. The entry writes only the answer and keeps no pointer.
@@ -50,9 +50,10 @@ pub fn read(file: &[u8]) -> ReadAnswer {
     ReadAnswer::from(words)
 }
 
-/// Replays an order into lent words. False, and no word changed, if there is no room for 43 words.
+/// Replays an order into lent words. False, and no word changed, if there is no room for 43.
 pub fn replay_words(file: &[u8], order: &[u8], answer: &mut [u64]) -> bool {
-    // SAFETY: as for the reader. The two shared slices may overlap, since the entry only reads them.
+    // SAFETY: as for the reader. The two shared slices may overlap, since the entry only reads
+    // them.
     unsafe {
         c::adqurim_replay(
             file.as_ptr(),
@@ -73,8 +74,8 @@ pub fn replay(file: &[u8], order: &[u8]) -> RunAnswer {
     RunAnswer::from(words)
 }
 
-/// Walks all orders into lent words and a lent order buffer. False, and neither changed, if there is
-/// no room for 45 words.
+/// Walks all orders into lent words and a lent order buffer. False, and neither changed, if there
+/// is no room for 45 words.
 pub fn walk_words(file: &[u8], allowance: u64, order: &mut [u8], answer: &mut [u64]) -> bool {
     // SAFETY: as for the reader. The entry writes only the order and the answer, two exclusive
     // slices, which overlap neither each other nor the file.
@@ -91,8 +92,8 @@ pub fn walk_words(file: &[u8], allowance: u64, order: &mut [u8], answer: &mut [u
     }
 }
 
-/// Walks all orders. The buffer takes the failing order; it is zeroed up to 512 if the walk holds or
-/// is undecided.
+/// Walks all orders. The buffer takes the failing order; it is zeroed up to 512 if the walk holds
+/// or is undecided.
 pub fn walk(file: &[u8], allowance: u64, order: &mut [u8]) -> WalkAnswer {
     let mut words = [0; WALK_WORDS];
     let room = walk_words(file, allowance, order, &mut words);

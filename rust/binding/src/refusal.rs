@@ -56,7 +56,7 @@ pub enum Rule {
     Guess = 45,
 }
 
-/// What is said of a rule: its name, what its place counts, and the sentence that follows the place.
+/// What is said of a rule: its name, what its place counts, and the words that follow the place.
 type Entry = (Rule, &'static str, Place, &'static str);
 
 /// Every rule, ascending.

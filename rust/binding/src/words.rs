@@ -1,4 +1,4 @@
-//! The answers of the proved entries, the words that each is made of, and the sizes that both have.
+//! The answers of the proved entries, the words that each is made of, and the sizes of both.
 
 /// Limits of a table.
 pub const MOST_TASKS: usize = 8;

@@ -1,5 +1,5 @@
-//! The values that the binding gives, against the interpreter: an accepted answer in its own types,
-//! a refusal by its number and place.
+//! The values that the binding gives, against the interpreter: an accepted answer in types of its
+//! own, a refusal by its number and place.
 
 use binding::{read, replay, walk, Ending, JobNumber, Refusal, Timing, Verdict};
 use conformance::cases::{table_x, tasks, ORDER_OF_X};

@@ -46,7 +46,7 @@ fn run(program: &Program, name: &str, more: &[&str]) -> Output {
     Command::new(built).output().expect("the program starts")
 }
 
-/// Runs a program as it is, then with a count that document 01 does not give, which it must notice.
+/// Runs a program as it is, then with a count that is not document 01's, which it must notice.
 fn check(program: &Program, name: &str) {
     let output = run(program, name, &[]);
     assert_eq!(output.status.code(), Some(0), "{}", written(&output));

@@ -262,7 +262,8 @@ fn long_climbs() {
     }
 }
 
-/// The files that the other tests leave out: hundreds of millions of steps each from a rounded share, few from an exact one.
+/// The files that the other tests leave out: hundreds of millions of steps each from a rounded
+/// share, few from an exact one.
 #[test]
 fn longest_climbs() {
     let mut files = hostile_files(&mut Random::new(113));

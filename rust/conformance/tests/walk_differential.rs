@@ -10,15 +10,15 @@ use generator::files::{damaged, random_bytes, random_records};
 use generator::{code, random_nest, random_race, random_table, Random, Sizes, TableDescription};
 use std::time::Instant;
 
-/// The lengths of the order buffers, the longest first: some with bytes beyond the 512, and one too
-/// short.
+/// The lengths of the order buffers, the longest first: some with bytes beyond the 512, and one
+/// too short.
 const LENGTHS: [usize; 4] = [4096, 513, 512, 511];
 
 /// An allowance that suffices for most tables. A larger tree stays undecided.
 const LARGE: u64 = 30_000;
 
-/// The seeds differ, so that no family repeats the tables of another. Of the tables only those that
-/// are accepted count.
+/// The seeds differ, so that no family repeats the tables of another. Only tables that are accepted
+/// count.
 const FAMILIES: [Family; 10] = [
     Family { name: "small tables", seed: 400, tables: 900, make: small },
     Family { name: "long bodies", seed: 401, tables: 900, make: long },

@@ -1,4 +1,4 @@
-/* Table X of document 01, by hand: 11 records in walk order, and the order that its sheet gives. */
+/* Table X of document 01, by hand: 11 records in walk order, and the order of its sheet. */
 #ifndef TABLE_X_H
 #define TABLE_X_H
 
