@@ -8,6 +8,7 @@ pub mod LinkedLaws
 pub mod LoadLaws
 pub mod LoadedLaws
 pub mod MarksLaws
+pub mod NumberLaws
 pub mod RecordLaws
 pub mod TableLaws
 pub mod TimesLaws

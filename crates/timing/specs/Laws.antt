@@ -10,6 +10,7 @@ pub mod JobListLaws
 pub mod JobNumberLaws
 pub mod LentTimesLaws
 pub mod RelationLaws
+pub mod ResponseDemandLaws
 pub mod ResponseLaws
 pub mod ShareLaws
 pub mod TableResponseLaws

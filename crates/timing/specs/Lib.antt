@@ -5,3 +5,4 @@ pub mod Laws
 pub mod ReadEntries
 pub mod Relations
 pub mod Response
+pub mod ResponseDemand

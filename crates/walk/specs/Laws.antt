@@ -1,7 +1,9 @@
 pub mod ByteLaws
 pub mod CaseLaws
+pub mod FailingLaws
 pub mod ListedLaws
 pub mod MoveCountLaws
 pub mod MoveLaws
 pub mod PathLaws
+pub mod ShownLaws
 pub mod WalkLaws

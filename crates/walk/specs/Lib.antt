@@ -1,4 +1,5 @@
 pub mod Demand2
+pub mod FailingOrders
 pub mod Laws
 pub mod Moves
 pub mod Paths

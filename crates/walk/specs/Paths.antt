@@ -3,11 +3,14 @@
 -- Assumes nothing.
 use mathlib.Core.Path.{_≡_}
 use mathlib.Core.Logic.{_⊎_}
-use Prim.Native.Nat.{ℕ, zero, suc, _<_}
+use Prim.Native.Nat.{ℕ, zero, suc, _≤_, _<_}
 use mathlib.Core.Bool.{true, false}
 use mathlib.Core.List.{List, [], _∷_, _++_, map}
+use mathlib.Core.Option.{some}
+use lib.ListN.{length}
 use Rattle.timing.specs.Accepted.{Accepted}
 use Rattle.machine.specs.Buffers.{orderRoom}
+use Rattle.order.specs.Orders.{run}
 use Rattle.order.specs.States.{State, initial, allEnded}
 use Rattle.walk.specs.Moves.{Move, moves}
 
@@ -45,3 +48,16 @@ pathsFrom a (suc left) s =
 -- all moves of the tree, depth first, each as the bytes from the root up to it
 unfoldable pub paths : Accepted → List (List ℕ)
 paths a = pathsFrom a orderRoom (initial a)
+
+-- the bytes of one or more allowed steps from a state on
+pub record Begun (a : Accepted) (s : State) (bytes : List ℕ) : Type 0 where
+  pub after : State
+  pub allowed : run a s bytes ≡ some after
+  pub filled : 1 ≤ length bytes
+
+-- how many moves there are up to the one that makes these bytes, among the listed paths
+pub record UpTo (count : ℕ) (listed : List (List ℕ)) (bytes : List ℕ) : Type 0 where
+  pub earlier : List (List ℕ)
+  pub later : List (List ℕ)
+  pub parts : listed ≡ earlier ++ (bytes ∷ later)
+  pub counted : count ≡ suc (length earlier)

@@ -1,18 +1,16 @@
 -- A walk's answer has eight variables and 32 flags, whatever the file: no step changes how many there are, and a failing order is a run
 -- of steps from the table's own eight. So it is known, before any walk is made, how many words the answer takes.
 -- Assumes nothing.
-use mathlib.Core.Path.{_≡_, refl, sym, ap, subst, _∙_}
+use mathlib.Core.Path.{_≡_, refl, ap, subst, _∙_}
 use Prim.Native.Nat.{ℕ, zero, suc, _%_, _<_}
 use native.Mathlib.Omega.{arith}
-use mathlib.Core.List.{List, [], _∷_, List·Memᴰ}
+use mathlib.Core.List.{List, [], _∷_}
 use mathlib.Core.Option.{Option, none, some, bind}
 use lib.Dec.{leb}
 use lib.ListN.{length, getD, length-set}
 use Rattle.taskfile.specs.declared.Instruction.{Instruction}
 use Rattle.notation.specs.Checked.{Checked, refused, passed, require}
 use Rattle.notation.specs.Laws.CheckedLaws.{passed-same, bind-passed, then-passed}
-use Rattle.notation.specs.Laws.ListLaws.{getD-member}
-use Rattle.notation.specs.Laws.QuantifierLaws.{first-at}
 use Rattle.taskfile.specs.Records.{File}
 use Rattle.timing.specs.Accepted.{Accepted, accept}
 use Rattle.timing.specs.Laws.AcceptedLaws.{accepted}
@@ -25,9 +23,9 @@ use Rattle.order.specs.Orders.{Turn, nextOf, performed, step, run, endOf}
 use Rattle.order.specs.States.{State, initial}
 use Rattle.order.specs.Laws.StepLaws.{flag-length, step-says}
 use Rattle.walk.specs.declared.WalkAnswer.{WalkAnswer}
-use Rattle.walk.specs.Demand2.{demand2}
+use Rattle.walk.specs.Laws.FailingLaws.{walk-first}
 use Rattle.walk.specs.WalkEntry.{admitted, decided, refusal, verdictOf, decidedAnswer, walkAnswerOf, walkAnswer}
-use Rattle.walk.specs.Walks.{Found, Walked, fails, orders, walk}
+use Rattle.walk.specs.Walks.{Found, Walked, walk}
 
 pub record Sized (variables : Store) (failed : Flags) : Type 0 where
   pub eight : length variables ≡ 8
@@ -90,12 +88,9 @@ initial-sized ok = record { eight = ok .isMade .store; each = refl }
 failing-sized : {a : Accepted} → IsAccepted a → (f : Found) → walk a .failing ≡ some f → Sized (f .ending .store) (f .ending .failed)
 unfolding endOf
 failing-sized {a} ok f e =
-    let theorem = demand2 ok in
-    let found = first-at (λ g. fails (g .ending)) (orders a) f (sym (theorem .first) ∙ e) in
-    let member = subst (λ (g : Found). List·Memᴰ g (orders a)) (found .2) (getD-member (orders a) (found .0) f (found .1)) in
-    let complete = theorem .complete f member in
-    subst (λ (end : End). Sized (end .store) (end .failed)) (sym (complete .2))
-    (run-sized a (f .bytes) (initial a) (complete .0) (complete .1 .allowed) (initial-sized ok))
+    let whole = walk-first ok f e .failing .complete in
+    subst (λ (end : End). Sized (end .store) (end .failed)) (whole .ends)
+    (run-sized a (f .bytes) (initial a) (whole .after) (whole .complete .allowed) (initial-sized ok))
 
 -- ---- the answer
 

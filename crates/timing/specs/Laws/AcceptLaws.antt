@@ -116,7 +116,7 @@ found-within {t} timeable {Rs} e held i lt =
     rw (held, padded-at 8 0 Rs i (omega (arith, shaped .tasksWithin))) (response .1)
 
 -- there is one for each task
-responses-length : (t : Table) (is : List Task) {Rs : List ℕ} → responsesOf t is ≡ passed Rs → length Rs ≡ length is
+pub responses-length : (t : Table) (is : List Task) {Rs : List ℕ} → responsesOf t is ≡ passed Rs → length Rs ≡ length is
 unfolding responsesOf
 responses-length t [] e = ap length (sym (passed-same e))
 responses-length t (i ∷ is) e =

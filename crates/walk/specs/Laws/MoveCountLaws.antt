@@ -18,16 +18,9 @@ use Rattle.order.specs.Orders.{endOf}
 use Rattle.order.specs.States.{State, initial, allEnded}
 use Rattle.walk.specs.Laws.CaseLaws.{walk-end, walk-cut, walk-on, after-none, after-some, paths-end, paths-cut, paths-on}
 use Rattle.walk.specs.Moves.{Move, moves}
-use Rattle.walk.specs.Paths.{pathsThrough, pathsFrom}
+use Rattle.walk.specs.Paths.{UpTo, pathsThrough, pathsFrom}
 use Rattle.walk.specs.WalkEntry.{decided}
 use Rattle.walk.specs.Walks.{Found, Walked, fails, starting, afterMove, trial, atEnd, walkFrom}
-
--- the moves up to the one that makes these bytes, among the listed paths
-pub record UpTo (count : ℕ) (listed : List (List ℕ)) (bytes : List ℕ) : Type 0 where
-  pub earlier : List (List ℕ)
-  pub later : List (List ℕ)
-  pub parts : listed ≡ earlier ++ (bytes ∷ later)
-  pub counted : count ≡ suc (length earlier)
 
 -- a walk over the listed paths made all their moves, or those up to the failing order
 pub record Counted (w : Walked) (listed : List (List ℕ)) : Type 0 where

@@ -24,7 +24,7 @@ use Rattle.walk.specs.Laws.CaseLaws.{paths-end, paths-cut, paths-on, end
 use Rattle.walk.specs.Laws.ListedLaws.{lex-apart, lex-first, lex-later, every-listed}
 use Rattle.walk.specs.Laws.MoveLaws.{moves-ascend, move-is-step, step-is-move}
 use Rattle.walk.specs.Moves.{Move, moves}
-use Rattle.walk.specs.Paths.{Sooner, pathsThrough, pathsFrom, paths}
+use Rattle.walk.specs.Paths.{Begun, Sooner, pathsThrough, pathsFrom, paths}
 
 -- ---- the beginnings of orders are the paths
 
@@ -67,12 +67,6 @@ module _ (below : State → List (List ℕ)) where
               | inr others ↦ let at = below-through ns others in (at .0, at .1, List·Memᴰ·tail (at .2), at .3, at .4)
             ]
       ]
-
--- the bytes of one or more allowed steps from a state on
-pub record Begun (a : Accepted) (s : State) (bytes : List ℕ) : Type 0 where
-  pub after : State
-  pub allowed : run a s bytes ≡ some after
-  pub filled : 1 ≤ length bytes
 
 module _ {a : Accepted} (ok : IsAccepted a) where
   -- one or more allowed steps, no more than may come, are listed

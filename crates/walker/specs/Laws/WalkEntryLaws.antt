@@ -5,21 +5,19 @@ use Prim.Native.Nat.{ℕ, zero, suc, _-_, _^_, _≤_, _<_}
 use native.Mathlib.Decide.{decLe}
 use native.Mathlib.Nat.{zero-add}
 use native.Mathlib.Omega.{arith}
-use mathlib.Core.Bool.{Bool, true, false}
-use mathlib.Core.List.{List, [], _∷_, _++_, append-assoc, List·Memᴰ}
+use mathlib.Core.Bool.{true, false}
+use mathlib.Core.List.{List, [], _∷_, _++_, append-assoc}
 use mathlib.Core.Option.{Option, none, some}
 use lib.Dec.{leb}
 use lib.ListN.{length, take, drop, replicate}
-use borrow.Author.Tests.{le-leb, lt-leb}
+use borrow.Author.Tests.{lt-leb}
 use Rattle.taskfile.specs.declared.Check.the-variants.{Passed, Refused}
 use Rattle.taskfile.specs.declared.Table.{Table}
 use Rattle.notation.specs.Checked.{Checked, refused, passed}
-use Rattle.taskfile.specs.Laws.CheckSteps.{require-holds, require-fails, bind-refused, bind-goes}
+use Rattle.taskfile.specs.Laws.CheckSteps.{require-fails, bind-refused, bind-goes}
 use Rattle.taskfile.specs.Code.JudgingParts.{Shaped}
-use Rattle.notation.specs.Laws.ListLaws.{getD-member}
 use Rattle.notation.specs.Lists.{if_then_else_, padded}
 use Rattle.notation.specs.Laws.PaddedLaws.{padded-cons, padded-nil}
-use Rattle.notation.specs.Laws.QuantifierLaws.{first-at}
 use Rattle.taskfile.specs.Records.{File}
 use Rattle.timing.specs.declared.AcceptAnswer.{AcceptAnswer}
 use Rattle.timing.specs.declared.JobList.{JobList}
@@ -44,8 +42,9 @@ use Rattle.walker.specs.declared.Outcome.{Outcome}
 use Rattle.walk.specs.declared.Verdict.the-variants.{Holds, Fails}
 use Rattle.walk.specs.WalkEntry.{admitted, decided, refusal, verdictOf, decidedAnswer, shown, decidedBytes, walkAnswerOf, walkAfterOf, walkAnswer, walkAfter}
 use Rattle.walker.specs.Code.WalkParts.{Came, EndsAs, WalksAs, answerOf, WalkOf, shownLength}
-use Rattle.walk.specs.Demand2.{demand2}
-use Rattle.walk.specs.Walks.{Found, Walked, fails, orders, walk}
+use Rattle.walk.specs.Laws.FailingLaws.{walk-first}
+use Rattle.walk.specs.Laws.ShownLaws.{decided-within, decided-over, answer-room, after-room}
+use Rattle.walk.specs.Walks.{Found, Walked, walk}
 
 pub walk-lent : {t : Table} {list : JobList} {program times : List ℕ} {start : Snapshot} {allowance : ℕ} {before after : List ℕ} {r : Outcome}
     → OwnersTo t list (list .count) program → TimesTo list 32 times → start ≡ firstSnapshot program (t .store)
@@ -105,11 +104,7 @@ buffer-filled buffer out n bytes short counted front beyond =
 
 -- an order found is no longer than 512 bytes
 walk-short : {a : Accepted} → IsAccepted a → {f : Found} → walk a .failing ≡ some f → length (f .bytes) ≤ 512
-walk-short {a} ok {f} e =
-    let theorem = demand2 ok in
-    let found = first-at (λ g. fails (g .ending)) (orders a) f (sym (theorem .first) ∙ e) in
-    let member = subst (λ (g : Found). List·Memᴰ g (orders a)) (found .2) (getD-member (orders a) (found .0) f (found .1)) in
-    theorem .complete f member .1 .short
+walk-short ok {f} e = walk-first ok f e .failing .complete .complete .short
 
 -- the answer is the outcome's, and the buffer's front the order's bytes
 pub record EntryOf (c : Checked ℕ Walked) (out : List ℕ) (r : Outcome) : Type 0 where
@@ -117,14 +112,6 @@ pub record EntryOf (c : Checked ℕ Walked) (out : List ℕ) (r : Outcome) : Typ
   pub front : take (shownLength r) out ≡ decidedBytes c
   pub counted : shownLength r ≡ length (decidedBytes c)
   pub short : length (decidedBytes c) ≤ 512
-
-outcome-over : (allowance : ℕ) (walked : Walked) → allowance < walked .count → decided allowance walked ≡ refused 21 0
-unfolding decided
-outcome-over allowance walked over = require-fails (leb (walked .count) allowance) 21 0 (passed walked) (lt-leb (walked .count) allowance over)
-
-outcome-within : (allowance : ℕ) (walked : Walked) → walked .count ≤ allowance → decided allowance walked ≡ passed walked
-unfolding decided
-outcome-within allowance walked within = require-holds (leb (walked .count) allowance) 21 0 (passed walked) (le-leb (walked .count) allowance within)
 
 -- stopped by the allowance
 entry-stopped : (out : List ℕ) (r : Outcome) → r .stopped ≡ true → r .found ≡ false → EntryOf (refused 21 0) out r
@@ -172,12 +159,12 @@ module _ {a : Accepted} (ok : IsAccepted a) {allowance : ℕ} {buffer out : List
       elim (decLe (walk a .count) allowance) [
         | yes within ↦
             let ended = came .whole (omega arith) in
-            subst (λ (c : Checked ℕ Walked). EntryOf c out r) (sym (outcome-within allowance (walk a) within))
+            subst (λ (c : Checked ℕ Walked). EntryOf c out r) (sym (decided-within allowance (walk a) within))
             (entry-within within (walk a .failing) refl
             (subst (λ (n : ℕ). EndsAs (walk a .failing) n 0 out r) (zero-add (walk a .count)) (ended .1)) (ended .0))
         | no over ↦
             let cut = came .cut (omega arith) in
-            subst (λ (c : Checked ℕ Walked). EntryOf c out r) (sym (outcome-over allowance (walk a) (omega arith))) (entry-stopped out r (cut .0) (cut .1))
+            subst (λ (c : Checked ℕ Walked). EntryOf c out r) (sym (decided-over allowance (walk a) (omega arith))) (entry-stopped out r (cut .0) (cut .1))
       ]
 
 -- ---- the entry
@@ -207,16 +194,17 @@ module _ (f : File) (allowance : ℕ) (buffer : List ℕ) (x : AcceptAnswer) (sa
       omega (arith, jobs-few (ok .isTimed), ap (λ (l : JobList). l .count) (found .2 .list)),
     )
 
-    admitted-is : (b : Bool) → leb orderRoom (length buffer) ≡ b → admitted f buffer ≡ (if b then passed (found .0) else refused 20 0)
-    unfolding admitted if_then_else_
-    admitted-is true e = bind-goes _ (found .1) ∙ require-holds (leb orderRoom (length buffer)) 20 0 (passed (found .0)) e
-    admitted-is false e = bind-goes _ (found .1) ∙ require-fails (leb orderRoom (length buffer)) 20 0 (passed (found .0)) e
-
     -- a buffer that is too short is left as it was
+    admitted-short : length buffer < 512 → admitted f buffer ≡ refused 20 0
+    unfolding admitted
+    admitted-short lt =
+        bind-goes _ (found .1)
+        ∙ require-fails (leb orderRoom (length buffer)) 20 0 (passed (found .0)) (lt-leb 512 (length buffer) lt)
+
     pub entry-no-room : length buffer < 512 → (refusal 20 0 ≡ walkAnswer f allowance buffer) × (buffer ≡ walkAfter f allowance buffer)
-    unfolding walkAnswer walkAfter walkAnswerOf walkAfterOf if_then_else_
+    unfolding walkAnswer walkAfter walkAnswerOf walkAfterOf
     entry-no-room lt =
-        let is = admitted-is false (lt-leb 512 (length buffer) lt) in
+        let is = admitted-short lt in
         (sym (ap (walkAnswerOf allowance) is), sym (ap (λ (c : Checked ℕ Accepted). walkAfterOf allowance c buffer) is))
 
     module _ (room : 512 ≤ length buffer) {out : List ℕ} {r : Outcome} (walked : WalkOf (x .table) (x .list) allowance buffer out r) where
@@ -234,13 +222,11 @@ module _ (f : File) (allowance : ℕ) (buffer : List ℕ) (x : AcceptAnswer) (sa
       entry-length e = omega (arith, length-found r e, entry-short)
 
       pub entry-answer : answerOf r ≡ walkAnswer f allowance buffer
-      unfolding walkAnswer walkAnswerOf if_then_else_
-      entry-answer = fit .answer ∙ sym (ap (walkAnswerOf allowance) (admitted-is true (le-leb 512 (length buffer) room)))
+      entry-answer = fit .answer ∙ sym (answer-room f (found .1) allowance buffer room)
 
       pub entry-after : {n : ℕ} {after : List ℕ} → n ≡ shownLength r → after ≡ take n out ++ (replicate (512 - n) 0 ++ drop 512 out)
           → after ≡ walkAfter f allowance buffer
-      unfolding walkAfter walkAfterOf if_then_else_
       entry-after same is =
           is ∙ ap (λ (n : ℕ). take n out ++ (replicate (512 - n) 0 ++ drop 512 out)) same
           ∙ buffer-filled buffer out (shownLength r) (decidedBytes (decided allowance (walk (found .0)))) (fit .short) (fit .counted) (fit .front) (came .beyond)
-          ∙ sym (ap (λ (c : Checked ℕ Accepted). walkAfterOf allowance c buffer) (admitted-is true (le-leb 512 (length buffer) room)))
+          ∙ sym (after-room f (found .1) allowance buffer room)
