@@ -1,5 +1,5 @@
--- The complete orders that fail, and the first of them in the walk. Document 01, "Orders of steps": "It goes depth first
--- and stops at the first complete order with a failed assertion."
+-- The complete orders that fail, and the first of them in the walk. Document 01, "Orders of steps": "It goes depth
+-- first and stops at the first complete order with a failed assertion."
 -- Assumes nothing.
 use mathlib.Core.Path.{_≡_}
 use mathlib.Core.Logic.{_⊎_}

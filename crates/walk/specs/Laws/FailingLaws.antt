@@ -3,11 +3,12 @@
 -- Assumes nothing.
 use mathlib.Core.Path.{_≡_, refl, sym, ap, subst, _∙_}
 use mathlib.Core.Logic.{_⊎_, inl, inr}
-use Prim.Native.Nat.{ℕ}
+use Prim.Native.Nat.{ℕ, _≤_}
 use native.Mathlib.Omega.{arith}
 use mathlib.Core.Bool.{Bool, true, false}
 use mathlib.Core.List.{List, [], _∷_, List·Memᴰ, List·Memᴰ·not-nil, List·Memᴰ·cases-cons, List·Memᴰ·head, List·Memᴰ·tail}
 use mathlib.Core.Option.{none, some}
+use lib.ListN.{length}
 use Rattle.notation.specs.Lists.{if_then_else_, firstWith}
 use Rattle.notation.specs.Ordered.{Every, Ordered}
 use Rattle.notation.specs.Laws.TestLaws.{not-both}
@@ -117,7 +118,15 @@ module _ {a : Accepted} (ok : IsAccepted a) where
             ];
       }
 
-  -- where the walk finds none, no complete order fails
+  -- it is no longer than an order may be
+  pub walk-short : (f : Found) → walk a .failing ≡ some f → length (f .bytes) ≤ orderRoom
+  walk-short f e = walk-first f e .failing .complete .complete .short
+
+  -- where the walk finds one, some complete order fails
+  pub walk-fails : (f : Found) → walk a .failing ≡ some f → SomeFails a
+  walk-fails f e = record { order = f .bytes; end = f .ending; failing = walk-first f e .failing }
+
+  -- where it finds none, no complete order fails
   pub walk-holds : walk a .failing ≡ none → SomeFails a → ⊥
   unfolding walk orders
   walk-holds e some' =

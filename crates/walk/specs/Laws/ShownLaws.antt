@@ -1,5 +1,5 @@
--- Laws behind the theorem of demand 2: what a caller of the walk's entry sees of an accepted file, where the lent buffer
--- has room. The verdict says whether some complete order fails, and what is shown is the first that does.
+-- Laws behind the theorem of demand 2: what a caller of the walk's entry sees of an accepted file, where the lent
+-- buffer has room. The verdict says whether some complete order fails, and what is shown is the first that does.
 -- Assumes nothing.
 use mathlib.Core.Path.{_≡_, refl, sym, ap, _∙_}
 use mathlib.Core.Logic.{_↔_}
@@ -21,7 +21,7 @@ use Rattle.timing.specs.Accepted.{Accepted, accept}
 use Rattle.timing.specs.Code.IsAccepted.{IsAccepted}
 use Rattle.machine.specs.Buffers.{orderRoom, filled}
 use Rattle.walk.specs.declared.Verdict.the-variants.{Holds, Fails}
-use Rattle.walk.specs.Laws.FailingLaws.{walk-first, walk-holds}
+use Rattle.walk.specs.Laws.FailingLaws.{walk-first, walk-short, walk-fails, walk-holds}
 use Rattle.walk.specs.FailingOrders.{SomeFails, FirstFailing, answeredEnd}
 use Rattle.walk.specs.WalkEntry.{admitted, decided, refusal, verdictOf, decidedAnswer, shown, decidedBytes, walkAnswerOf, walkAfterOf, walkAnswer, walkAfter}
 use Rattle.walk.specs.Walks.{Found, Walked, walk}
@@ -98,7 +98,7 @@ module _ {a : Accepted} (ok : IsAccepted a) (allowance : ℕ) where
     where
       go : (o : Option Found) → walk a .failing ≡ o → length (shown o) ≤ orderRoom
       go none e = omega arith
-      go (some found) e = walk-first ok found e .failing .complete .complete .short
+      go (some found) e = walk-short ok found e
 
   -- the buffer holds what is shown, then zeros, and is as it was beyond
   pub decided-filled : (buffer : List ℕ) → let after = filled orderRoom (decidedBytes outcome) buffer in
@@ -135,10 +135,7 @@ module _ {a : Accepted} (ok : IsAccepted a) (allowance : ℕ) where
       where
         go : (o : Option Found) → walk a .failing ≡ o → (verdictOf (walk a .count) o .verdict ≡ Fails) ↔ SomeFails a
         go none e = (λ v. absurd (let z : _≡_ {A = ℕ} 0 1 = cc in omega arith), λ some'. absurd (walk-holds ok e some'))
-        go (some found) e = (
-          λ v. record { order = found .bytes; end = found .ending; failing = walk-first ok found e .failing },
-          λ some'. refl,
-        )
+        go (some found) e = (λ v. walk-fails ok found e, λ some'. refl)
 
     -- and the walk holds exactly if none does
     pub decided-holds : (decidedAnswer outcome .verdict ≡ Holds) ↔ (¬ SomeFails a)
@@ -147,10 +144,8 @@ module _ {a : Accepted} (ok : IsAccepted a) (allowance : ℕ) where
       where
         go : (o : Option Found) → walk a .failing ≡ o → (verdictOf (walk a .count) o .verdict ≡ Holds) ↔ (¬ SomeFails a)
         go none e = (λ v. walk-holds ok e, λ no. refl)
-        go (some found) e = (
-          λ v. absurd (let z : _≡_ {A = ℕ} 0 1 = cc in omega arith),
-          λ no. absurd (no (record { order = found .bytes; end = found .ending; failing = walk-first ok found e .failing })),
-        )
+        go (some found) e =
+            (λ v. absurd (let z : _≡_ {A = ℕ} 0 1 = cc in omega arith), λ no. absurd (no (walk-fails ok found e)))
 
     -- the answer's count is the walk's
     pub decided-counted : decidedAnswer outcome .count ≡ walk a .count

@@ -42,7 +42,7 @@ use Rattle.walker.specs.declared.Outcome.{Outcome}
 use Rattle.walk.specs.declared.Verdict.the-variants.{Holds, Fails}
 use Rattle.walk.specs.WalkEntry.{admitted, decided, refusal, verdictOf, decidedAnswer, shown, decidedBytes, walkAnswerOf, walkAfterOf, walkAnswer, walkAfter}
 use Rattle.walker.specs.Code.WalkParts.{Came, EndsAs, WalksAs, answerOf, WalkOf, shownLength}
-use Rattle.walk.specs.Laws.FailingLaws.{walk-first}
+use Rattle.walk.specs.Laws.FailingLaws.{walk-short}
 use Rattle.walk.specs.Laws.ShownLaws.{decided-within, decided-over, answer-room, after-room}
 use Rattle.walk.specs.Walks.{Found, Walked, walk}
 
@@ -102,10 +102,6 @@ buffer-filled buffer out n bytes short counted front beyond =
 
 -- ---- the outcome
 
--- an order found is no longer than 512 bytes
-walk-short : {a : Accepted} → IsAccepted a → {f : Found} → walk a .failing ≡ some f → length (f .bytes) ≤ 512
-walk-short ok {f} e = walk-first ok f e .failing .complete .complete .short
-
 -- the answer is the outcome's, and the buffer's front the order's bytes
 pub record EntryOf (c : Checked ℕ Walked) (out : List ℕ) (r : Outcome) : Type 0 where
   pub answer : answerOf r ≡ decidedAnswer c
@@ -152,7 +148,7 @@ module _ {a : Accepted} (ok : IsAccepted a) {allowance : ℕ} {buffer out : List
   entry-within : walk a .count ≤ allowance → (o : Option Found) → walk a .failing ≡ o → EndsAs o (walk a .count) 0 out r → r .stopped ≡ false
       → EntryOf (passed (walk a)) out r
   entry-within within none e ends going = entry-held out r (walk a) e going (ends .0) (ends .1)
-  entry-within within (some f) e ends going = entry-found out r (walk a) f e (walk-short ok e) going ends
+  entry-within within (some f) e ends going = entry-found out r (walk a) f e (walk-short ok f e) going ends
 
   pub entry : EntryOf (decided allowance (walk a)) out r
   entry =
