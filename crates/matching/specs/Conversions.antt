@@ -28,49 +28,49 @@ use Rattle.plan.specs.Runs.{Plan, Step, JobRuns, jobTotal}
 -- ---- from an order to a plan
 
 -- a step of an order: its job, its round and its value
-pub record Noted : Type 0 where
+pub record OrderStep : Type 0 where
   pub job : Job
   pub round : Round
   pub value : ℕ
 
 -- an order's steps, and the store after each End
-pub record History : Type 0 where
-  pub steps : List Noted
+pub record OrderRounds : Type 0 where
+  pub steps : List OrderStep
   pub stores : List Store
 
--- the step that a byte makes in round r at a state, with the history from the state after it on
-unfoldable pub noting : State → ℕ → ℕ → Turn → State → (ℕ → History) → History
+-- the step that a byte makes in round r at a state, with the steps and stores from the state after it on
+unfoldable pub noting : State → ℕ → ℕ → Turn → State → (ℕ → OrderRounds) → OrderRounds
 noting s r value turn next rest =
     let job = turn .frame .job in
     let ends : Bool = hasEnded next job in
-    let later : History = rest (if ends then suc r else r) in
+    let later : OrderRounds = rest (if ends then suc r else r) in
     record {
       steps = record { job = job; round = record { 0 = r }; value = value } ∷ later .steps;
       stores = if ends then next .store ∷ later .stores else later .stores;
     }
 
--- the history of an order's bytes from a state on, in round r
-unfoldable pub historyFrom : Accepted → State → ℕ → List ℕ → History
-historyFrom a s r [] = record { steps = []; stores = [] }
-historyFrom a s r (byte ∷ bytes) =
+-- the steps and stores of an order's bytes from a state on, in round r
+unfoldable pub roundsFrom : Accepted → State → ℕ → List ℕ → OrderRounds
+roundsFrom a s r [] = record { steps = []; stores = [] }
+roundsFrom a s r (byte ∷ bytes) =
     elim (turnOf a s (byte / 16)) [
       | none ↦ record { steps = []; stores = [] }
       | some turn ↦
           let next = performed a s (byte % 16) turn in
-          noting s r (byte % 16) turn next (λ later. historyFrom a next later bytes)
+          noting s r (byte % 16) turn next (λ later. roundsFrom a next later bytes)
     ]
 
 -- the plan's bytes for one job: "for each of its steps, two bytes: round, Pick value or 0"
-unfoldable pub jobBytes : List Noted → Job → List ℕ
+unfoldable pub jobBytes : List OrderStep → Job → List ℕ
 jobBytes steps x = each (only (λ step. eqb (step .job .0) (x .0)) steps) (λ step. step .round .0 ∷ step .value ∷ [])
 
 -- "k; then k stores of 8 bytes, the guessed start of each round; then for each job in number order .."
 unfoldable pub planOf : Accepted → List ℕ → Plan
 planOf a order =
-    let history = historyFrom a (initial a) 0 order in
+    let made = roundsFrom a (initial a) 0 order in
     jobTotal a
-    ∷ each (take (jobTotal a) (a .table .store ∷ history .stores)) (λ store. store)
-    ++ each (jobNumbers a) (jobBytes (history .steps))
+    ∷ each (take (jobTotal a) (a .table .store ∷ made .stores)) (λ store. store)
+    ++ each (jobNumbers a) (jobBytes (made .steps))
 
 unfoldable pub orderToPlan : Accepted → List ℕ → Checked ℕ Written
 orderToPlan a order = do

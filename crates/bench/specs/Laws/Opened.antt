@@ -132,7 +132,7 @@ unfolding ConversionEntries.plannedOrder ConversionEntries.orderToPlanAnswer Con
 conversionEntriesOpened = tt
 
 unfoldable pub conversionsOpened : Unit {0}
-unfolding Conversions.noting Conversions.historyFrom Conversions.jobBytes Conversions.planOf Conversions.orderToPlan Conversions.stepBytesIn Conversions.orderOf Conversions.planToOrder
+unfolding Conversions.noting Conversions.roundsFrom Conversions.jobBytes Conversions.planOf Conversions.orderToPlan Conversions.stepBytesIn Conversions.orderOf Conversions.planToOrder
 conversionsOpened = tt
 
 unfoldable pub filesOpened : Unit {0}

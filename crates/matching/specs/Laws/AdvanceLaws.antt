@@ -35,19 +35,19 @@ use Rattle.matching.specs.Laws.MadeLaws.{madeWith, made-here, made-other
 use Rattle.matching.specs.Laws.Pairings.{Made, priorityNow}
 
 -- the step that the turn's job makes, and the round after it
-unfoldable pub stepMade : Accepted → ℕ → ℕ → Turn → Effect → Step
-stepMade a r v turn effect =
+unfoldable pub turnStep : Accepted → ℕ → ℕ → Turn → Effect → Step
+turnStep a r v turn effect =
     record {
       round = record { 0 = r };
       value = v;
       priorityAfter = priority (ceilingsOf (a .table)) (base a (turn .frame .job)) (effect .local .held);
     }
 
-unfoldable pub roundAfter : ℕ → Effect → ℕ
-roundAfter r effect = if effect .ended then suc r else r
+unfoldable pub roundNext : ℕ → Effect → ℕ
+roundNext r effect = if effect .ended then suc r else r
 
 unfoldable pub madeAfter : Accepted → ℕ → ℕ → Turn → Effect → Made → Made
-madeAfter a r v turn effect made = madeWith made (turn .frame .job .0) (stepMade a r v turn effect)
+madeAfter a r v turn effect made = madeWith made (turn .frame .job .0) (turnStep a r v turn effect)
 
 -- ---- one step more, in facts
 
@@ -164,12 +164,12 @@ module _ {a : Accepted} (ok : IsAccepted a) {s : State} (inv : Invariant a s) {t
   -- ---- the steps made
 
   -- the round does not go back, and goes on where the turn's job ended
-  round-stays : (r : ℕ) → r ≤ roundAfter r effect
-  unfolding roundAfter if_then_else_
+  round-stays : (r : ℕ) → r ≤ roundNext r effect
+  unfolding roundNext if_then_else_
   round-stays r = elim (decided (effect .ended)) [ inl e ↦ rw e (omega arith) | inr e ↦ rw e (omega arith) ]
 
-  round-goes : (r : ℕ) → effect .ended ≡ true → r < roundAfter r effect
-  unfolding roundAfter if_then_else_
+  round-goes : (r : ℕ) → effect .ended ≡ true → r < roundNext r effect
+  unfolding roundNext if_then_else_
   round-goes r e = rw e (omega arith)
 
   -- each of these frames has the priority that its job's steps say
@@ -178,7 +178,7 @@ module _ {a : Accepted} (ok : IsAccepted a) {s : State} (inv : Invariant a s) {t
 
   module _ (r : ℕ) (made : Made) (v : ℕ) (held : Held made (turn .under)) where
     abbrev st : Step
-    st = stepMade a r v turn effect
+    st = turnStep a r v turn effect
 
     abbrev later : Made
     later = madeAfter a r v turn effect made
@@ -192,7 +192,7 @@ module _ {a : Accepted} (ok : IsAccepted a) {s : State} (inv : Invariant a s) {t
     more-other y apart = made-other made (x .0) st (y .0) apart
 
     round-is : st .round .0 ≡ r
-    unfolding stepMade
+    unfolding turnStep
     round-is = refl
 
     -- another active job's priority is below the base of the turn's
@@ -216,7 +216,7 @@ module _ {a : Accepted} (ok : IsAccepted a) {s : State} (inv : Invariant a s) {t
         (now-same made later (f .job) (more-other (f .job) apart) a ∙ held .0, held-under fs (held .1) (runs .1) (over .1))
 
     held-here : priorityNow a later x ≡ presentPriority a (record { job = x; local = effect .local })
-    unfolding stepMade presentPriority
+    unfolding turnStep presentPriority
     held-here = now-more made later x st more-here a
 
     held-after : Held later (now .active)
@@ -227,7 +227,7 @@ module _ {a : Accepted} (ok : IsAccepted a) {s : State} (inv : Invariant a s) {t
           | inr e ↦ subst (Held later) (sym (active-goes ok inv good effect e)) (held-here, under)
         ]
 
-    pub advances : Advance a s now r (roundAfter r effect) made later x st
+    pub advances : Advance a s now r (roundNext r effect) made later x st
     advances = record {
       isX = good .running .job;
       unended = good .running .unended;

@@ -18,7 +18,7 @@ use Rattle.timing.specs.Accepted.{Accepted}
 use Rattle.machine.specs.declared.Effect.{Effect}
 use Rattle.machine.specs.Ends.{noStore}
 use Rattle.machine.specs.Instructions.{Store}
-use Rattle.matching.specs.Laws.Histories.{Mark, Marks, marked, inRound, Column, unbegun, Running, effectOf, stepped, markStep, runMarks, Columns, columnsFrom, columns}
+use Rattle.matching.specs.Laws.Histories.{Mark, Marks, marked, inRound, JobColumn, unbegun, ColumnRun, effectOf, stepped, markStep, runMarks, Columns, columnsFrom, columns}
 
 -- of steps with none in round q, the first is in another round and the rest have none
 pub elsewhere : (q : ℕ) (m : Mark) (ms : List Mark) → inRound q (m ∷ ms) ≡ [] → (m .round ≢ q) × (inRound q ms ≡ [])
@@ -31,14 +31,14 @@ elsewhere q m ms none = go (eqb (m .round) q) refl none
     go false e none = (λ same. not-both (eqb (m .round) q) (eq-eqb (m .round) q same) e, none)
 
 -- the same with s for round q's store
-abbrev pub stored : ℕ → Store → Running → Running
+abbrev pub stored : ℕ → Store → ColumnRun → ColumnRun
 stored q s c = record { column = c .column; stores = set (c .stores) q s }
 
 abbrev pub allStored : ℕ → Store → Columns → Columns
 allStored q s c = record { jobs = c .jobs; stores = set (c .stores) q s }
 
 -- a job's column before those of the jobs after it
-abbrev pub ahead : Column → Columns → Columns
+abbrev pub ahead : JobColumn → Columns → Columns
 ahead one others = record { jobs = one ∷ others .jobs; stores = others .stores }
 
 -- one step more of the job at place x, whose number is n, after all that these columns did
@@ -51,13 +51,13 @@ module _ (a : Accepted) where
   -- ---- one step
 
   -- of the stores a step reads its round's alone
-  effect-frame : (x : ℕ) (m : Mark) (c : Column) (S R : List Store) → getD S (m .round) noStore ≡ getD R (m .round) noStore
+  effect-frame : (x : ℕ) (m : Mark) (c : JobColumn) (S R : List Store) → getD S (m .round) noStore ≡ getD R (m .round) noStore
       → effectOf a x m (record { column = c; stores = S }) ≡ effectOf a x m (record { column = c; stores = R })
   unfolding effectOf
   effect-frame x m c S R e = rw e
 
   -- the same effect, where another round's store is another
-  stepped-frame : (x : ℕ) (m : Mark) (q : ℕ) (s : Store) (effect : Effect) (c : Running) → m .round ≢ q
+  stepped-frame : (x : ℕ) (m : Mark) (q : ℕ) (s : Store) (effect : Effect) (c : ColumnRun) → m .round ≢ q
       → stepped a x m effect (stored q s c) ≡ stored q s (stepped a x m effect c)
   unfolding stepped
   stepped-frame x m q s effect c other =
@@ -65,7 +65,7 @@ module _ (a : Accepted) where
       (set-comm (c .stores) q (m .round) s (effect .store) (λ e. other (sym e)))
 
   -- a step neither reads nor changes another round's store
-  pub step-frame : (x : ℕ) (m : Mark) (q : ℕ) (s : Store) (c : Running) → m .round ≢ q
+  pub step-frame : (x : ℕ) (m : Mark) (q : ℕ) (s : Store) (c : ColumnRun) → m .round ≢ q
       → markStep a x m (stored q s c) ≡ stored q s (markStep a x m c)
   unfolding markStep
   step-frame x m q s c other =
@@ -74,25 +74,25 @@ module _ (a : Accepted) where
       ∙ stepped-frame x m q s (effectOf a x m c) c other
 
   -- so another round's store stays, and so does the number of stores
-  step-stays : (x : ℕ) (m : Mark) (q : ℕ) (c : Running) → m .round ≢ q
+  step-stays : (x : ℕ) (m : Mark) (q : ℕ) (c : ColumnRun) → m .round ≢ q
       → getD (markStep a x m c .stores) q noStore ≡ getD (c .stores) q noStore
   unfolding markStep stepped
   step-stays x m q c other = getD-set-other (c .stores) (m .round) q (effectOf a x m c .store) noStore (λ e. other (sym e))
 
-  step-length : (x : ℕ) (m : Mark) (c : Running) → length (markStep a x m c .stores) ≡ length (c .stores)
+  step-length : (x : ℕ) (m : Mark) (c : ColumnRun) → length (markStep a x m c .stores) ≡ length (c .stores)
   unfolding markStep stepped
   step-length x m c = length-set (c .stores) (m .round) (effectOf a x m c .store)
 
   -- ---- a job's steps
 
   -- one step more at the end is made last
-  pub run-snoc : (x : ℕ) (ms : List Mark) (m : Mark) (c : Running) → runMarks a x (ms ++ (m ∷ [])) c ≡ markStep a x m (runMarks a x ms c)
+  pub run-snoc : (x : ℕ) (ms : List Mark) (m : Mark) (c : ColumnRun) → runMarks a x (ms ++ (m ∷ [])) c ≡ markStep a x m (runMarks a x ms c)
   unfolding runMarks
   run-snoc x [] m c = refl
   run-snoc x (n ∷ ms) m c = run-snoc x ms m (markStep a x n c)
 
   -- steps with none in round q neither read nor change its store
-  pub run-frame : (x q : ℕ) (s : Store) (ms : List Mark) (c : Running) → inRound q ms ≡ []
+  pub run-frame : (x q : ℕ) (s : Store) (ms : List Mark) (c : ColumnRun) → inRound q ms ≡ []
       → runMarks a x ms (stored q s c) ≡ stored q s (runMarks a x ms c)
   unfolding runMarks
   run-frame x q s [] c none = refl
@@ -101,14 +101,14 @@ module _ (a : Accepted) where
       ∙ run-frame x q s ms (markStep a x m c) (elsewhere q m ms none .1)
 
   -- so round q's store stays; the number of stores stays in any case
-  pub run-stays : (x q : ℕ) (ms : List Mark) (c : Running) → inRound q ms ≡ []
+  pub run-stays : (x q : ℕ) (ms : List Mark) (c : ColumnRun) → inRound q ms ≡ []
       → getD (runMarks a x ms c .stores) q noStore ≡ getD (c .stores) q noStore
   unfolding runMarks
   run-stays x q [] c none = refl
   run-stays x q (m ∷ ms) c none =
       run-stays x q ms (markStep a x m c) (elsewhere q m ms none .1) ∙ step-stays x m q c (elsewhere q m ms none .0)
 
-  pub run-length : (x : ℕ) (ms : List Mark) (c : Running) → length (runMarks a x ms c .stores) ≡ length (c .stores)
+  pub run-length : (x : ℕ) (ms : List Mark) (c : ColumnRun) → length (runMarks a x ms c .stores) ≡ length (c .stores)
   unfolding runMarks
   run-length x [] c = refl
   run-length x (m ∷ ms) c = run-length x ms (markStep a x m c) ∙ step-length x m c
@@ -116,7 +116,7 @@ module _ (a : Accepted) where
   -- ---- the jobs from number x on
 
   -- a job after these steps, from its start on the stores S
-  abbrev begun : ℕ → List Mark → List Store → Running
+  abbrev begun : ℕ → List Mark → List Store → ColumnRun
   begun x ms S = runMarks a x ms (record { column = unbegun; stores = S })
 
   -- a column for each job, and as many stores as before
@@ -137,7 +137,7 @@ module _ (a : Accepted) where
   unfolding columnsFrom
   columns-frame x q s [] S none = refl
   columns-frame x q s (ms ∷ h) S none =
-      ap (λ (c : Running). ahead (c .column) (columnsFrom a (suc x) h (c .stores)))
+      ap (λ (c : ColumnRun). ahead (c .column) (columnsFrom a (suc x) h (c .stores)))
       (run-frame x q s ms (record { column = unbegun; stores = S }) (none 0))
       ∙ ap (ahead (begun x ms S .column)) (columns-frame (suc x) q s h (begun x ms S .stores) (λ y. none (suc y)))
 
@@ -153,7 +153,7 @@ module _ (a : Accepted) where
   -- ---- one step more
 
   -- the step may as well be made after the later jobs, which do not touch its round
-  after-others : (n : ℕ) (h : Marks) (m : Mark) (r : Running) → ((y : ℕ) → inRound (m .round) (getD h y []) ≡ [])
+  after-others : (n : ℕ) (h : Marks) (m : Mark) (r : ColumnRun) → ((y : ℕ) → inRound (m .round) (getD h y []) ≡ [])
       → ahead (markStep a n m r .column) (columnsFrom a (suc n) h (markStep a n m r .stores))
       ≡ oneMore a n 0 m (ahead (r .column) (columnsFrom a (suc n) h (r .stores)))
   unfolding markStep stepped
@@ -170,7 +170,7 @@ module _ (a : Accepted) where
   unfolding columnsFrom marked
   columnsFrom-marked n [] x m S below none = absurd (omega arith)
   columnsFrom-marked n (ms ∷ h) zero m S below none =
-      ap (λ (c : Running). ahead (c .column) (columnsFrom a (suc n) h (c .stores)))
+      ap (λ (c : ColumnRun). ahead (c .column) (columnsFrom a (suc n) h (c .stores)))
       (run-snoc n ms m (record { column = unbegun; stores = S }))
       ∙ after-others n h m (begun n ms S) (λ y. none (suc y) (omega arith))
       ∙ ap (λ (k : ℕ). oneMore a k 0 m (columnsFrom a n (ms ∷ h) S)) (omega arith)

@@ -15,7 +15,7 @@ use Rattle.machine.specs.Ends.{noStore}
 use Rattle.machine.specs.Instructions.{Store}
 use Rattle.matching.specs.Laws.ColumnLaws.{elsewhere, run-stays, run-length, columns-stays}
 use Rattle.matching.specs.Laws.Cuts.{Cut}
-use Rattle.matching.specs.Laws.Histories.{Mark, Marks, inRound, Column, unbegun, Running, effectOf, stepped, markStep, runMarks, columnsFrom, columns}
+use Rattle.matching.specs.Laws.Histories.{Mark, Marks, inRound, JobColumn, unbegun, ColumnRun, effectOf, stepped, markStep, runMarks, columnsFrom, columns}
 use Rattle.notation.specs.Laws.ElementLaws.{nothing-left}
 use Rattle.matching.specs.Laws.Parts.{storesBefore, beginning}
 
@@ -60,23 +60,23 @@ onward-alike m ms s S R long same q = elim (same q) [
 ]
 
 -- two runs of the same steps, from the stores S and R
-record Agreed (p o : Running) (S R : List Store) : Type 0 where
+record Agreed (p o : ColumnRun) (S R : List Store) : Type 0 where
   column : p .column ≡ o .column
   stores : (q : ℕ) → Alike q S R → Alike q (p .stores) (o .stores)
 
 -- the start of a job's run
-abbrev pub begin : List Store → Running
+abbrev pub begin : List Store → ColumnRun
 begin S = record { column = unbegun; stores = S }
 
 module _ (a : Accepted) where
   -- a step where its round's store is the same
-  step-same : (x : ℕ) (m : Mark) (c : Column) (S R : List Store) → Alike (m .round) S R
+  step-same : (x : ℕ) (m : Mark) (c : JobColumn) (S R : List Store) → Alike (m .round) S R
       → effectOf a x m (record { column = c; stores = S }) ≡ effectOf a x m (record { column = c; stores = R })
   unfolding effectOf
   step-same x m c S R e = rw e refl
 
   -- steps from stores that are the same in each round in which there is a step
-  run-agrees : (x : ℕ) (ms : List Mark) (c : Column) (S R : List Store) → length S ≡ length R
+  run-agrees : (x : ℕ) (ms : List Mark) (c : JobColumn) (S R : List Store) → length S ≡ length R
       → ((q : ℕ) → (inRound q ms ≡ []) ⊎ Alike q S R)
       → Agreed (runMarks a x ms (record { column = c; stores = S })) (runMarks a x ms (record { column = c; stores = R })) S R
   unfolding runMarks markStep stepped
@@ -92,7 +92,7 @@ module _ (a : Accepted) where
       (record { column = later .column; stores = λ q e. later .stores q (set-alike q (m .round) (effect .store) S R long e) })
 
   -- the run of two parts is that of the second after that of the first
-  pub run-append : (x : ℕ) (ms ns : List Mark) (c : Running) → runMarks a x (ms ++ ns) c ≡ runMarks a x ns (runMarks a x ms c)
+  pub run-append : (x : ℕ) (ms ns : List Mark) (c : ColumnRun) → runMarks a x (ms ++ ns) c ≡ runMarks a x ns (runMarks a x ms c)
   unfolding runMarks
   run-append x [] ns c = refl
   run-append x (m ∷ ms) ns c = run-append x ms ns (markStep a x m c)
@@ -104,7 +104,7 @@ module _ (a : Accepted) where
   run-both x ms ns all S R parts long same q none e =
       run-agrees x ms unbegun S R long same .stores q e
       ∙ sym (run-stays a x q ns (runMarks a x ms (begin R)) none)
-      ∙ ap (λ (c : Running). getD (c .stores) q noStore) (sym (run-append x ms ns (begin R)) ∙ ap (λ (l : List Mark). runMarks a x l (begin R)) (sym parts))
+      ∙ ap (λ (c : ColumnRun). getD (c .stores) q noStore) (sym (run-append x ms ns (begin R)) ∙ ap (λ (l : List Mark). runMarks a x l (begin R)) (sym parts))
 
 -- ---- the jobs from number n on
 

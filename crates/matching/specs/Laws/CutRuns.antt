@@ -20,7 +20,7 @@ use Rattle.notation.specs.Laws.ElementLaws.{cons-some, nothing-left}
 use Rattle.matching.specs.Laws.PartLaws.{column-at}
 use Rattle.matching.specs.Laws.Parts.{storesBefore, beginning, lastRound}
 use Rattle.matching.specs.Laws.Cuts.{Cut}
-use Rattle.matching.specs.Laws.Histories.{Mark, Marks, job, Column, unbegun, Running, effectOf, stepped, markStep, runMarks, columns}
+use Rattle.matching.specs.Laws.Histories.{Mark, Marks, job, JobColumn, unbegun, ColumnRun, effectOf, stepped, markStep, runMarks, columns}
 use Rattle.matching.specs.Laws.PlanReading.{stepOf, Allowed, Whole, AllWhole}
 use Rattle.matching.specs.Laws.PlanReadingLaws as reading
 
@@ -28,7 +28,7 @@ use Rattle.matching.specs.Laws.PlanReadingLaws as reading
 
 module _ (a : Accepted) (x : ℕ) where
   -- a whole run ends
-  pub whole-ends : (ms : List Mark) (previous : ℕ) (c : Running) → Whole a x previous ms c → runMarks a x ms c .column .ended ≡ true
+  pub whole-ends : (ms : List Mark) (previous : ℕ) (c : ColumnRun) → Whole a x previous ms c → runMarks a x ms c .column .ended ≡ true
   unfolding runMarks
   whole-ends [] previous c whole = absurd whole
   whole-ends (m ∷ ms) previous c whole = elim (whole .1) [
@@ -37,7 +37,7 @@ module _ (a : Accepted) (x : ℕ) where
   ]
 
   -- no proper beginning of it does
-  whole-open : (ms : List Mark) (m : Mark) (more : List Mark) (previous : ℕ) (c : Running) → Whole a x previous (ms ++ m ∷ more) c
+  whole-open : (ms : List Mark) (m : Mark) (more : List Mark) (previous : ℕ) (c : ColumnRun) → Whole a x previous (ms ++ m ∷ more) c
       → c .column .ended ≡ false → runMarks a x ms c .column .ended ≡ false
   unfolding runMarks
   whole-open [] m more previous c whole going = going
@@ -47,7 +47,7 @@ module _ (a : Accepted) (x : ℕ) where
   ]
 
   -- and the step after it is allowed
-  whole-next : (ms : List Mark) (m : Mark) (more : List Mark) (previous : ℕ) (c : Running) → Whole a x previous (ms ++ m ∷ more) c
+  whole-next : (ms : List Mark) (m : Mark) (more : List Mark) (previous : ℕ) (c : ColumnRun) → Whole a x previous (ms ++ m ∷ more) c
       → Allowed a x (lastRound previous ms) m (runMarks a x ms c)
   unfolding runMarks lastRound lastOr
   whole-next [] m more previous c whole = whole .0
@@ -57,7 +57,7 @@ module _ (a : Accepted) (x : ℕ) where
   ]
 
   -- a beginning with something left of the whole
-  whole-partly : (ms rest : List Mark) (previous : ℕ) (c : Running) → Whole a x previous (ms ++ rest) c → c .column .ended ≡ false
+  whole-partly : (ms rest : List Mark) (previous : ℕ) (c : ColumnRun) → Whole a x previous (ms ++ rest) c → c .column .ended ≡ false
       → (rest ≡ [] → ⊥) → runMarks a x ms c .column .ended ≡ false
   whole-partly ms [] previous c whole going left = absurd (left refl)
   whole-partly ms (m ∷ more) previous c whole going left = whole-open ms m more previous c whole going
@@ -65,7 +65,7 @@ module _ (a : Accepted) (x : ℕ) where
   -- ---- the steps that marks make
 
   -- one for each, after those so far
-  run-makes : (ms : List Mark) (c : Running) → length (runMarks a x ms c .column .steps) ≡ length (c .column .steps) + length ms
+  run-makes : (ms : List Mark) (c : ColumnRun) → length (runMarks a x ms c .column .steps) ≡ length (c .column .steps) + length ms
   unfolding runMarks markStep stepped stepOf
   run-makes [] c = omega arith
   run-makes (m ∷ ms) c =
@@ -75,7 +75,7 @@ module _ (a : Accepted) (x : ℕ) where
       length-append (c .column .steps) (stepOf a x m (effectOf a x m c) ∷ []) in
       omega arith
 
-  run-keeps : (ms : List Mark) (c : Running) → (more : List Step) × (runMarks a x ms c .column .steps ≡ c .column .steps ++ more)
+  run-keeps : (ms : List Mark) (c : ColumnRun) → (more : List Step) × (runMarks a x ms c .column .steps ≡ c .column .steps ++ more)
   unfolding runMarks markStep stepped stepOf
   run-keeps [] c = ([], sym (append-nil (c .column .steps)))
   run-keeps (m ∷ ms) c =
@@ -84,14 +84,14 @@ module _ (a : Accepted) (x : ℕ) where
       (one ∷ later .0, later .1 ∙ append-assoc (c .column .steps) (one ∷ []) (later .0))
 
   -- the first of all steps are those of the marks made
-  run-takes : (ms ns : List Mark) (c : Running) → c .column .steps ≡ []
+  run-takes : (ms ns : List Mark) (c : ColumnRun) → c .column .steps ≡ []
       → runMarks a x ms c .column .steps ≡ take (length ms) (runMarks a x (ms ++ ns) c .column .steps)
   run-takes ms ns c none =
       let made = runMarks a x ms c .column .steps in
       let more = run-keeps ns (runMarks a x ms c) in
       let long : length made ≡ length ms = run-makes ms c ∙ ap (λ (l : List Step). length l + length ms) none ∙ omega arith in
       sym (take-at made (more .0) (length ms) long)
-      ∙ ap (take (length ms)) (sym (ap (λ (r : Running). r .column .steps) (run-append a x ms ns c) ∙ more .1))
+      ∙ ap (take (length ms)) (sym (ap (λ (r : ColumnRun). r .column .steps) (run-append a x ms ns c) ∙ more .1))
 
 -- ---- each job of a history of whole runs
 
@@ -111,7 +111,7 @@ module _ (a : Accepted) where
     pub cut-ended : (y : ℕ) → y < length h → cut .rest y ≡ [] → getD (columns a now S .jobs) y unbegun .ended ≡ true
     cut-ended y inside none =
         let all : getD now y [] ++ cut .rest y ≡ getD now y [] = ap (λ (l : List Mark). getD now y [] ++ l) none ∙ append-nil (getD now y []) in
-        ap (λ (c : Column). c .ended) (made-same a S cut y inside)
+        ap (λ (c : JobColumn). c .ended) (made-same a S cut y inside)
         ∙ whole-ends a y (getD now y []) 0 (beginning a h S y)
         (subst (λ (ms : List Mark). Whole a y 0 ms (beginning a h S y)) all (whole-parts y inside))
 
@@ -119,7 +119,7 @@ module _ (a : Accepted) where
     pub cut-open : (y : ℕ) → y < length h → (cut .rest y ≡ [] → ⊥) → getD (columns a now S .jobs) y unbegun .ended ≡ false
     unfolding unbegun
     cut-open y inside left =
-        ap (λ (c : Column). c .ended) (made-same a S cut y inside)
+        ap (λ (c : JobColumn). c .ended) (made-same a S cut y inside)
         ∙ whole-partly a y (getD now y []) (cut .rest y) 0 (beginning a h S y) (whole-parts y inside) refl left
 
     -- the job of the next step has one left
@@ -127,7 +127,7 @@ module _ (a : Accepted) where
     next-open = cut-open x (cut .known) (cons-some (cut .next))
 
     -- its job may make the next step
-    pub next-allowed : (c : Running) → c .column ≡ getD (columns a now S .jobs) x unbegun → Allowed a x (lastRound 0 (getD now x [])) m c
+    pub next-allowed : (c : ColumnRun) → c .column ≡ getD (columns a now S .jobs) x unbegun → Allowed a x (lastRound 0 (getD now x [])) m c
     next-allowed c same =
         let here = subst (λ (ms : List Mark). Whole a x 0 (getD now x [] ++ ms) (beginning a h S x)) (cut .next) (whole-parts x (cut .known)) in
         let allowed = whole-next a x (getD now x []) m (cut .more) 0 (beginning a h S x) here in
@@ -136,7 +136,7 @@ module _ (a : Accepted) where
           inPlan = allowed .inPlan;
           inOrder = allowed .inOrder;
           onOffer =
-              ap (λ (d : Column). member (m .value) (values (instructionOf (a .table) (jobAt a (job x) .task) (d .local .next)))) (sym column)
+              ap (λ (d : JobColumn). member (m .value) (values (instructionOf (a .table) (jobAt a (job x) .task) (d .local .next)))) (sym column)
               ∙ allowed .onOffer;
         }
 
@@ -151,7 +151,7 @@ module _ (a : Accepted) where
     unfolding unbegun
     steps-taken y inside =
         let n = length (getD now y []) in
-        ap (λ (c : Column). c .steps) (made-same a S cut y inside)
+        ap (λ (c : JobColumn). c .steps) (made-same a S cut y inside)
         ∙ run-takes a y (getD now y []) (cut .rest y) (beginning a h S y) refl
         ∙ ap (λ (ms : List Mark). take n (runMarks a y ms (beginning a h S y) .column .steps)) (sym (cut .whole y))
-        ∙ ap (λ (c : Column). take n (c .steps)) (sym (column-at a h y S inside))
+        ∙ ap (λ (c : JobColumn). take n (c .steps)) (sym (column-at a h y S inside))

@@ -57,27 +57,27 @@ rows a n h = each (upTo n) (λ r. rowFrom a r 0 h)
 -- ---- by columns
 
 -- a job after its steps so far
-pub record Column : Type 0 where
+pub record JobColumn : Type 0 where
   pub local : Local
   pub ended : Bool
   pub failed : Bool
   pub steps : List Step
 
-unfoldable pub unbegun : Column
+unfoldable pub unbegun : JobColumn
 unbegun = record { local = fresh; ended = false; failed = false; steps = [] }
 
 -- a job and each round's store
-pub record Running : Type 0 where
-  pub column : Column
+pub record ColumnRun : Type 0 where
+  pub column : JobColumn
   pub stores : List Store
 
-unfoldable pub effectOf : Accepted → ℕ → Mark → Running → Effect
+unfoldable pub effectOf : Accepted → ℕ → Mark → ColumnRun → Effect
 effectOf a x m c =
     perform (instructionOf (a .table) (jobAt a (job x) .task) (c .column .local .next)) (m .value) (c .column .local)
     (getD (c .stores) (m .round) noStore)
 
 -- one step, on its round's store
-unfoldable pub stepped : Accepted → ℕ → Mark → Effect → Running → Running
+unfoldable pub stepped : Accepted → ℕ → Mark → Effect → ColumnRun → ColumnRun
 stepped a x m effect c =
     record {
       column =
@@ -96,16 +96,16 @@ stepped a x m effect c =
       stores = set (c .stores) (m .round) (effect .store);
     }
 
-unfoldable pub markStep : Accepted → ℕ → Mark → Running → Running
+unfoldable pub markStep : Accepted → ℕ → Mark → ColumnRun → ColumnRun
 markStep a x m c = stepped a x m (effectOf a x m c) c
 
-unfoldable pub runMarks : Accepted → ℕ → List Mark → Running → Running
+unfoldable pub runMarks : Accepted → ℕ → List Mark → ColumnRun → ColumnRun
 runMarks a x [] c = c
 runMarks a x (m ∷ ms) c = runMarks a x ms (markStep a x m c)
 
 -- the jobs from number x on, and the stores that all leave
 pub record Columns : Type 0 where
-  pub jobs : List Column
+  pub jobs : List JobColumn
   pub stores : List Store
 
 unfoldable pub columnsFrom : Accepted → ℕ → Marks → List Store → Columns

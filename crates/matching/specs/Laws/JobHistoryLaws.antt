@@ -26,7 +26,7 @@ use Rattle.machine.specs.Instructions.{Store, fresh}
 use Rattle.order.specs.Laws.LengthLaws.{body-short}
 use Rattle.plan.specs.Runs as runs
 use Rattle.plan.specs.Runs.{Plan, JobRun, jobTotal, stepBytes, stepEffect, stepMade, runningAfter, runJob}
-use Rattle.matching.specs.Laws.Histories.{Mark, Running, job, unbegun, effectOf, stepped, markStep, runMarks}
+use Rattle.matching.specs.Laws.Histories.{Mark, ColumnRun, job, unbegun, effectOf, stepped, markStep, runMarks}
 use Rattle.matching.specs.Laws.PlanReading.{marksBytes, markOf, stepOf, Allowed, Whole, standing}
 
 -- ---- a mark in a plan
@@ -48,7 +48,7 @@ mark-stands plan o inside =
     ∙ ap (λ (k : ℕ). getD plan o 0 ∷ getD plan (o + 1) 0 ∷ drop k plan) two
 
 -- a step's two bytes that pass are in the plan and are an allowed mark
-bytes-say : (a : Accepted) (plan : Plan) (x : ℕ) (c : Running) (previous o : ℕ) {u : Unit {0}}
+bytes-say : (a : Accepted) (plan : Plan) (x : ℕ) (c : ColumnRun) (previous o : ℕ) {u : Unit {0}}
     → stepBytes a plan (job x) (c .column .local) previous o ≡ passed u → (o + 1 < length plan) × Allowed a x previous (markAt plan o) c
 unfolding stepBytes markAt
 bytes-say a plan x c previous o e =
@@ -71,7 +71,7 @@ chosen true e = inl (refl, passed-same e)
 chosen false e = inr (refl, e)
 
 -- what a job's run of one step or more says: its mark is allowed, and it is the last or the run goes on after it
-module _ (a : Accepted) (plan : Plan) (x left : ℕ) (c : Running) (previous o : ℕ) (flags : Flags) where
+module _ (a : Accepted) (plan : Plan) (x left : ℕ) (c : ColumnRun) (previous o : ℕ) (flags : Flags) where
   abbrev here : Mark
   here = markAt plan o
 
@@ -109,11 +109,11 @@ module _ (a : Accepted) (plan : Plan) (x left : ℕ) (c : Running) (previous o :
       )
 
 -- the marks of a job's run are whole, and their bytes stand in the plan up to where the run left it
-pub record JobBack (a : Accepted) (plan : Plan) (x previous o : ℕ) (c : Running) (one : JobRun) : Type 0 where
+pub record JobBack (a : Accepted) (plan : Plan) (x previous o : ℕ) (c : ColumnRun) (one : JobRun) : Type 0 where
   pub whole : Whole a x previous (map markOf (one .steps)) c
   pub bytes : drop o plan ≡ marksBytes (map markOf (one .steps)) ++ drop (one .running .offset) plan
 
-module _ (a : Accepted) (plan : Plan) (x left : ℕ) (c : Running) (previous o : ℕ) (flags : Flags) {one : JobRun}
+module _ (a : Accepted) (plan : Plan) (x left : ℕ) (c : ColumnRun) (previous o : ℕ) (flags : Flags) {one : JobRun}
     (inside : o + 1 < length plan) (allowed : Allowed a x previous (markAt plan o) c) where
   back-last : Last a plan x left c previous o flags one → JobBack a plan x previous o c one
   unfolding markOf stepOf marksBytes each
@@ -131,7 +131,7 @@ module _ (a : Accepted) (plan : Plan) (x left : ℕ) (c : Running) (previous o :
 
 module _ (a : Accepted) (plan : Plan) (x : ℕ) where
   -- a job that runs to its End runs over whole marks, whose bytes stand in the plan
-  pub job-read : (left previous o : ℕ) (c : Running) (flags : Flags) {one : JobRun}
+  pub job-read : (left previous o : ℕ) (c : ColumnRun) (flags : Flags) {one : JobRun}
       → runJob a plan (job x) left (c .column .local) previous (standing o flags c) ≡ passed one → c .column .ended ≡ false
       → runMarks a x (map markOf (one .steps)) c .column .ended ≡ true → JobBack a plan x previous o c one
   unfolding runJob runMarks markOf stepOf
@@ -152,7 +152,7 @@ module _ (a : Accepted) (plan : Plan) (x : ℕ) where
 
 module _ {a : Accepted} (ok : IsAccepted a) (plan : Plan) (x : ℕ) (isJob : x < jobTotal a) where
   -- from a place in the body, as many steps as instructions are left are enough
-  run-ended : (left previous o : ℕ) (c : Running) (flags : Flags) {one : JobRun}
+  run-ended : (left previous o : ℕ) (c : ColumnRun) (flags : Flags) {one : JobRun}
       → runJob a plan (job x) left (c .column .local) previous (standing o flags c) ≡ passed one
       → c .column .local .next < length (bodyOf (taskOf (a .table) (jobAt a (job x) .task)))
       → length (bodyOf (taskOf (a .table) (jobAt a (job x) .task))) ≤ c .column .local .next + left
@@ -178,7 +178,7 @@ module _ {a : Accepted} (ok : IsAccepted a) (plan : Plan) (x : ℕ) (isJob : x <
       → JobBack a plan x 0 o (record { column = unbegun; stores = stores }) one
   unfolding unbegun fresh base job jobTotal
   column-read o stores flags e =
-      let c : Running = record { column = unbegun; stores = stores } in
+      let c : ColumnRun = record { column = unbegun; stores = stores } in
       let known = job-task (ok .isTimed) (job x) isJob in
       let some = ok .isMade .bodies (jobAt a (job x) .task) known in
       let short = body-short (ok .isMade .shaped) (jobAt a (job x) .task) known in

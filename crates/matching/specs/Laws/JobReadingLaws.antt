@@ -29,7 +29,7 @@ use Rattle.machine.specs.Instructions.{Store, fresh, values}
 use Rattle.order.specs.Laws.LengthLaws.{body-short}
 use Rattle.plan.specs.Runs as runs
 use Rattle.plan.specs.Runs.{Plan, Step, JobRun, jobTotal, stepBytes, stepEffect, stepMade, runningAfter, runJob}
-use Rattle.matching.specs.Laws.Histories.{Mark, Running, job, unbegun, effectOf, stepped, markStep, runMarks}
+use Rattle.matching.specs.Laws.Histories.{Mark, ColumnRun, job, unbegun, effectOf, stepped, markStep, runMarks}
 use Rattle.matching.specs.Laws.PlanReading.{marksBytes, stepOf, Allowed, Whole, standing}
 
 -- ---- a plan's next two bytes
@@ -87,7 +87,7 @@ module _ (a : Accepted) (plan : Plan) (x : Job) (left : ℕ) (local : Local) (pr
   unfolding runJob _>>=_ if_then_else_
   job-goes allowed does makes leaves goes later = then-goes _ allowed ∙ rw (does, makes, leaves, goes, later) refl
 
-module _ (a : Accepted) (plan : Plan) (x : ℕ) (o : ℕ) {m : Mark} {rest : List ℕ} (two : Two plan o (m .round) (m .value) rest) (c : Running) where
+module _ (a : Accepted) (plan : Plan) (x : ℕ) (o : ℕ) {m : Mark} {rest : List ℕ} (two : Two plan o (m .round) (m .value) rest) (c : ColumnRun) where
   -- the mark's two bytes are allowed
   mark-passes : {previous : ℕ} → Allowed a x previous m c → stepBytes a plan (job x) (c .column .local) previous o ≡ passed tt
   unfolding stepBytes
@@ -114,18 +114,18 @@ module _ (a : Accepted) (plan : Plan) (x : ℕ) (o : ℕ) {m : Mark} {rest : Lis
   mark-leaves flags = rw (two .first) refl
 
 -- the run of job x in c whose next mark m is its last, and the one that goes on
-unfoldable lastRun : Accepted → ℕ → Mark → Running → ℕ → Flags → JobRun
+unfoldable lastRun : Accepted → ℕ → Mark → ColumnRun → ℕ → Flags → JobRun
 lastRun a x m c o flags =
     record {
       steps = stepOf a x m (effectOf a x m c) ∷ [];
       running = standing (o + 2) (flagged (effectOf a x m c .failed) x flags) (markStep a x m c);
     }
 
-unfoldable longerRun : Accepted → ℕ → Mark → Running → JobRun → JobRun
+unfoldable longerRun : Accepted → ℕ → Mark → ColumnRun → JobRun → JobRun
 longerRun a x m c rest = record { steps = stepOf a x m (effectOf a x m c) ∷ rest .steps; running = rest .running }
 
 module _ (a : Accepted) (plan : Plan) (x left previous o : ℕ) {m : Mark} {rest : List ℕ} (two : Two plan o (m .round) (m .value) rest)
-    (c : Running) (flags : Flags) (allowed : Allowed a x previous m c) where
+    (c : ColumnRun) (flags : Flags) (allowed : Allowed a x previous m c) where
   mark-ends : markStep a x m c .column .ended ≡ true
       → runJob a plan (job x) (suc left) (c .column .local) previous (standing o flags c) ≡ passed (lastRun a x m c o flags)
   unfolding markStep stepped lastRun
@@ -145,7 +145,7 @@ module _ (a : Accepted) (plan : Plan) (x left previous o : ℕ) {m : Mark} {rest
 -- ---- a job
 
 -- a run of job x over these marks, from c and an offset on
-pub record JobRead (a : Accepted) (x : ℕ) (ms : List Mark) (c : Running) (o : ℕ) (flags : Flags) (one : JobRun) : Type 0 where
+pub record JobRead (a : Accepted) (x : ℕ) (ms : List Mark) (c : ColumnRun) (o : ℕ) (flags : Flags) (one : JobRun) : Type 0 where
   pub offset : one .running .offset ≡ o + 2 * length ms
   pub stores : one .running .stores ≡ runMarks a x ms c .stores
   pub steps : c .column .steps ++ one .steps ≡ runMarks a x ms c .column .steps
@@ -155,7 +155,7 @@ pub record JobRead (a : Accepted) (x : ℕ) (ms : List Mark) (c : Running) (o : 
   pub noted : runMarks a x ms c .column .failed ≡ (c .column .failed || fails)
 
 -- the last step alone
-read-last : (a : Accepted) (x : ℕ) (m : Mark) (ms : List Mark) (c : Running) (o : ℕ) (flags : Flags) → ms ≡ []
+read-last : (a : Accepted) (x : ℕ) (m : Mark) (ms : List Mark) (c : ColumnRun) (o : ℕ) (flags : Flags) → ms ≡ []
     → JobRead a x (m ∷ ms) c o flags (lastRun a x m c o flags)
 unfolding runMarks markStep stepped stepOf lastRun
 read-last a x m (n ∷ ms) c o flags none = absurd (let long = ap length none in omega arith)
@@ -169,7 +169,7 @@ read-last a x m [] c o flags none = record {
 }
 
 -- one step and those after it
-read-more : (a : Accepted) (x : ℕ) (m : Mark) (ms : List Mark) (c : Running) (o : ℕ) (flags : Flags) {rest : JobRun}
+read-more : (a : Accepted) (x : ℕ) (m : Mark) (ms : List Mark) (c : ColumnRun) (o : ℕ) (flags : Flags) {rest : JobRun}
     → JobRead a x ms (markStep a x m c) (o + 2) (flagged (effectOf a x m c .failed) x flags) rest
     → JobRead a x (m ∷ ms) c o flags (longerRun a x m c rest)
 unfolding runMarks markStep stepped stepOf longerRun
@@ -186,7 +186,7 @@ read-more a x m ms c o flags {rest} later =
 
 module _ (a : Accepted) (plan : Plan) (x : ℕ) where
   -- a job whose marks stand in the plan and are whole runs over them
-  pub job-runs : (ms : List Mark) (left previous o : ℕ) (c : Running) (flags : Flags) (rest : List ℕ) → Whole a x previous ms c
+  pub job-runs : (ms : List Mark) (left previous o : ℕ) (c : ColumnRun) (flags : Flags) (rest : List ℕ) → Whole a x previous ms c
       → drop o plan ≡ marksBytes ms ++ rest → length ms ≤ left
       → (one : JobRun) × (runJob a plan (job x) left (c .column .local) previous (standing o flags c) ≡ passed one) × JobRead a x ms c o flags one
   unfolding marksBytes each
@@ -243,7 +243,7 @@ module _ (a : Accepted) (plan : Plan) (x : ℕ) (stores : List Store) where
 
 module _ {a : Accepted} (ok : IsAccepted a) (x : ℕ) (isJob : x < jobTotal a) where
   -- each step goes on in the body, so from a place in it no more steps come than instructions are left
-  whole-within : (ms : List Mark) (previous : ℕ) (c : Running) → Whole a x previous ms c
+  whole-within : (ms : List Mark) (previous : ℕ) (c : ColumnRun) → Whole a x previous ms c
       → c .column .local .next < length (bodyOf (taskOf (a .table) (jobAt a (job x) .task)))
       → c .column .local .next + length ms ≤ length (bodyOf (taskOf (a .table) (jobAt a (job x) .task)))
   unfolding markStep stepped effectOf base job jobTotal

@@ -30,7 +30,7 @@ use Rattle.order.specs.Laws.StepLaws.{GoodTurn, flag-here, flag-other, afterEff
 use Rattle.plan.specs.Runs.{jobTotal}
 use Rattle.matching.specs.Laws.ColumnLaws.{columns-jobs, columns-length, columns-marked}
 use Rattle.matching.specs.Laws.EndedLaws.{ended-fewer}
-use Rattle.matching.specs.Laws.Histories.{Mark, Marks, job, marked, inRound, Column, unbegun, effectOf, stepped, markStep, runMarks, Columns, columnsFrom, columns}
+use Rattle.matching.specs.Laws.Histories.{Mark, Marks, job, marked, inRound, JobColumn, unbegun, effectOf, stepped, markStep, runMarks, Columns, columnsFrom, columns}
 use Rattle.notation.specs.Laws.ElementLaws.{none-or-some, or-none, at-every}
 use Rattle.matching.specs.Laws.Traces.{Traced}
 use Rattle.matching.specs.Laws.TurnTraceLaws.{GoesOn, Starts, under-lower, active-lower}
@@ -58,7 +58,7 @@ abbrev pub markAt : ℕ → ℕ → Mark
 markAt r v = record { round = r; value = v }
 
 -- a job's own state is as its column says
-abbrev Agrees : List Column → Frame → Type 0
+abbrev Agrees : List JobColumn → Frame → Type 0
 Agrees jobs f = getD jobs (f .job .0) unbegun .local ≡ f .local
 
 module _ {a : Accepted} (ok : IsAccepted a) {s : State} (inv : Invariant a s) {r : ℕ} {guesses : List Store} {h : Marks} {done : List ℕ}
@@ -109,7 +109,7 @@ module _ {a : Accepted} (ok : IsAccepted a) {s : State} (inv : Invariant a s) {r
   agree-turn = elim kind [
     | inl goes ↦ subst (Every (Agrees (now .jobs))) goes agree-active .0
     | inr starts ↦
-        ap (λ (c : Column). c .local) (column-none a 0 h x guesses (t .none-yet x (good .running .job) (starts .unbegun)))
+        ap (λ (c : JobColumn). c .local) (column-none a 0 h x guesses (t .none-yet x (good .running .job) (starts .unbegun)))
         ∙ sym (starts .isFresh)
   ]
 
@@ -123,7 +123,7 @@ module _ {a : Accepted} (ok : IsAccepted a) {s : State} (inv : Invariant a s) {r
         ∙ is
 
     -- the columns after it
-    abbrev pub ownColumn : Column
+    abbrev pub ownColumn : JobColumn
     ownColumn = stepped a x (markAt r v) effect (record { column = getD (now .jobs) x unbegun; stores = now .stores }) .column
 
     abbrev pub moved : Columns
@@ -154,7 +154,7 @@ module _ {a : Accepted} (ok : IsAccepted a) {s : State} (inv : Invariant a s) {r
     agree-lower : (fs : List Frame) → Every (λ f. f .job .0 < x) fs → Every (Agrees (now .jobs)) fs → Every (Agrees (moved .jobs)) fs
     agree-lower [] lower agree = tt
     agree-lower (f ∷ fs) lower agree = (
-      ap (λ (c : Column). c .local) (moved-other (f .job .0) (λ e. omega (arith, lower .0))) ∙ agree .0,
+      ap (λ (c : JobColumn). c .local) (moved-other (f .job .0) (λ e. omega (arith, lower .0))) ∙ agree .0,
       agree-lower fs (lower .1) (agree .1),
     )
 
@@ -166,7 +166,7 @@ module _ {a : Accepted} (ok : IsAccepted a) {s : State} (inv : Invariant a s) {r
           | inl ends ↦ subst (Every (Agrees (moved .jobs))) (sym (active-ended ok inv good effect ends)) under
           | inr goes ↦
               subst (Every (Agrees (moved .jobs))) (sym (active-goes ok inv good effect goes))
-              (ap (λ (c : Column). c .local) moved-own, under)
+              (ap (λ (c : JobColumn). c .local) moved-own, under)
         ]
 
     pub moved-locals : (k : ℕ) (d : Frame) → k < length (after .active) → Agrees (moved .jobs) (getD (after .active) k d)
@@ -185,11 +185,11 @@ module _ {a : Accepted} (ok : IsAccepted a) {s : State} (inv : Invariant a s) {r
     moved-endings y lt = elim (ℕ-discrete y x) [
       | yes same ↦
           ap (λ (n : ℕ). getD (moved .jobs) n unbegun .ended) same
-          ∙ ap (λ (c : Column). c .ended) moved-own
+          ∙ ap (λ (c : JobColumn). c .ended) moved-own
           ∙ sym ended-here
           ∙ ap (λ (n : ℕ). hasEnded after (job n)) (sym same)
       | no apart ↦
-          ap (λ (c : Column). c .ended) (moved-other y apart)
+          ap (λ (c : JobColumn). c .ended) (moved-other y apart)
           ∙ t .endings y lt
           ∙ sym (ended-other ok inv good effect (job y) apart)
     ]
@@ -207,11 +207,11 @@ module _ {a : Accepted} (ok : IsAccepted a) {s : State} (inv : Invariant a s) {r
     moved-failures y lt = elim (ℕ-discrete y x) [
       | yes same ↦
           ap (λ (n : ℕ). getD (moved .jobs) n unbegun .failed) same
-          ∙ ap (λ (c : Column). c .failed) moved-own
+          ∙ ap (λ (c : JobColumn). c .failed) moved-own
           ∙ failed-here
           ∙ ap (λ (n : ℕ). getD (after .failed) n false) (sym same)
       | no apart ↦
-          ap (λ (c : Column). c .failed) (moved-other y apart)
+          ap (λ (c : JobColumn). c .failed) (moved-other y apart)
           ∙ t .failures y lt
           ∙ sym (flag-other (effect .failed) x y (s .failed) apart)
     ]

@@ -14,7 +14,7 @@ use Rattle.machine.specs.Instructions.{Store}
 use Rattle.order.specs.States.{State, initial, hasEnded}
 use Rattle.order.specs.Laws.StepLaws.{no-flag}
 use Rattle.plan.specs.Runs.{jobTotal}
-use Rattle.matching.specs.Laws.Histories.{Marks, job, unbegun, columns, Column}
+use Rattle.matching.specs.Laws.Histories.{Marks, job, unbegun, columns, JobColumn}
 use Rattle.matching.specs.Laws.PairedLaws.{paired-initial}
 use Rattle.matching.specs.Laws.Pairings.{Made, Paired}
 use Rattle.matching.specs.Laws.PartLaws.{parts-none}
@@ -29,7 +29,7 @@ abbrev pub stepsBy : Accepted → Marks → List Store → Made
 stepsBy a h guesses = λ x. getD (columns a h guesses .jobs) x unbegun .steps
 
 -- after the steps `done`, in round r, with the trace t
-pub record Kept (a : Accepted) (s : State) (r : ℕ) (t : Trace) (done : List ℕ) : Type 0 where
+pub record OrderKept (a : Accepted) (s : State) (r : ℕ) (t : Trace) (done : List ℕ) : Type 0 where
   pub follows : Traced a s r (t .guesses) (t .marks) done
   pub parts : Parts a (t .marks) (t .guesses) (λ x. hasEnded s (job x))
   pub pairs : Paired a s r (stepsBy a (t .marks) (t .guesses))
@@ -49,13 +49,13 @@ parts-same a h S before after same parts x below = subst (Part a h S x) (sym (sa
 -- no job has made a step
 start-steps : (a : Accepted) (guesses : List Store) (x : ℕ) → stepsBy a (replicate (jobTotal a) []) guesses x ≡ []
 unfolding unbegun
-start-steps a guesses x = ap (λ (c : Column). c .steps) (start-column a guesses x)
+start-steps a guesses x = ap (λ (c : JobColumn). c .steps) (start-column a guesses x)
 
 start-ended : (a : Accepted) (x : ℕ) → hasEnded (initial a) (job x) ≡ false
 unfolding initial hasEnded noFlags job
 start-ended a x = no-flag 32 x
 
-pub kept-initial : {a : Accepted} → IsAccepted a → Kept a (initial a) 0 (startTrace a) []
+pub kept-initial : {a : Accepted} → IsAccepted a → OrderKept a (initial a) 0 (startTrace a) []
 unfolding startTrace initial noFlags
 kept-initial {a} ok =
     let guesses : List Store = firstGuess (a .table .store) (jobTotal a) in

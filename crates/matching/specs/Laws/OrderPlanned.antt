@@ -24,8 +24,8 @@ use Rattle.plan.specs.Plans.{legalRun, endOf, Legal}
 use Rattle.plan.specs.Runs.{Plan, JobRuns, guess, jobTotal, runPlan}
 use Rattle.matching.specs.Laws.ColumnLaws.{columns-jobs}
 use Rattle.matching.specs.Conversions.{planOf, orderOf}
-use Rattle.matching.specs.Laws.Histories.{Marks, job, rows, Column, unbegun, columns}
-use Rattle.matching.specs.Laws.OrderKept.{stepsBy, Kept, parts-same}
+use Rattle.matching.specs.Laws.Histories.{Marks, job, rows, JobColumn, unbegun, columns}
+use Rattle.matching.specs.Laws.OrderKept.{stepsBy, OrderKept, parts-same}
 use Rattle.matching.specs.Laws.OrderRuns.{kept-complete, stores-complete}
 use Rattle.matching.specs.Laws.PairedLegal.{SameSteps, paired-legal}
 use Rattle.matching.specs.Laws.PartLaws.{parts-all}
@@ -62,7 +62,7 @@ module _ {a : Accepted} (ok : IsAccepted a) {order : List ℕ} {s : State} (comp
   abbrev runs : JobRuns
   runs = runsOf a order
 
-  kept : Kept a s (jobTotal a) (traceOf a order) order
+  kept : OrderKept a s (jobTotal a) (traceOf a order) order
   kept = kept-complete ok complete
 
   order-written : planOf a order ≡ plan
@@ -93,7 +93,7 @@ module _ {a : Accepted} (ok : IsAccepted a) {order : List ℕ} {s : State} (comp
 
   same-steps : SameSteps a runs (stepsBy a h guesses)
   unfolding runsOf columnsRun guessed columns jobTotal
-  same-steps x isJob = map-at (λ (c : Column). c .steps) (columns a h guesses .jobs) (x .0) unbegun [] (omega (arith, column-count))
+  same-steps x isJob = map-at (λ (c : JobColumn). c .steps) (columns a h guesses .jobs) (x .0) unbegun [] (omega (arith, column-count))
 
   run-stores : runs .running .stores ≡ columns a h guesses .stores
   unfolding runsOf columnsRun guessed columns
@@ -143,7 +143,7 @@ module _ {a : Accepted} (ok : IsAccepted a) {order : List ℕ} {s : State} (comp
   order-back : orderOf a runs ≡ order
   unfolding runsOf columnsRun guessed columns
   order-back =
-      rows-order a runs (map-length (λ (c : Column). c .steps) (columns a h guesses .jobs) ∙ column-count)
+      rows-order a runs (map-length (λ (c : JobColumn). c .steps) (columns a h guesses .jobs) ∙ column-count)
       ∙ ap (rows a (jobTotal a)) (marks-back a h 0 (guessed a guesses))
       ∙ kept .follows .by-rows
 

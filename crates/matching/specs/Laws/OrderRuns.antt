@@ -1,4 +1,4 @@
--- What `Kept` says of an order so far holds after any allowed bytes, and of a complete order: every job has ended, so the last round is
+-- What `OrderKept` says of an order so far holds after any allowed bytes, and of a complete order: every job has ended, so the last round is
 -- over, and as many stores are in its history as it has jobs.
 -- Assumes nothing.
 use mathlib.Core.Path.{_≡_, refl, sym, ap, subst, _∙_}
@@ -17,9 +17,9 @@ use Rattle.order.specs.Orders.{performed, step, run, Complete}
 use Rattle.order.specs.States.{State, initial, hasEnded}
 use Rattle.order.specs.Laws.StepLaws.{Step, step-says, step-keeps, initial-invariant}
 use Rattle.plan.specs.Runs.{jobTotal}
-use Rattle.matching.specs.Conversions.{History, noting, historyFrom}
+use Rattle.matching.specs.Conversions.{OrderRounds, noting, roundsFrom}
 use Rattle.matching.specs.Laws.EndedLaws.{ended-all}
-use Rattle.matching.specs.Laws.OrderKept.{Kept, kept-initial}
+use Rattle.matching.specs.Laws.OrderKept.{OrderKept, kept-initial}
 use Rattle.matching.specs.Laws.OrderSteps.{kept-turn}
 use Rattle.matching.specs.Laws.TraceMore.{run-first, trace-first, roundAfter}
 use Rattle.matching.specs.Laws.TraceSteps.{Trace, traced, traceFrom, startTrace, traceOf}
@@ -42,15 +42,15 @@ module _ {a : Accepted} {s : State} {byte : ℕ} {next : State} (said : Step a s
   trace-on t = trace-first a s r t byte bytes said
 
   -- and so does the history, which has one store more if the step was an End
-  stores-on : r + length (historyFrom a s r (byte ∷ bytes) .stores) ≡ roundNext + length (historyFrom a next roundNext bytes .stores)
-  unfolding historyFrom noting if_then_else_
+  stores-on : r + length (roundsFrom a s r (byte ∷ bytes) .stores) ≡ roundNext + length (roundsFrom a next roundNext bytes .stores)
+  unfolding roundsFrom noting if_then_else_
   stores-on =
       let due = said .due in
-      let go : State → History = λ n. noting s r (byte % 16) (said .turn) n (λ later. historyFrom a n later bytes) in
-      let first : historyFrom a s r (byte ∷ bytes) ≡ go (performed a s (byte % 16) (said .turn)) = rw (due, historyFrom) refl in
-      ap (λ (h : History). r + length (h .stores)) (first ∙ ap go (said .made)) ∙ count (hasEnded next x)
+      let go : State → OrderRounds = λ n. noting s r (byte % 16) (said .turn) n (λ later. roundsFrom a n later bytes) in
+      let first : roundsFrom a s r (byte ∷ bytes) ≡ go (performed a s (byte % 16) (said .turn)) = rw (due, roundsFrom) refl in
+      ap (λ (h : OrderRounds). r + length (h .stores)) (first ∙ ap go (said .made)) ∙ count (hasEnded next x)
     where
-      count : (b : Bool) → let rest = historyFrom a next (if b then suc r else r) bytes .stores in
+      count : (b : Bool) → let rest = roundsFrom a next (if b then suc r else r) bytes .stores in
           r + length (if b then next .store ∷ rest else rest) ≡ (if b then suc r else r) + length rest
       count true = omega arith
       count false = refl
@@ -60,17 +60,17 @@ module _ {a : Accepted} {s : State} {byte : ℕ} {next : State} (said : Step a s
 -- what the bytes of a run lead to: the round, and the trace and the stores up to it
 pub record Arrives (a : Accepted) (s : State) (r : ℕ) (t : Trace) (bytes done : List ℕ) (end : State) : Type 0 where
   pub round : ℕ
-  pub kept : Kept a end round (traceFrom a s r t bytes) (done ++ bytes)
-  pub stores : r + length (historyFrom a s r bytes .stores) ≡ round
+  pub kept : OrderKept a end round (traceFrom a s r t bytes) (done ++ bytes)
+  pub stores : r + length (roundsFrom a s r bytes .stores) ≡ round
 
 pub kept-run : {a : Accepted} → IsAccepted a → (bytes : List ℕ) (s : State) (r : ℕ) (t : Trace) (done : List ℕ) {end : State} → Invariant a s
-    → Kept a s r t done → run a s bytes ≡ some end → Arrives a s r t bytes done end
-unfolding run traceFrom historyFrom
+    → OrderKept a s r t done → run a s bytes ≡ some end → Arrives a s r t bytes done end
+unfolding run traceFrom roundsFrom
 kept-run {a} ok [] s r t done {end} inv kept e =
     let same : s ≡ end = cc in
     record {
       round = r;
-      kept = subst (λ (n : State). Kept a n r t (done ++ [])) same (subst (Kept a s r t) (sym (append-nil done)) kept);
+      kept = subst (λ (n : State). OrderKept a n r t (done ++ [])) same (subst (OrderKept a s r t) (sym (append-nil done)) kept);
       stores = omega arith;
     }
 kept-run {a} ok (byte ∷ bytes) s r t done {end} inv kept e =
@@ -81,8 +81,8 @@ kept-run {a} ok (byte ∷ bytes) s r t done {end} inv kept e =
     record {
       round = rest .round;
       kept =
-          subst (λ (u : Trace). Kept a end (rest .round) u (done ++ (byte ∷ bytes))) (sym (trace-on said r bytes t))
-          (subst (Kept a end (rest .round) _) (append-assoc done (byte ∷ []) bytes) (rest .kept));
+          subst (λ (u : Trace). OrderKept a end (rest .round) u (done ++ (byte ∷ bytes))) (sym (trace-on said r bytes t))
+          (subst (OrderKept a end (rest .round) _) (append-assoc done (byte ∷ []) bytes) (rest .kept));
       stores = stores-on said r bytes ∙ rest .stores;
     }
 
@@ -96,10 +96,10 @@ module _ {a : Accepted} (ok : IsAccepted a) {order : List ℕ} {s : State} (comp
   last-round = sym (arrives .kept .follows .ends) ∙ ended-all a s (complete .finished)
 
   -- after a complete order
-  pub kept-complete : Kept a s (jobTotal a) (traceOf a order) order
+  pub kept-complete : OrderKept a s (jobTotal a) (traceOf a order) order
   unfolding traceOf
-  kept-complete = subst (λ (n : ℕ). Kept a s n (traceOf a order) order) last-round (arrives .kept)
+  kept-complete = subst (λ (n : ℕ). OrderKept a s n (traceOf a order) order) last-round (arrives .kept)
 
   -- each End left a store
-  pub stores-complete : length (historyFrom a (initial a) 0 order .stores) ≡ jobTotal a
+  pub stores-complete : length (roundsFrom a (initial a) 0 order .stores) ≡ jobTotal a
   stores-complete = omega (arith, arrives .stores, last-round)

@@ -1,4 +1,4 @@
--- Every step of an order keeps what `Kept` says of the order so far and its trace.
+-- Every step of an order keeps what `OrderKept` says of the order so far and its trace.
 -- Assumes nothing.
 use mathlib.Core.Path.{_≡_, refl, sym, ap, subst, _∙_}
 use mathlib.Core.Logic.{_⊎_}
@@ -25,12 +25,12 @@ use Rattle.order.specs.Orders.{nextOf, step}
 use Rattle.order.specs.States.{State, hasEnded}
 use Rattle.order.specs.Laws.StepLaws.{GoodTurn, good-turn, afterEffect, Step, step-says}
 use Rattle.plan.specs.Runs.{jobTotal}
-use Rattle.matching.specs.Laws.AdvanceLaws.{stepMade, roundAfter, madeAfter}
+use Rattle.matching.specs.Laws.AdvanceLaws.{turnStep, roundNext, madeAfter}
 use Rattle.matching.specs.Laws.ColumnLaws.{elsewhere, run-snoc, columns-frame}
-use Rattle.matching.specs.Laws.Histories.{Mark, Marks, job, marked, inRound, Column, unbegun, Running, stepped, markStep, runMarks, Columns, columns}
+use Rattle.matching.specs.Laws.Histories.{Mark, Marks, job, marked, inRound, JobColumn, unbegun, ColumnRun, stepped, markStep, runMarks, Columns, columns}
 use Rattle.matching.specs.Laws.MadeLaws.{made-here, made-other}
 use Rattle.matching.specs.Laws.MovedLaws.{markAt, round-open, job-listed, has-column, none-above, agree-turn, ownColumn, columns-moved}
-use Rattle.matching.specs.Laws.OrderKept.{stepsBy, Kept}
+use Rattle.matching.specs.Laws.OrderKept.{stepsBy, OrderKept}
 use Rattle.matching.specs.Laws.PairedLaws.{turnEffect, paired-turn}
 use Rattle.matching.specs.Laws.Pairings.{Made, Paired}
 use Rattle.matching.specs.Laws.PartLaws.{before-upto, parts-guess, parts-marked, column-at}
@@ -82,7 +82,7 @@ last-within r p (m ∷ ms) le none =
 
 -- ---- one step
 
-module _ {a : Accepted} (ok : IsAccepted a) {s : State} (inv : Invariant a s) {r : ℕ} {t : Trace} {done : List ℕ} (kept : Kept a s r t done)
+module _ {a : Accepted} (ok : IsAccepted a) {s : State} (inv : Invariant a s) {r : ℕ} {t : Trace} {done : List ℕ} (kept : OrderKept a s r t done)
     {byte : ℕ} {after : State} (said : Step a s byte after) where
   abbrev x : Job
   x = said .turn .frame .job
@@ -133,12 +133,12 @@ module _ {a : Accepted} (ok : IsAccepted a) {s : State} (inv : Invariant a s) {r
   -- ---- the columns
 
   -- the job where it stands before the step
-  abbrev standing : Running
+  abbrev standing : ColumnRun
   standing = runMarks a (x .0) (getD h (x .0) []) (beginning a h guesses (x .0))
 
   own-local : standing .column .local ≡ said .turn .frame .local
   own-local =
-      ap (λ (c : Column). c .local) (sym (column-at a h (x .0) guesses listed)) ∙ agree-turn ok inv (kept .follows) good kind
+      ap (λ (c : JobColumn). c .local) (sym (column-at a h (x .0) guesses listed)) ∙ agree-turn ok inv (kept .follows) good kind
 
   -- the step's own column, and another's
   own-column : getD (columns a more guesses .jobs) (x .0) unbegun ≡ ownColumn ok inv (kept .follows) good kind v effect refl
@@ -160,11 +160,11 @@ module _ {a : Accepted} (ok : IsAccepted a) {s : State} (inv : Invariant a s) {r
       (getD-set-same h (x .0) (getD h (x .0) [] ++ (m ∷ [])) [] listed)
       ∙ ap (λ (S : List Store). runMarks a (x .0) (getD h (x .0) [] ++ (m ∷ [])) (record { column = unbegun; stores = S }) .column)
       (before-upto a h (x .0) m guesses (x .0) (omega arith))
-      ∙ ap (λ (c : Running). c .column) (run-snoc a (x .0) (getD h (x .0) []) m (beginning a h guesses (x .0)))
+      ∙ ap (λ (c : ColumnRun). c .column) (run-snoc a (x .0) (getD h (x .0) []) m (beginning a h guesses (x .0)))
 
   own-ended : hasEnded after (job (x .0)) ≡ markStep a (x .0) m standing .column .ended
   unfolding job stepped
-  own-ended = ended-is ∙ ap (λ (c : Column). c .ended) (sym own-column ∙ own-marked)
+  own-ended = ended-is ∙ ap (λ (c : JobColumn). c .ended) (sym own-column ∙ own-marked)
 
   -- ---- the jobs' runs
 
@@ -192,17 +192,17 @@ module _ {a : Accepted} (ok : IsAccepted a) {s : State} (inv : Invariant a s) {r
   before = stepsBy a h guesses
 
   steps-after : (y : ℕ) → madeAfter a r v (said .turn) (turnEffect a s v (said .turn)) before y ≡ stepsBy a more guesses y
-  unfolding madeAfter turnEffect stepMade stepped job
+  unfolding madeAfter turnEffect turnStep stepped job
   steps-after y =
       elim (ℕ-discrete y (x .0)) [
         | yes same ↦
             ap (λ (n : ℕ). madeAfter a r v (said .turn) effect before n) same
-            ∙ made-here before (x .0) (stepMade a r v (said .turn) effect)
-            ∙ sym (ap (λ (c : Column). c .steps) own-column)
+            ∙ made-here before (x .0) (turnStep a r v (said .turn) effect)
+            ∙ sym (ap (λ (c : JobColumn). c .steps) own-column)
             ∙ ap (λ (n : ℕ). stepsBy a more guesses n) (sym same)
         | no apart ↦
-            made-other before (x .0) (stepMade a r v (said .turn) effect) y apart
-            ∙ sym (ap (λ (c : Column). c .steps) (other-column y apart))
+            made-other before (x .0) (turnStep a r v (said .turn) effect) y apart
+            ∙ sym (ap (λ (c : JobColumn). c .steps) (other-column y apart))
       ]
 
   steps-opened : (y : ℕ) → stepsBy a more (set guesses (suc r) (after .store)) y ≡ stepsBy a more guesses y
@@ -210,8 +210,8 @@ module _ {a : Accepted} (ok : IsAccepted a) {s : State} (inv : Invariant a s) {r
   steps-opened y =
       ap (λ (c : Columns). getD (c .jobs) y unbegun .steps) (columns-frame a 0 (suc r) (after .store) more guesses more-later)
 
-  round-is : roundAfter r (turnEffect a s v (said .turn)) ≡ (if hasEnded after x then suc r else r)
-  unfolding roundAfter turnEffect
+  round-is : roundNext r (turnEffect a s v (said .turn)) ≡ (if hasEnded after x then suc r else r)
+  unfolding roundNext turnEffect
   round-is = ap (λ (b : Bool). if b then suc r else r) (sym ended-is)
 
   pairs-after : Paired a after (if hasEnded after x then suc r else r) (stepsBy a more guesses)
@@ -246,7 +246,7 @@ module _ {a : Accepted} (ok : IsAccepted a) {s : State} (inv : Invariant a s) {r
   -- ---- all of it
 
   abbrev Next : Bool → Type 0
-  Next ends = Kept a after (if ends then suc r else r) (traced r (x .0) v ends (after .store) t) (done ++ (byte ∷ []))
+  Next ends = OrderKept a after (if ends then suc r else r) (traced r (x .0) v ends (after .store) t) (done ++ (byte ∷ []))
 
   kept-ends : hasEnded after x ≡ true → Next true
   unfolding traced if_then_else_
@@ -278,9 +278,9 @@ module _ {a : Accepted} (ok : IsAccepted a) {s : State} (inv : Invariant a s) {r
       go false e = kept-goes e
 
 -- every step keeps it, with the trace that the step makes
-pub kept-step : {a : Accepted} → IsAccepted a → {s : State} → Invariant a s → {r : ℕ} {t : Trace} {done : List ℕ} → Kept a s r t done
+pub kept-step : {a : Accepted} → IsAccepted a → {s : State} → Invariant a s → {r : ℕ} {t : Trace} {done : List ℕ} → OrderKept a s r t done
     → (byte : ℕ) {after : State} → (e : step a s byte ≡ some after)
     → let x = step-says a s byte e .turn .frame .job in
     let ends : Bool = hasEnded after x in
-    Kept a after (if ends then suc r else r) (traced r (x .0) (byte % 16) ends (after .store) t) (done ++ (byte ∷ []))
+    OrderKept a after (if ends then suc r else r) (traced r (x .0) (byte % 16) ends (after .store) t) (done ++ (byte ∷ []))
 kept-step {a} ok {s} inv kept byte e = kept-turn ok inv kept (step-says a s byte e)

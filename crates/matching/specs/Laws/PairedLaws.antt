@@ -19,7 +19,7 @@ use Rattle.order.specs.Code.Invariant.{hasBegun, Invariant}
 use Rattle.order.specs.Orders.{Turn, nextOf, step}
 use Rattle.order.specs.States.{State, initial, hasEnded, isActive, presentPriority}
 use Rattle.order.specs.Laws.StepLaws.{Step, good-turn, step-says, no-flag}
-use Rattle.matching.specs.Laws.AdvanceLaws.{advances, roundAfter, madeAfter, under-every}
+use Rattle.matching.specs.Laws.AdvanceLaws.{advances, roundNext, madeAfter, under-every}
 use Rattle.notation.specs.Laws.ElementLaws.{at-every}
 use Rattle.matching.specs.Laws.PreemptionLaws.{paired-advance}
 use Rattle.matching.specs.Laws.Pairings.{Made, madeRounds, last, priorityNow, Paired}
@@ -78,7 +78,7 @@ module _ {a : Accepted} (ok : IsAccepted a) {s : State} (inv : Invariant a s) {r
   abbrev Kept : Step a s byte after → Type 0
   Kept said =
       let effect = turnEffect a s (byte % 16) (said .turn) in
-      Paired a after (roundAfter r effect) (madeAfter a r (byte % 16) (said .turn) effect made)
+      Paired a after (roundNext r effect) (madeAfter a r (byte % 16) (said .turn) effect made)
 
   -- by the step's turn
   pub paired-turn : (said : Step a s byte after) → Kept said
@@ -89,7 +89,7 @@ module _ {a : Accepted} (ok : IsAccepted a) {s : State} (inv : Invariant a s) {r
       (at-every (λ f. priorityNow a made (f .job) ≡ presentPriority a f) (turn .frame) (s .active) (λ k lt. paired .priorities k (turn .frame) lt)) in
       let good = good-turn ok inv (byte / 16) (said .due) .0 in
       let effect = perform (nextOf a (turn .frame)) (byte % 16) (turn .frame .local) (s .store) in
-      subst (λ (t : State). Paired a t (roundAfter r effect) (madeAfter a r (byte % 16) turn effect made))
+      subst (λ (t : State). Paired a t (roundNext r effect) (madeAfter a r (byte % 16) turn effect made))
       (step-after said)
       (paired-advance ok paired (advances ok inv good effect r made (byte % 16) held) inv)
 

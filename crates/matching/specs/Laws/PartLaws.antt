@@ -14,10 +14,10 @@ use Rattle.notation.specs.Lists.{only, lastOr}
 use Rattle.timing.specs.Accepted.{Accepted}
 use Rattle.machine.specs.Instructions.{Store}
 use Rattle.matching.specs.Laws.ColumnLaws.{elsewhere, stored, step-frame, columns-frame, columnsFrom-marked}
-use Rattle.matching.specs.Laws.Histories.{Mark, Marks, marked, inRound, unbegun, Running, stepped, markStep, runMarks, Columns, columnsFrom, columns}
+use Rattle.matching.specs.Laws.Histories.{Mark, Marks, marked, inRound, unbegun, ColumnRun, stepped, markStep, runMarks, Columns, columnsFrom, columns}
 use Rattle.matching.specs.Laws.PlanReading.{Allowed, Whole, AllWhole}
 use Rattle.matching.specs.Laws.PlanReadingLaws.{at-whole}
-use Rattle.matching.specs.Laws.Parts.{lastRound, Going, storesBefore, beginning, Reached, Part, Parts}
+use Rattle.matching.specs.Laws.Parts.{lastRound, Going, storesBefore, beginning, RunsTo, Part, Parts}
 
 -- a job with no step in round q has none in the history of the first x jobs
 none-before : (q x : ℕ) (h : Marks) (y : ℕ) → inRound q (getD h y []) ≡ [] → inRound q (getD (take x h) y []) ≡ []
@@ -32,7 +32,7 @@ module _ (a : Accepted) where
 
   module _ (x : ℕ) (m : Mark) where
     -- a step that does not end the job
-    pub going-more : (ms : List Mark) (p : ℕ) (c : Running) → Going a x p ms c → Allowed a x (lastRound p ms) m (runMarks a x ms c)
+    pub going-more : (ms : List Mark) (p : ℕ) (c : ColumnRun) → Going a x p ms c → Allowed a x (lastRound p ms) m (runMarks a x ms c)
         → markStep a x m (runMarks a x ms c) .column .ended ≡ false → Going a x p (ms ++ (m ∷ [])) c
     unfolding runMarks lastRound lastOr
     going-more [] p c going allowed goes = (allowed, goes, tt)
@@ -40,7 +40,7 @@ module _ (a : Accepted) where
         (going .0, going .1, going-more ms (n .round) (markStep a x n c) (going .2) allowed goes)
 
     -- and its End
-    pub going-ends : (ms : List Mark) (p : ℕ) (c : Running) → Going a x p ms c → Allowed a x (lastRound p ms) m (runMarks a x ms c)
+    pub going-ends : (ms : List Mark) (p : ℕ) (c : ColumnRun) → Going a x p ms c → Allowed a x (lastRound p ms) m (runMarks a x ms c)
         → markStep a x m (runMarks a x ms c) .column .ended ≡ true → Whole a x p (ms ++ (m ∷ [])) c
     unfolding runMarks lastRound lastOr
     going-ends [] p c going allowed ends = (allowed, inl (ends, refl))
@@ -51,15 +51,15 @@ module _ (a : Accepted) where
 
   module _ (x q : ℕ) (s : Store) where
     -- what a step may be does not turn on the stores
-    allowed-frame : (p : ℕ) (m : Mark) (c : Running) → Allowed a x p m c → Allowed a x p m (stored q s c)
+    allowed-frame : (p : ℕ) (m : Mark) (c : ColumnRun) → Allowed a x p m c → Allowed a x p m (stored q s c)
     allowed-frame p m c allowed =
         record { inPlan = allowed .inPlan; inOrder = allowed .inOrder; onOffer = allowed .onOffer }
 
-    ended-frame : (m : Mark) (c : Running) (b : Bool) → m .round ≢ q → markStep a x m c .column .ended ≡ b
+    ended-frame : (m : Mark) (c : ColumnRun) (b : Bool) → m .round ≢ q → markStep a x m c .column .ended ≡ b
         → markStep a x m (stored q s c) .column .ended ≡ b
-    ended-frame m c b other e = ap (λ (r : Running). r .column .ended) (step-frame a x m q s c other) ∙ e
+    ended-frame m c b other e = ap (λ (r : ColumnRun). r .column .ended) (step-frame a x m q s c other) ∙ e
 
-    pub going-frame : (ms : List Mark) (p : ℕ) (c : Running) → inRound q ms ≡ [] → Going a x p ms c → Going a x p ms (stored q s c)
+    pub going-frame : (ms : List Mark) (p : ℕ) (c : ColumnRun) → inRound q ms ≡ [] → Going a x p ms c → Going a x p ms (stored q s c)
     going-frame [] p c none going = tt
     going-frame (m ∷ ms) p c none going =
         let apart = elsewhere q m ms none in (
@@ -69,7 +69,7 @@ module _ (a : Accepted) where
               (going-frame ms (m .round) (markStep a x m c) (apart .1) (going .2)),
         )
 
-    pub whole-frame : (ms : List Mark) (p : ℕ) (c : Running) → inRound q ms ≡ [] → Whole a x p ms c → Whole a x p ms (stored q s c)
+    pub whole-frame : (ms : List Mark) (p : ℕ) (c : ColumnRun) → inRound q ms ≡ [] → Whole a x p ms c → Whole a x p ms (stored q s c)
     whole-frame [] p c none whole = whole
     whole-frame (m ∷ ms) p c none whole =
         let apart = elsewhere q m ms none in (
@@ -87,23 +87,23 @@ module _ (a : Accepted) where
   -- ---- to its End or not
 
   -- one step more, and another store, whether the job ends or not
-  reached-more : (x : ℕ) (m : Mark) (ms : List Mark) (c : Running) (b : Bool) → Going a x 0 ms c
+  reached-more : (x : ℕ) (m : Mark) (ms : List Mark) (c : ColumnRun) (b : Bool) → Going a x 0 ms c
       → Allowed a x (lastRound 0 ms) m (runMarks a x ms c) → markStep a x m (runMarks a x ms c) .column .ended ≡ b
-      → Reached a x (ms ++ (m ∷ [])) c b
+      → RunsTo a x (ms ++ (m ∷ [])) c b
   reached-more x m ms c true going allowed e = going-ends x m ms 0 c going allowed e
   reached-more x m ms c false going allowed e = going-more x m ms 0 c going allowed e
 
-  reached-frame : (x q : ℕ) (s : Store) (ms : List Mark) (c : Running) (b : Bool) → inRound q ms ≡ [] → Reached a x ms c b
-      → Reached a x ms (stored q s c) b
+  reached-frame : (x q : ℕ) (s : Store) (ms : List Mark) (c : ColumnRun) (b : Bool) → inRound q ms ≡ [] → RunsTo a x ms c b
+      → RunsTo a x ms (stored q s c) b
   reached-frame x q s ms c true none reached = whole-frame x q s ms 0 c none reached
   reached-frame x q s ms c false none reached = going-frame x q s ms 0 c none reached
 
   -- a run over a job's steps on the stores before it
   part-of : (h : Marks) (S : List Store) (x : ℕ) (b : Bool) (ms : List Mark) (T : List Store) → ms ≡ getD h x [] → T ≡ storesBefore a h S x
-      → Reached a x ms (record { column = unbegun; stores = T }) b → Part a h S x b
+      → RunsTo a x ms (record { column = unbegun; stores = T }) b → Part a h S x b
   part-of h S x b ms T steps stores reached =
-      subst (λ (l : List Mark). Reached a x l (beginning a h S x) b) steps
-      (subst (λ (R : List Store). Reached a x ms (record { column = unbegun; stores = R }) b) stores reached)
+      subst (λ (l : List Mark). RunsTo a x l (beginning a h S x) b) steps
+      (subst (λ (R : List Store). RunsTo a x ms (record { column = unbegun; stores = R }) b) stores reached)
 
   -- ---- no steps, and a guess
 
@@ -225,7 +225,7 @@ module _ (a : Accepted) where
       ap (λ (k : ℕ). runMarks a k ms (record { column = unbegun; stores = S }) .column) (omega arith)
   columnFrom-at (ms ∷ h) n (suc x) S below =
       let next = runMarks a n ms (record { column = unbegun; stores = S }) .stores in
-      let start : Running = record { column = unbegun; stores = columnsFrom a (suc n) (take x h) next .stores } in
+      let start : ColumnRun = record { column = unbegun; stores = columnsFrom a (suc n) (take x h) next .stores } in
       columnFrom-at h (suc n) x next (omega arith)
       ∙ ap (λ (k : ℕ). runMarks a k (getD h x []) start .column) (omega arith)
 

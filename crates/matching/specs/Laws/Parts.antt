@@ -8,7 +8,7 @@ use lib.ListN.{length, getD, take}
 use Rattle.notation.specs.Lists.{lastOr}
 use Rattle.timing.specs.Accepted.{Accepted}
 use Rattle.machine.specs.Instructions.{Store}
-use Rattle.matching.specs.Laws.Histories.{Mark, Marks, Running, unbegun, markStep, columnsFrom}
+use Rattle.matching.specs.Laws.Histories.{Mark, Marks, ColumnRun, unbegun, markStep, columnsFrom}
 use Rattle.matching.specs.Laws.PlanReading.{Allowed, Whole}
 
 -- the round of the last of these steps, or the previous one where there is none
@@ -16,7 +16,7 @@ unfoldable pub lastRound : ℕ → List Mark → ℕ
 lastRound previous ms = lastOr previous (map (λ m. m .round) ms)
 
 -- the marks of job x from here on are a run that has not come to its End
-abbrev pub Going : Accepted → ℕ → ℕ → List Mark → Running → Type 0
+abbrev pub Going : Accepted → ℕ → ℕ → List Mark → ColumnRun → Type 0
 Going a x previous [] c = Unit {0}
 Going a x previous (m ∷ ms) c =
     Allowed a x previous m c × (markStep a x m c .column .ended ≡ false) × Going a x (m .round) ms (markStep a x m c)
@@ -26,17 +26,17 @@ unfoldable pub storesBefore : Accepted → Marks → List Store → ℕ → List
 storesBefore a h stores x = columnsFrom a 0 (take x h) stores .stores
 
 -- where job x begins
-abbrev pub beginning : Accepted → Marks → List Store → ℕ → Running
+abbrev pub beginning : Accepted → Marks → List Store → ℕ → ColumnRun
 beginning a h stores x = record { column = unbegun; stores = storesBefore a h stores x }
 
 -- the marks of job x from its start c on are a run to its End, or one that has not come to it
-abbrev pub Reached : Accepted → ℕ → List Mark → Running → Bool → Type 0
-Reached a x ms c true = Whole a x 0 ms c
-Reached a x ms c false = Going a x 0 ms c
+abbrev pub RunsTo : Accepted → ℕ → List Mark → ColumnRun → Bool → Type 0
+RunsTo a x ms c true = Whole a x 0 ms c
+RunsTo a x ms c false = Going a x 0 ms c
 
 -- the marks of job x in a history are such a run, on the stores that the jobs before it leave
 abbrev pub Part : Accepted → Marks → List Store → ℕ → Bool → Type 0
-Part a h stores x ended = Reached a x (getD h x []) (beginning a h stores x) ended
+Part a h stores x ended = RunsTo a x (getD h x []) (beginning a h stores x) ended
 
 -- those of each job are, to its End where `ended` says so
 abbrev pub Parts : Accepted → Marks → List Store → (ℕ → Bool) → Type 0

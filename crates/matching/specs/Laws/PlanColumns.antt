@@ -22,7 +22,7 @@ use Rattle.plan.specs.Legality.{stepsOf, dueStore}
 use Rattle.plan.specs.Plans.{Legal}
 use Rattle.plan.specs.Runs.{Plan, Step, JobRuns, guess, jobTotal}
 use Rattle.matching.specs.Laws.CutRuns.{whole-at, whole-ends}
-use Rattle.matching.specs.Laws.Histories.{Mark, Marks, job, Column, unbegun, Running, effectOf, stepped, markStep, runMarks, columns}
+use Rattle.matching.specs.Laws.Histories.{Mark, Marks, job, JobColumn, unbegun, ColumnRun, effectOf, stepped, markStep, runMarks, columns}
 use Rattle.matching.specs.Laws.LegalLaws.{legal-run, legal-guesses}
 use Rattle.notation.specs.Laws.ElementLaws.{last-snoc}
 use Rattle.matching.specs.Laws.PartLaws.{column-at}
@@ -37,12 +37,12 @@ use Rattle.matching.specs.Laws.SequenceLaws.{AllRounds}
 
 module _ (a : Accepted) (x : ℕ) where
   -- the last step notes the priority of what the job holds; before the first that is its base
-  abbrev Noting : Column → Type 0
+  abbrev Noting : JobColumn → Type 0
   Noting c =
       lastOr (base a (job x)) (map (λ step. step .priorityAfter) (c .steps))
       ≡ priority (ceilingsOf (a .table)) (base a (job x)) (c .local .held)
 
-  run-notes : (ms : List Mark) (c : Running) → Noting (c .column) → Noting (runMarks a x ms c .column)
+  run-notes : (ms : List Mark) (c : ColumnRun) → Noting (c .column) → Noting (runMarks a x ms c .column)
   unfolding runMarks markStep stepped stepOf
   run-notes [] c e = e
   run-notes (m ∷ ms) c e =
@@ -81,7 +81,7 @@ module _ {a : Accepted} (ok : IsAccepted a) (plan : Plan) {runs : JobRuns} (lega
   pub legal-steps : (y : ℕ) → stepsOf runs (job y) ≡ getD (columns a h S .jobs) y unbegun .steps
   unfolding stepsOf job columnsRun guessed columns unbegun
   legal-steps y =
-      ap (λ (r : JobRuns). getD (r .steps) y []) run-is ∙ List·getD-map (λ (c : Column). c .steps) (columns a h S .jobs) y unbegun
+      ap (λ (r : JobRuns). getD (r .steps) y []) run-is ∙ List·getD-map (λ (c : JobColumn). c .steps) (columns a h S .jobs) y unbegun
 
   pub legal-stores : runs .running .stores ≡ columns a h S .stores
   unfolding columnsRun guessed columns
@@ -103,7 +103,7 @@ module _ {a : Accepted} (ok : IsAccepted a) (plan : Plan) {runs : JobRuns} (lega
   pub legal-ends : (y : ℕ) → y < jobTotal a → getD (columns a h S .jobs) y unbegun .ended ≡ true
   legal-ends y lt =
       let inside : y < length h = omega (arith, legal-back .full) in
-      ap (λ (c : Column). c .ended) (column-at a h y S inside)
+      ap (λ (c : JobColumn). c .ended) (column-at a h y S inside)
       ∙ whole-ends a y (getD h y []) 0 (beginning a h S y) (whole-at a h S y inside (legal-back .whole))
 
 -- a column's last step notes the priority of what its job holds

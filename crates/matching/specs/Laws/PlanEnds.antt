@@ -20,7 +20,7 @@ use Rattle.matching.specs.Laws.Cuts.{Placed, sequence, gathered}
 use Rattle.matching.specs.Laws.EndedLaws.{ended-all}
 use Rattle.matching.specs.Laws.Histories.{Marks, job, columns}
 use Rattle.matching.specs.Laws.PlanColumns.{legal-back, legal-climbs, legal-stores, legal-failed, legal-ends}
-use Rattle.matching.specs.Laws.PlanKept.{doneMarks, doneBytes, Kept, plan-starts}
+use Rattle.matching.specs.Laws.PlanKept.{doneMarks, doneBytes, PlanKept, plan-starts}
 use Rattle.matching.specs.Laws.PlanReading.{marksOf, guessesOf}
 use Rattle.matching.specs.Laws.PlanSteps.{plan-steps}
 use Rattle.matching.specs.Laws.SequenceLaws.{sequence-gathered}
@@ -34,19 +34,19 @@ use Rattle.matching.specs.Laws.TraceSteps.{traceOf}
 
 module _ {a : Accepted} (ok : IsAccepted a) (plan : Plan) {runs : JobRuns} (legal : Legal a plan runs) where
   -- step by step to the end of the sequence
-  steps-on : (rest done : List Placed) (s : State) (r : ℕ) → Kept a plan s r done → sequence (jobTotal a) (marksOf runs) ≡ done ++ rest
-      → (after : State) × (q : ℕ) × Kept a plan after q (sequence (jobTotal a) (marksOf runs))
-  steps-on [] done s r kept split = (s, r, subst (Kept a plan s r) (sym (split ∙ append-nil done)) kept)
+  steps-on : (rest done : List Placed) (s : State) (r : ℕ) → PlanKept a plan s r done → sequence (jobTotal a) (marksOf runs) ≡ done ++ rest
+      → (after : State) × (q : ℕ) × PlanKept a plan after q (sequence (jobTotal a) (marksOf runs))
+  steps-on [] done s r kept split = (s, r, subst (PlanKept a plan s r) (sym (split ∙ append-nil done)) kept)
   steps-on (p ∷ rest) done s r kept split =
       let one = plan-steps ok plan legal kept p rest split in
       steps-on rest (done ++ (p ∷ [])) (one .0) (one .1) (one .2) (split ∙ sym (append-assoc done (p ∷ []) rest))
 
-  pub plan-taken : (s : State) × (r : ℕ) × Kept a plan s r (sequence (jobTotal a) (marksOf runs))
+  pub plan-taken : (s : State) × (r : ℕ) × PlanKept a plan s r (sequence (jobTotal a) (marksOf runs))
   plan-taken = steps-on (sequence (jobTotal a) (marksOf runs)) [] (initial a) 0 (plan-starts ok plan legal) refl
 
   -- ---- after the last
 
-  module _ {s : State} {r : ℕ} (kept : Kept a plan s r (sequence (jobTotal a) (marksOf runs))) where
+  module _ {s : State} {r : ℕ} (kept : PlanKept a plan s r (sequence (jobTotal a) (marksOf runs))) where
     abbrev h : Marks
     h = marksOf runs
 

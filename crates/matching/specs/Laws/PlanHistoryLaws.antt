@@ -24,7 +24,7 @@ use Rattle.timing.specs.Relations.{jobNumbers}
 use Rattle.machine.specs.Instructions.{fresh}
 use Rattle.plan.specs.Runs as runs
 use Rattle.plan.specs.Runs.{Plan, JobRun, JobRuns, jobTotal, guess, runJob, runJobs, runStart, runPlan}
-use Rattle.matching.specs.Laws.Histories.{Mark, Running, job}
+use Rattle.matching.specs.Laws.Histories.{Mark, ColumnRun, job}
 use Rattle.matching.specs.Laws.JobHistoryLaws.{column-read}
 use Rattle.matching.specs.Laws.JobReadingLaws.{column-runs, whole-short}
 use Rattle.matching.specs.Laws.PlanReading.{marksBytes, written, markOf, AllWhole, columnsRun, Eights, guessed, guessesOf, marksOf}

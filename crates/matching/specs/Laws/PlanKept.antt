@@ -58,7 +58,7 @@ abbrev pub doneBytes : Accepted → List Placed → List ℕ
 doneBytes a done = map (placedByte a) done
 
 -- the steps done are an order so far, in round r, whose trace has their marks and the plan's guesses up to round r
-pub record Kept (a : Accepted) (plan : Plan) (s : State) (r : ℕ) (done : List Placed) : Type 0 where
+pub record PlanKept (a : Accepted) (plan : Plan) (s : State) (r : ℕ) (done : List Placed) : Type 0 where
   pub ran : run a (initial a) (doneBytes a done) ≡ some s
   pub inv : Invariant a s
   pub trace : Traced a s r (guessesOf a plan) (doneMarks a done) (doneBytes a done)
@@ -77,7 +77,7 @@ module _ {a : Accepted} (ok : IsAccepted a) (plan : Plan) {runs : JobRuns} (lega
   unfolding dueStore
   guess-first q e lt d = guess-due ok plan legal q lt d ∙ ap (dueStore a runs) e
 
-  pub plan-starts : Kept a plan (initial a) 0 []
+  pub plan-starts : PlanKept a plan (initial a) 0 []
   unfolding run gathered traceOf traceFrom startTrace initial noFlags
   plan-starts = record {
     ran = refl;
@@ -169,7 +169,7 @@ unfolding step stepWith bind if_then_else_
 step-made a s byte turn due offered = rw (due, offered) refl
 
 -- a plan's step that the order may take
-pub record Due (a : Accepted) (s : State) (p : Placed) : Type 0 where
+pub record StepDue (a : Accepted) (s : State) (p : Placed) : Type 0 where
   pub after : State
   pub taken : step a s (placedByte a p) ≡ some after
   pub value : placedByte a p % 16 ≡ p .mark .value
@@ -178,7 +178,7 @@ pub record Due (a : Accepted) (s : State) (p : Placed) : Type 0 where
 module _ (a : Accepted) (s : State) (p : Placed) (turn : Turn) where
   -- its byte, where its value is below 16
   turn-due : turnOf a s (base a (job (p .number))) ≡ some turn → turn .frame .job ≡ job (p .number)
-      → member (p .mark .value) (values (nextOf a (turn .frame))) ≡ true → p .mark .value < 16 → Due a s p
+      → member (p .mark .value) (values (nextOf a (turn .frame))) ≡ true → p .mark .value < 16 → StepDue a s p
   unfolding placedByte
   turn-due due whose offered small =
       let byte : ℕ = placedByte a p in
@@ -195,7 +195,7 @@ module _ (a : Accepted) (s : State) (p : Placed) (turn : Turn) where
       }
 
 module _ {a : Accepted} (ok : IsAccepted a) (plan : Plan) {runs : JobRuns} (legal : Legal a plan runs) {s : State} {r : ℕ} {done : List Placed}
-    (kept : Kept a plan s r done) (p : Placed) (rest : List Placed)
+    (kept : PlanKept a plan s r done) (p : Placed) (rest : List Placed)
     (split : sequence (jobTotal a) (marksOf runs) ≡ done ++ (p ∷ rest)) where
   abbrev cut : Cut (marksOf runs) (doneMarks a done) (p .number) (p .mark)
   cut = plan-cut ok plan legal done p rest split
@@ -226,7 +226,7 @@ module _ {a : Accepted} (ok : IsAccepted a) (plan : Plan) {runs : JobRuns} (lega
       ∙ next-offered a (guessesOf a plan) (legal-back ok plan legal .whole) cut
 
   -- so the order may take it
-  pub next-due : Due a s p
+  pub next-due : StepDue a s p
   unfolding job jobTotal
   next-due =
       turn-due a s p (next-turn .turn) (next-turn .due) (next-turn .whose) turn-offered

@@ -22,7 +22,7 @@ use Rattle.matching.specs.Laws.LegalLaws.{legal-run}
 use Rattle.matching.specs.Laws.OrderRuns.{stores-complete}
 use Rattle.matching.specs.Laws.PlanColumns.{legal-back}
 use Rattle.matching.specs.Laws.PlanEnds.{plan-taken, taken-ended, taken-store, taken-failed, taken-marks, taken-guesses}
-use Rattle.matching.specs.Laws.PlanKept.{doneBytes, Kept}
+use Rattle.matching.specs.Laws.PlanKept.{doneBytes, PlanKept}
 use Rattle.matching.specs.Laws.PlanReading.{marksOf, guessesOf, written}
 use Rattle.matching.specs.Laws.RowLaws.{rows-order}
 use Rattle.matching.specs.Laws.RunLaws.{run-steps}
@@ -38,7 +38,7 @@ module _ {a : Accepted} (ok : IsAccepted a) (plan : Plan) {runs : JobRuns} (lega
   order-bytes =
       rows-order a runs (run-steps a plan (legal-run a plan legal .0)) ∙ rows-sequence a (jobTotal a) (marksOf runs)
 
-  module _ {s : State} {r : ℕ} (kept : Kept a plan s r (sequence (jobTotal a) (marksOf runs))) where
+  module _ {s : State} {r : ℕ} (kept : PlanKept a plan s r (sequence (jobTotal a) (marksOf runs))) where
     order-runs : run a (initial a) (orderOf a runs) ≡ some s
     order-runs = ap (run a (initial a)) order-bytes ∙ kept .ran
 

@@ -19,7 +19,7 @@ use Rattle.machine.specs.Held.{priority}
 use Rattle.machine.specs.Instructions.{Store, values}
 use Rattle.plan.specs.Runs as runs
 use Rattle.plan.specs.Runs.{Plan, Step, JobRuns, guess, jobTotal}
-use Rattle.matching.specs.Laws.Histories.{Mark, Marks, Column, Running, job, unbegun, markStep, runMarks, columnsFrom}
+use Rattle.matching.specs.Laws.Histories.{Mark, Marks, JobColumn, ColumnRun, job, unbegun, markStep, runMarks, columnsFrom}
 
 -- "for each of its steps, two bytes: round, Pick value or 0"
 unfoldable pub marksBytes : List Mark → List ℕ
@@ -59,13 +59,13 @@ unfoldable pub marksOf : JobRuns → Marks
 marksOf all = map (map markOf) (all .steps)
 
 -- the step of job x in c may have this mark: a round of the plan, not before the previous one, and a value on offer
-pub record Allowed (a : Accepted) (x previous : ℕ) (m : Mark) (c : Running) : Type 0 where
+pub record Allowed (a : Accepted) (x previous : ℕ) (m : Mark) (c : ColumnRun) : Type 0 where
   pub inPlan : m .round < jobTotal a
   pub inOrder : previous ≤ m .round
   pub onOffer : member (m .value) (values (instructionOf (a .table) (jobAt a (job x) .task) (c .column .local .next))) ≡ true
 
 -- the marks of job x from here on are a run to its End
-abbrev pub Whole : Accepted → ℕ → ℕ → List Mark → Running → Type 0
+abbrev pub Whole : Accepted → ℕ → ℕ → List Mark → ColumnRun → Type 0
 Whole a x previous [] c = ⊥
 Whole a x previous (m ∷ ms) c =
     Allowed a x previous m c
@@ -80,11 +80,11 @@ AllWhole a x (ms ∷ h) stores =
     × AllWhole a (suc x) h (runMarks a x ms (record { column = unbegun; stores = stores }) .stores)
 
 -- where a plan's run stands with the stores of c
-abbrev pub standing : ℕ → Flags → Running → runs.Running
+abbrev pub standing : ℕ → Flags → ColumnRun → runs.Running
 standing o flags c = record { offset = o; stores = c .stores; failed = flags }
 
 -- the flags with those of the failed columns raised, the first of them being number x
-unfoldable pub flagsFrom : ℕ → List Column → Flags → Flags
+unfoldable pub flagsFrom : ℕ → List JobColumn → Flags → Flags
 flagsFrom x [] flags = flags
 flagsFrom x (c ∷ cs) flags = flagsFrom (suc x) cs (flagged (c .failed) x flags)
 

@@ -22,7 +22,7 @@ use Rattle.machine.specs.Ends.{Flags, noFlags}
 use Rattle.machine.specs.Instructions.{Store, fresh}
 use Rattle.plan.specs.Runs as runs
 use Rattle.plan.specs.Runs.{Plan, Step, JobRun, JobRuns, jobTotal, guess, runJob, runJobs, runStart, runPlan}
-use Rattle.matching.specs.Laws.Histories.{Mark, Marks, Running, job, unbegun, effectOf, stepped, markStep, runMarks, columnsFrom}
+use Rattle.matching.specs.Laws.Histories.{Mark, Marks, ColumnRun, job, unbegun, effectOf, stepped, markStep, runMarks, columnsFrom}
 use Rattle.matching.specs.Laws.JobReadingLaws.{column-runs, whole-short}
 use Rattle.matching.specs.Laws.PlanReading.{marksBytes, written, markOf, stepOf, Whole, AllWhole, standing, flagsFrom, columnsRun, Eights, guessed, guessesOf, marksOf}
 
@@ -178,7 +178,7 @@ module _ {a : Accepted} (ok : IsAccepted a) (guesses : List Store) (h : Marks) w
 
 -- ---- the marks of a history's steps are the history
 
-steps-marks : (a : Accepted) (x : ℕ) (ms : List Mark) (c : Running)
+steps-marks : (a : Accepted) (x : ℕ) (ms : List Mark) (c : ColumnRun)
     → map markOf (runMarks a x ms c .column .steps) ≡ map markOf (c .column .steps) ++ ms
 unfolding runMarks markStep stepped stepOf markOf
 steps-marks a x [] c = sym (append-nil _)
@@ -192,5 +192,5 @@ pub marks-back : (a : Accepted) (h : Marks) (x : ℕ) (running : runs.Running) �
 unfolding marksOf columnsRun columnsFrom unbegun
 marks-back a [] x running = refl
 marks-back a (ms ∷ h) x running =
-    let c : Running = record { column = unbegun; stores = running .stores } in
+    let c : ColumnRun = record { column = unbegun; stores = running .stores } in
     λ i. steps-marks a x ms c i ∷ marks-back a h (suc x) (standing 0 [] (runMarks a x ms c)) i

@@ -32,7 +32,7 @@ use Rattle.matching.specs.Laws.EndedLaws.{ended-none}
 use Rattle.matching.specs.Laws.Histories.{Mark, Marks, job, marked, inRound, Columns, unbegun, columns}
 use Rattle.matching.specs.Laws.MovedLaws.{markAt, columns-moved, moved-endings, moved-present}
 use Rattle.matching.specs.Laws.PlanColumns.{legal-back, legal-climbs, legal-stores, guess-due}
-use Rattle.matching.specs.Laws.PlanKept.{doneMarks, doneBytes, Kept, Due, plan-cut, cut-round, next-round, next-job, next-due}
+use Rattle.matching.specs.Laws.PlanKept.{doneMarks, doneBytes, PlanKept, StepDue, plan-cut, cut-round, next-round, next-job, next-due}
 use Rattle.matching.specs.Laws.PlanReading.{marksOf, guessesOf}
 use Rattle.matching.specs.Laws.RowLaws.{marked-keeps}
 use Rattle.matching.specs.Laws.SequenceLaws.{sequence-gathered}
@@ -86,7 +86,7 @@ gathered-snoc h [] p = refl
 gathered-snoc h (q ∷ ps) p = gathered-snoc (marked h (q .number) (q .mark)) ps p
 
 module _ {a : Accepted} (ok : IsAccepted a) (plan : Plan) {runs : JobRuns} (legal : Legal a plan runs) {s : State} {r : ℕ} {done : List Placed}
-    (kept : Kept a plan s r done) (p : Placed) (rest : List Placed)
+    (kept : PlanKept a plan s r done) (p : Placed) (rest : List Placed)
     (split : sequence (jobTotal a) (marksOf runs) ≡ done ++ (p ∷ rest)) where
   abbrev S : List Store
   S = guessesOf a plan
@@ -97,7 +97,7 @@ module _ {a : Accepted} (ok : IsAccepted a) (plan : Plan) {runs : JobRuns} (lega
   abbrev next : List Placed
   next = done ++ (p ∷ [])
 
-  due : Due a s p
+  due : StepDue a s p
   due = next-due ok plan legal kept p rest split
 
   made : Step a s (placedByte a p) (due .after)
@@ -249,7 +249,7 @@ module _ {a : Accepted} (ok : IsAccepted a) (plan : Plan) {runs : JobRuns} (lega
       (subst (λ (g : List Store). Traced a (due .after) r g stepMarks (doneBytes a done ++ (byte ∷ []))) same t))
 
   kept-with : (q : ℕ) → Traced a (due .after) q S (doneMarks a next) (doneBytes a next)
-      → ((n : ℕ) → n ≤ q → n < jobTotal a → getD (traceOf a (doneBytes a next) .guesses) n [] ≡ getD S n []) → Kept a plan (due .after) q next
+      → ((n : ℕ) → n ≤ q → n < jobTotal a → getD (traceOf a (doneBytes a next) .guesses) n [] ≡ getD S n []) → PlanKept a plan (due .after) q next
   kept-with q t guesses = record {
     ran =
         ap (run a (initial a)) (sym bytes-step) ∙ run-more a (doneBytes a done) (initial a) (kept .ran) byte (due .taken);
@@ -262,7 +262,7 @@ module _ {a : Accepted} (ok : IsAccepted a) (plan : Plan) {runs : JobRuns} (lega
   }
 
   -- the plan's steps with the next are an order so far
-  pub plan-steps : (after : State) × (q : ℕ) × Kept a plan after q (done ++ (p ∷ []))
+  pub plan-steps : (after : State) × (q : ℕ) × PlanKept a plan after q (done ++ (p ∷ []))
   unfolding if_then_else_
   plan-steps = elim (decided (hasEnded (due .after) (made .turn .frame .job))) [
     | inl ends ↦ (

@@ -24,7 +24,7 @@ use Rattle.order.specs.Laws.StepLaws.{good-turn, Step, step-says, step-keeps, i
 use Rattle.plan.specs.Legality.{stepsOf}
 use Rattle.plan.specs.Runs as runs
 use Rattle.plan.specs.Runs.{jobTotal}
-use Rattle.matching.specs.Conversions.{Noted, noting, historyFrom, planOf}
+use Rattle.matching.specs.Conversions.{OrderStep, noting, roundsFrom, planOf}
 use Rattle.matching.specs.Laws.EndedLaws.{ended-none}
 use Rattle.matching.specs.Laws.Histories.{Mark, Marks}
 use Rattle.notation.specs.Laws.ElementLaws.{only-in, only-append}
@@ -99,39 +99,39 @@ run-cut a (b ∷ earlier) bytes s e =
 -- ---- histories
 
 -- the steps of a history from a state on, in round r
-abbrev notedFrom : Accepted → State → ℕ → List ℕ → List Noted
-notedFrom a s r bytes = historyFrom a s r bytes .steps
+abbrev notedFrom : Accepted → State → ℕ → List ℕ → List OrderStep
+notedFrom a s r bytes = roundsFrom a s r bytes .steps
 
 -- those of an order
-abbrev notedIn : Accepted → List ℕ → List Noted
+abbrev notedIn : Accepted → List ℕ → List OrderStep
 notedIn a order = notedFrom a (initial a) 0 order
 
 -- and of them those of job x
-abbrev stepsOfJob : Job → List Noted → List Noted
+abbrev stepsOfJob : Job → List OrderStep → List OrderStep
 stepsOfJob x steps = only (λ step. eqb (step .job .0) (x .0)) steps
 
-abbrev jobsOf : List Noted → List Job
+abbrev jobsOf : List OrderStep → List Job
 jobsOf steps = map (λ step. step .job) steps
 
 module _ (a : Accepted) where
   -- the jobs of a history are those whose steps the bytes are
   history-jobs : (bytes : List ℕ) (s : State) (r : ℕ) → jobsOf (notedFrom a s r bytes) ≡ jobsFrom a s bytes
-  unfolding historyFrom noting jobsFrom
+  unfolding roundsFrom noting jobsFrom
   history-jobs [] s r = refl
   history-jobs (byte ∷ bytes) s r = go (turnOf a s (byte / 16)) refl (λ next later. history-jobs bytes next later)
     where
       go : (turn : Option Turn) → turnOf a s (byte / 16) ≡ turn
           → ((next : State) (later : ℕ) → jobsOf (notedFrom a next later bytes) ≡ jobsFrom a next bytes)
           → jobsOf (notedFrom a s r (byte ∷ bytes)) ≡ jobsFrom a s (byte ∷ bytes)
-      go none e rest = rw (e, notedFrom, historyFrom, jobsFrom) refl
+      go none e rest = rw (e, notedFrom, roundsFrom, jobsFrom) refl
       go (some turn) e rest =
-          rw (e, notedFrom, historyFrom, jobsFrom) (ap (λ (l : List Job). turn .frame .job ∷ l) (rest _ _))
+          rw (e, notedFrom, roundsFrom, jobsFrom) (ap (λ (l : List Job). turn .frame .job ∷ l) (rest _ _))
 
   -- so each job has as many steps in an order's history as the order has of it
   history-made : (order : List ℕ) (x : Job) → length (stepsOfJob x (notedIn a order)) ≡ stepsMade a order x
   unfolding stepsMade
   history-made order x =
-      only-mapped (λ (step : Noted). step .job) (λ y. eqb (y .0) (x .0)) (notedIn a order)
+      only-mapped (λ (step : OrderStep). step .job) (λ y. eqb (y .0) (x .0)) (notedIn a order)
       ∙ ap (λ (l : List Job). length (only (λ y. eqb (y .0) (x .0)) l)) (history-jobs order (initial a) 0)
 
   -- the first step, and the history after it
@@ -139,18 +139,18 @@ module _ (a : Accepted) where
       → let x = made .turn .frame .job in
       notedFrom a s r (byte ∷ bytes)
       ≡ record { job = x; round = record { 0 = r }; value = byte % 16 } ∷ notedFrom a after (roundAfter r after x) bytes
-  unfolding historyFrom noting roundAfter
+  unfolding roundsFrom noting roundAfter
   history-first s r byte bytes made =
       let x = made .turn .frame .job in
-      let one : Noted = record { job = x; round = record { 0 = r }; value = byte % 16 } in
-      rw (made .due, notedFrom, historyFrom)
+      let one : OrderStep = record { job = x; round = record { 0 = r }; value = byte % 16 } in
+      rw (made .due, notedFrom, roundsFrom)
       (ap (λ (z : State). one ∷ notedFrom a z (if hasEnded z x then suc r else r) bytes) (made .made))
 
 -- The history of an order that is cut: from the cut on it goes in the round that is the number of jobs that have ended.
 history-cut : {a : Accepted} → IsAccepted a → (earlier bytes : List ℕ) {s : State} → Invariant a s
     → (r : ℕ) → r ≡ endedCount a s → {mid : State} → run a s earlier ≡ some mid
     → notedFrom a s r (earlier ++ bytes) ≡ notedFrom a s r earlier ++ notedFrom a mid (endedCount a mid) bytes
-unfolding run historyFrom
+unfolding run roundsFrom
 history-cut {a} ok [] bytes {s} inv r same {mid} ran =
     ap (λ (q : ℕ). notedFrom a s q bytes) same
     ∙ ap (λ (z : State). notedFrom a z (endedCount a z) bytes) (some-same ran)
@@ -159,12 +159,12 @@ history-cut {a} ok (b ∷ earlier) bytes {s} inv r same {mid} ran =
     let next : State = first .0 in
     let made = step-says a s b (first .1) in
     let x : Job = made .turn .frame .job in
-    let one : Noted = record { job = x; round = record { 0 = r }; value = b % 16 } in
+    let one : OrderStep = record { job = x; round = record { 0 = r }; value = b % 16 } in
     let round = ap (λ (q : ℕ). roundAfter q next x) same ∙ round-kept ok inv made in
     let rest = history-cut ok earlier bytes (step-keeps ok inv b (first .1)) (roundAfter r next x) round (first .2) in
     history-first a s r b (earlier ++ bytes) made
-    ∙ ap (λ (l : List Noted). one ∷ l) rest
-    ∙ ap (λ (l : List Noted). l ++ notedFrom a mid (endedCount a mid) bytes) (sym (history-first a s r b earlier made))
+    ∙ ap (λ (l : List OrderStep). one ∷ l) rest
+    ∙ ap (λ (l : List OrderStep). l ++ notedFrom a mid (endedCount a mid) bytes) (sym (history-first a s r b earlier made))
 
 -- ---- the plan's run
 
@@ -210,27 +210,27 @@ module _ {a : Accepted} (ok : IsAccepted a) (earlier later : List ℕ) {byte : �
       good-turn ok inv (byte / 16) (made .due) .0 .running .job
 
   -- the history's steps: those before it, its own, and the others
-  abbrev first : List Noted
+  abbrev first : List OrderStep
   first = notedIn a earlier
 
-  abbrev own : Noted
+  abbrev own : OrderStep
   own = record { job = x; round = record { 0 = endedCount a before }; value = byte % 16 }
 
-  abbrev others : List Noted
+  abbrev others : List OrderStep
   others = notedFrom a after (roundAfter (endedCount a before) after x) later
 
   history-parts : notedIn a order ≡ first ++ (own ∷ others)
   history-parts =
       history-cut ok earlier (byte ∷ later) (initial-invariant a) 0 (sym (ended-none a)) reached
-      ∙ ap (λ (l : List Noted). first ++ l) (history-first a before (endedCount a before) byte later made)
+      ∙ ap (λ (l : List OrderStep). first ++ l) (history-first a before (endedCount a before) byte later made)
 
   -- and of them those of its job
   job-parts : stepsOfJob x (notedIn a order) ≡ stepsOfJob x first ++ (own ∷ stepsOfJob x others)
   job-parts =
-      let test : Noted → Bool = λ step. eqb (step .job .0) (x .0) in
+      let test : OrderStep → Bool = λ step. eqb (step .job .0) (x .0) in
       ap (stepsOfJob x) history-parts
       ∙ only-append test first (own ∷ others)
-      ∙ ap (λ (l : List Noted). stepsOfJob x first ++ l) (only-in test own others (eq-eqb (x .0) (x .0) refl))
+      ∙ ap (λ (l : List OrderStep). stepsOfJob x first ++ l) (only-in test own others (eq-eqb (x .0) (x .0) refl))
 
   -- so they are in the plan
   step-at : CutAt markOf (stepsOf (runsOf a order) x) (map noted (stepsOfJob x first)) (noted own)

@@ -21,7 +21,7 @@ use Rattle.order.specs.States.{State, initial}
 use Rattle.order.specs.Laws.StepLaws.{flag-here, flag-other, flag-length, good-turn, step-says, no-flag, initial-invariant}
 use Rattle.plan.specs.Runs.{jobTotal}
 use Rattle.matching.specs.Laws.ColumnLaws.{columns-jobs, columns-length}
-use Rattle.matching.specs.Laws.Histories.{Marks, Column, unbegun, columns}
+use Rattle.matching.specs.Laws.Histories.{Marks, JobColumn, unbegun, columns}
 use Rattle.notation.specs.Laws.ElementLaws.{last-at, last-none, or-none}
 use Rattle.matching.specs.Laws.PlanReading.{flagsFrom}
 use Rattle.matching.specs.Laws.TraceMore.{run-first}
@@ -29,20 +29,20 @@ use Rattle.matching.specs.Laws.Traces.{Traced}
 
 -- ---- the flags of the failed columns
 
-flags-length : (x : ℕ) (cs : List Column) (flags : Flags) → length (flagsFrom x cs flags) ≡ length flags
+flags-length : (x : ℕ) (cs : List JobColumn) (flags : Flags) → length (flagsFrom x cs flags) ≡ length flags
 unfolding flagsFrom
 flags-length x [] flags = refl
 flags-length x (c ∷ cs) flags = flags-length (suc x) cs (flagged (c .failed) x flags) ∙ flag-length (c .failed) x flags
 
 -- those below the first column's number stay
-flags-below : (x : ℕ) (cs : List Column) (flags : Flags) (y : ℕ) → y < x → getD (flagsFrom x cs flags) y false ≡ getD flags y false
+flags-below : (x : ℕ) (cs : List JobColumn) (flags : Flags) (y : ℕ) → y < x → getD (flagsFrom x cs flags) y false ≡ getD flags y false
 unfolding flagsFrom
 flags-below x [] flags y lt = refl
 flags-below x (c ∷ cs) flags y lt =
     flags-below (suc x) cs (flagged (c .failed) x flags) y (omega arith) ∙ flag-other (c .failed) x y flags (λ e. omega arith)
 
 -- and where none is raised yet, each is its column's
-flags-at : (x : ℕ) (cs : List Column) (flags : Flags) → x + length cs ≤ length flags → ((n : ℕ) → x ≤ n → getD flags n false ≡ false)
+flags-at : (x : ℕ) (cs : List JobColumn) (flags : Flags) → x + length cs ≤ length flags → ((n : ℕ) → x ≤ n → getD flags n false ≡ false)
     → (y : ℕ) → getD (flagsFrom x cs flags) (x + y) false ≡ getD cs y unbegun .failed
 unfolding flagsFrom unbegun
 flags-at x [] flags room low y = low (x + y) (omega arith)
@@ -94,7 +94,7 @@ module _ {a : Accepted} (ok : IsAccepted a) {s : State} {r : ℕ} {guesses : Lis
   failed-at beyond y = elim (decLt y (jobTotal a)) [
     | yes lt ↦ t .failures y lt
     | no out ↦
-        ap (λ (c : Column). c .failed)
+        ap (λ (c : JobColumn). c .failed)
         (List·getD-eq-default (columns a h guesses .jobs) unbegun {n = y} (omega (arith, columns-jobs a 0 h guesses, t .listed)))
         ∙ sym (beyond y (omega arith))
   ]

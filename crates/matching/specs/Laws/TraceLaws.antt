@@ -23,7 +23,7 @@ use Rattle.order.specs.Laws.StepLaws.{GoodTurn, no-flag, good-turn, afterEffect
 use Rattle.plan.specs.Runs.{jobTotal}
 use Rattle.matching.specs.Laws.ColumnLaws.{columns-none}
 use Rattle.matching.specs.Laws.EndedLaws.{ended-none}
-use Rattle.matching.specs.Laws.Histories.{Mark, Marks, job, marked, inRound, Column, unbegun, Columns, columns}
+use Rattle.matching.specs.Laws.Histories.{Mark, Marks, job, marked, inRound, JobColumn, unbegun, Columns, columns}
 use Rattle.notation.specs.Laws.ElementLaws.{replicate-any}
 use Rattle.matching.specs.Laws.MovedLaws.{markAt, ended-here}
 use Rattle.matching.specs.Laws.RowLaws.{rows-none}
@@ -54,8 +54,8 @@ traced-initial {a} ok guesses long starts = record {
   ends = ended-none a;
   by-rows = rows-none a (jobTotal a) (jobTotal a);
   locals = λ k d lt. absurd (omega arith);
-  endings = λ x lt. ap (λ (c : Column). c .ended) (start-column a guesses x) ∙ sym (no-flag 32 x);
-  failures = λ x lt. ap (λ (c : Column). c .failed) (start-column a guesses x) ∙ sym (no-flag 32 x);
+  endings = λ x lt. ap (λ (c : JobColumn). c .ended) (start-column a guesses x) ∙ sym (no-flag 32 x);
+  failures = λ x lt. ap (λ (c : JobColumn). c .failed) (start-column a guesses x) ∙ sym (no-flag 32 x);
   none-yet = λ x lt e. replicate-any (jobTotal a) x [];
   present = λ lt. ap (λ (c : Columns). getD (c .stores) 0 noStore) (columns-none a (jobTotal a) guesses) ∙ starts lt;
   past = λ q lt inside. absurd (omega arith);

@@ -22,7 +22,7 @@ use Rattle.machine.specs.Instructions.{Store}
 use Rattle.order.specs.Orders.{Turn, turnOf, performed}
 use Rattle.order.specs.States.{State, initial, hasEnded}
 use Rattle.plan.specs.Runs.{jobTotal}
-use Rattle.matching.specs.Conversions.{Noted, History, noting, historyFrom, jobBytes, planOf}
+use Rattle.matching.specs.Conversions.{OrderStep, OrderRounds, noting, roundsFrom, jobBytes, planOf}
 use Rattle.matching.specs.Laws.Histories.{Mark, Marks, job, marked}
 use Rattle.matching.specs.Laws.PlanReading.{marksBytes, written}
 use Rattle.matching.specs.Laws.PlanReadingLaws.{numbered}
@@ -49,11 +49,11 @@ each-numbered {A} {B} start (x ∷ xs) d f g same =
 -- ---- one step of the history
 
 -- the steps of job x
-abbrev stepsOfJob : ℕ → List Noted → List Noted
+abbrev stepsOfJob : ℕ → List OrderStep → List OrderStep
 stepsOfJob x steps = only (λ step. eqb (step .job .0) x) steps
 
 -- the history with a step before it, which may be an End and leaves this store
-abbrev after : ℕ → Job → ℕ → Bool → Store → History → History
+abbrev after : ℕ → Job → ℕ → Bool → Store → OrderRounds → OrderRounds
 after r y value ends store h =
     record {
       steps = record { job = y; round = record { 0 = r }; value = value } ∷ h .steps;
@@ -61,16 +61,16 @@ after r y value ends store h =
     }
 
 -- a job's steps where the first is its own, and where it is another's
-steps-own : (x : ℕ) (step : Noted) (steps : List Noted) → step .job .0 ≡ x → stepsOfJob x (step ∷ steps) ≡ step ∷ stepsOfJob x steps
+steps-own : (x : ℕ) (step : OrderStep) (steps : List OrderStep) → step .job .0 ≡ x → stepsOfJob x (step ∷ steps) ≡ step ∷ stepsOfJob x steps
 unfolding only if_then_else_
 steps-own x step steps e = rw (eq-eqb (step .job .0) x e) refl
 
-steps-other : (x : ℕ) (step : Noted) (steps : List Noted) → step .job .0 ≢ x → stepsOfJob x (step ∷ steps) ≡ stepsOfJob x steps
+steps-other : (x : ℕ) (step : OrderStep) (steps : List OrderStep) → step .job .0 ≢ x → stepsOfJob x (step ∷ steps) ≡ stepsOfJob x steps
 unfolding only if_then_else_
 steps-other x step steps apart = rw (ne-eqb (step .job .0) x apart) refl
 
 -- a mark at the end of its job's is the first of those that follow
-marks-step : (marks : Marks) (step : Noted) (steps : List Noted) (x : ℕ) → x < length marks
+marks-step : (marks : Marks) (step : OrderStep) (steps : List OrderStep) (x : ℕ) → x < length marks
     → getD (marked marks (step .job .0) (noted step)) x [] ++ map noted (stepsOfJob x steps) ≡ getD marks x [] ++ map noted (stepsOfJob x (step ∷ steps))
 unfolding marked noted
 marks-step marks step steps x lt =
@@ -80,16 +80,16 @@ marks-step marks step steps x lt =
           rw same (getD-set-same marks x (getD marks x [] ++ (noted step ∷ [])) [] lt) in
           ap (λ (l : List Mark). l ++ map noted (stepsOfJob x steps)) here
           ∙ append-assoc (getD marks x []) (noted step ∷ []) (map noted (stepsOfJob x steps))
-          ∙ ap (λ (l : List Noted). getD marks x [] ++ map noted l) (sym (steps-own x step steps same)))
+          ∙ ap (λ (l : List OrderStep). getD marks x [] ++ map noted l) (sym (steps-own x step steps same)))
       | no apart ↦
           ap (λ (l : List Mark). l ++ map noted (stepsOfJob x steps)) (getD-set-other marks (step .job .0) x _ [] (λ e. apart (sym e)))
-          ∙ ap (λ (l : List Noted). getD marks x [] ++ map noted l) (sym (steps-other x step steps apart))
+          ∙ ap (λ (l : List OrderStep). getD marks x [] ++ map noted l) (sym (steps-other x step steps apart))
     ]
 
 -- ---- a trace and its history
 
 -- the trace `end` is t with a history from round r on
-pub record Follows (r : ℕ) (t : Trace) (h : History) (end : Trace) : Type 0 where
+pub record Follows (r : ℕ) (t : Trace) (h : OrderRounds) (end : Trace) : Type 0 where
   pub jobs : length (end .marks) ≡ length (t .marks)
   pub rounds : length (end .guesses) ≡ length (t .guesses)
   -- each job's marks, then those of its steps in the history
@@ -109,12 +109,12 @@ follows-none r t =
       stores = λ i lt room. absurd (omega arith);
     }
 
-module _ (r : ℕ) (y : Job) (value : ℕ) (store : Store) (t : Trace) (h : History) (end : Trace) where
+module _ (r : ℕ) (y : Job) (value : ℕ) (store : Store) (t : Trace) (h : OrderRounds) (end : Trace) where
   -- a step that is no End
   follows-on : Follows r (traced r (y .0) value false store t) h end → Follows r t (after r y value false store h) end
   unfolding traced marked noted if_then_else_
   follows-on f =
-      let step : Noted = record { job = y; round = record { 0 = r }; value = value } in
+      let step : OrderStep = record { job = y; round = record { 0 = r }; value = value } in
       let size = length-set (t .marks) (y .0) (getD (t .marks) (y .0) [] ++ (noted step ∷ [])) in
       record {
         jobs = f .jobs ∙ size;
@@ -141,7 +141,7 @@ module _ (r : ℕ) (y : Job) (value : ℕ) (store : Store) (t : Trace) (h : Hist
   follows-end : Follows (suc r) (traced r (y .0) value true store t) h end → Follows r t (after r y value true store h) end
   unfolding traced marked noted if_then_else_
   follows-end f =
-      let step : Noted = record { job = y; round = record { 0 = r }; value = value } in
+      let step : OrderStep = record { job = y; round = record { 0 = r }; value = value } in
       let size = length-set (t .marks) (y .0) (getD (t .marks) (y .0) [] ++ (noted step ∷ [])) in
       record {
         jobs = f .jobs ∙ size;
@@ -159,19 +159,19 @@ module _ (r : ℕ) (y : Job) (value : ℕ) (store : Store) (t : Trace) (h : Hist
 
 module _ (a : Accepted) where
   -- the trace of an order's bytes is that of their history
-  pub trace-follows : (bytes : List ℕ) (s : State) (r : ℕ) (t : Trace) → Follows r t (historyFrom a s r bytes) (traceFrom a s r t bytes)
-  unfolding historyFrom traceFrom noting
+  pub trace-follows : (bytes : List ℕ) (s : State) (r : ℕ) (t : Trace) → Follows r t (roundsFrom a s r bytes) (traceFrom a s r t bytes)
+  unfolding roundsFrom traceFrom noting
   trace-follows [] s r t = follows-none r t
   trace-follows (byte ∷ bytes) s r t = go (turnOf a s (byte / 16)) refl (λ next later now. trace-follows bytes next later now)
     where
       go : (turn : Option Turn) → turnOf a s (byte / 16) ≡ turn
-          → ((next : State) (later : ℕ) (now : Trace) → Follows later now (historyFrom a next later bytes) (traceFrom a next later now bytes))
-          → Follows r t (historyFrom a s r (byte ∷ bytes)) (traceFrom a s r t (byte ∷ bytes))
-      go none e rest = rw (e, traceFrom, historyFrom) (follows-none r t)
+          → ((next : State) (later : ℕ) (now : Trace) → Follows later now (roundsFrom a next later bytes) (traceFrom a next later now bytes))
+          → Follows r t (roundsFrom a s r (byte ∷ bytes)) (traceFrom a s r t (byte ∷ bytes))
+      go none e rest = rw (e, traceFrom, roundsFrom) (follows-none r t)
       go (some turn) e rest =
           let next : State = performed a s (byte % 16) turn in
           let ends : Bool = hasEnded next (turn .frame .job) in
-          rw (e, traceFrom, historyFrom) (follows-step r (turn .frame .job) (byte % 16) (next .store) t _ _ ends (rest next _ _))
+          rw (e, traceFrom, roundsFrom) (follows-step r (turn .frame .job) (byte % 16) (next .store) t _ _ ends (rest next _ _))
 
 -- ---- the plan
 
@@ -187,13 +187,13 @@ first-guess store zero d lt = absurd (omega arith)
 first-guess store (suc n) d lt = refl
 
 -- a job's bytes are those of its marks
-bytes-noted : (steps : List Noted) (x : ℕ) → jobBytes steps (job x) ≡ marksBytes (map noted (stepsOfJob x steps))
+bytes-noted : (steps : List OrderStep) (x : ℕ) → jobBytes steps (job x) ≡ marksBytes (map noted (stepsOfJob x steps))
 unfolding jobBytes marksBytes noted job
 bytes-noted steps x = sym (each-map noted (stepsOfJob x steps) (λ m. m .round ∷ m .value ∷ []))
 
 module _ (a : Accepted) (order : List ℕ) where
   -- the trace of the whole order
-  pub traced-whole : Follows 0 (startTrace a) (historyFrom a (initial a) 0 order) (traceOf a order)
+  pub traced-whole : Follows 0 (startTrace a) (roundsFrom a (initial a) 0 order) (traceOf a order)
   unfolding traceOf
   traced-whole = trace-follows a order (initial a) 0 (startTrace a)
 
@@ -208,16 +208,16 @@ module _ (a : Accepted) (order : List ℕ) where
 
   -- a job's marks are those of its steps
   pub marks-noted : (x : ℕ) → x < jobTotal a
-      → getD (traceOf a order .marks) x [] ≡ map noted (only (λ step. eqb (step .job .0) x) (historyFrom a (initial a) 0 order .steps))
+      → getD (traceOf a order .marks) x [] ≡ map noted (only (λ step. eqb (step .job .0) x) (roundsFrom a (initial a) 0 order .steps))
   unfolding startTrace
   marks-noted x lt =
       traced-whole .steps x (omega (arith, length-replicate {A = List Mark} (jobTotal a) []))
-      ∙ ap (λ (l : List Mark). l ++ map noted (stepsOfJob x (historyFrom a (initial a) 0 order .steps))) (getD-replicate (jobTotal a) x [] [] lt)
+      ∙ ap (λ (l : List Mark). l ++ map noted (stepsOfJob x (roundsFrom a (initial a) 0 order .steps))) (getD-replicate (jobTotal a) x [] [] lt)
 
   -- so the bytes of all jobs are those of the marks
-  jobs-written : each (jobNumbers a) (jobBytes (historyFrom a (initial a) 0 order .steps)) ≡ each (traceOf a order .marks) marksBytes
+  jobs-written : each (jobNumbers a) (jobBytes (roundsFrom a (initial a) 0 order .steps)) ≡ each (traceOf a order .marks) marksBytes
   jobs-written =
-      let steps : List Noted = historyFrom a (initial a) 0 order .steps in
+      let steps : List OrderStep = roundsFrom a (initial a) 0 order .steps in
       let marks : Marks = traceOf a order .marks in
       ap (λ (xs : List Job). each xs (jobBytes steps)) (numbered a (length marks) marks-whole)
       ∙ each-map job (from 0 (length marks)) (jobBytes steps)
@@ -228,28 +228,28 @@ module _ (a : Accepted) (order : List ℕ) where
       place k = omega arith
 
   -- the guess of round i, if enough rounds have ended
-  guess-at : jobTotal a ≤ suc (length (historyFrom a (initial a) 0 order .stores)) → (i : ℕ) → i < jobTotal a
-      → getD (a .table .store ∷ historyFrom a (initial a) 0 order .stores) i [] ≡ getD (traceOf a order .guesses) i []
+  guess-at : jobTotal a ≤ suc (length (roundsFrom a (initial a) 0 order .stores)) → (i : ℕ) → i < jobTotal a
+      → getD (a .table .store ∷ roundsFrom a (initial a) 0 order .stores) i [] ≡ getD (traceOf a order .guesses) i []
   unfolding startTrace
   guess-at enough zero lt = sym (traced-whole .kept 0 (omega arith) ∙ first-guess (a .table .store) (jobTotal a) [] lt)
   guess-at enough (suc i) lt =
       let place : suc 0 + i ≡ suc i = omega arith in
       sym (rw place at (traced-whole .stores i (omega arith) (omega (arith, guess-length (a .table .store) (jobTotal a)))))
 
-  pub guesses-taken : jobTotal a ≤ suc (length (historyFrom a (initial a) 0 order .stores))
-      → take (jobTotal a) (a .table .store ∷ historyFrom a (initial a) 0 order .stores) ≡ traceOf a order .guesses
+  pub guesses-taken : jobTotal a ≤ suc (length (roundsFrom a (initial a) 0 order .stores))
+      → take (jobTotal a) (a .table .store ∷ roundsFrom a (initial a) 0 order .stores) ≡ traceOf a order .guesses
   guesses-taken enough =
       let k : ℕ = jobTotal a in
-      let stores : List Store = a .table .store ∷ historyFrom a (initial a) 0 order .stores in
+      let stores : List Store = a .table .store ∷ roundsFrom a (initial a) 0 order .stores in
       let size : length (take k stores) ≡ k = length-take-le k stores enough in
       ext-getD [] (take k stores) (traceOf a order .guesses) (size ∙ sym guesses-whole)
       (λ i lt. let below : i < k = omega (arith, size) in getD-take k stores i [] below ∙ guess-at enough i below)
 
   -- the plan of an order in which enough rounds end is the one with the trace's guesses and marks
-  pub plan-traced : jobTotal a ≤ suc (length (historyFrom a (initial a) 0 order .stores))
+  pub plan-traced : jobTotal a ≤ suc (length (roundsFrom a (initial a) 0 order .stores))
       → planOf a order ≡ written a (traceOf a order .guesses) (traceOf a order .marks)
   unfolding planOf written
   plan-traced enough =
-      let jobs : List ℕ = each (jobNumbers a) (jobBytes (historyFrom a (initial a) 0 order .steps)) in
+      let jobs : List ℕ = each (jobNumbers a) (jobBytes (roundsFrom a (initial a) 0 order .steps)) in
       ap (λ (stores : List Store). jobTotal a ∷ (each stores (λ store. store) ++ jobs)) (guesses-taken enough)
       ∙ ap (λ (l : List ℕ). jobTotal a ∷ (each (traceOf a order .guesses) (λ store. store) ++ l)) jobs-written

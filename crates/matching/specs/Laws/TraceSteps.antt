@@ -12,7 +12,7 @@ use Rattle.machine.specs.Instructions.{Store}
 use Rattle.order.specs.Orders.{turnOf, performed}
 use Rattle.order.specs.States.{State, initial, hasEnded}
 use Rattle.plan.specs.Runs.{jobTotal}
-use Rattle.matching.specs.Conversions.{Noted}
+use Rattle.matching.specs.Conversions.{OrderStep}
 use Rattle.matching.specs.Laws.Histories.{Mark, Marks, marked}
 
 -- the store where each round begins, and each job's steps
@@ -21,7 +21,7 @@ pub record Trace : Type 0 where
   pub marks : Marks
 
 -- the mark of an order's step
-unfoldable pub noted : Noted → Mark
+unfoldable pub noted : OrderStep → Mark
 noted step = record { round = step .round .0; value = step .value }
 
 -- the trace after a step of job x in round r, which may be its End and leaves this store
