@@ -1,5 +1,6 @@
 //! Times the proved entries and the interpreter on the same inputs, and the proved walk beside a
-//! walker in Rust; prints a table for each entry and writes them to `docs/BENCHMARKS.md`.
+//! walker in Rust; prints a table for each entry and writes them to `docs/BENCHMARKS.md`, above what
+//! that page keeps of earlier measurements.
 
 #![forbid(unsafe_code)]
 
@@ -54,5 +55,6 @@ fn main() -> std::io::Result<()> {
     let stack = report::stack(stack::least_kib()?);
     print!("{}\n{}", report::read_table(&reads), report::replay_table(&replays));
     print!("\n{}\n{stack}", report::walk_table(&walks));
-    std::fs::write(PAGE, report::page(&reads, &replays, &walks, &stack, &load))
+    let page = report::page(&reads, &replays, &walks, &stack, &load);
+    std::fs::write(PAGE, page + &report::history(&std::fs::read_to_string(PAGE)?))
 }

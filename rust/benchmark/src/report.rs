@@ -50,6 +50,14 @@ fn ratio(time: Time, by: Time) -> String {
     }
 }
 
+/// The heading of what was measured beside the tables, written by hand and kept from run to run.
+const HISTORY: &str = "\n## Measured beside these tables\n";
+
+/// What a page holds from that heading on.
+pub fn history(page: &str) -> String {
+    page.find(HISTORY).map_or_else(String::new, |at| page[at..].into())
+}
+
 /// The reader's table, and below it the slowest hostile files against the first row.
 pub fn read_table(timings: &[Timing]) -> String {
     let family = slowest(timings, Kind::Family, "file of the family");
