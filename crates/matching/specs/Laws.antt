@@ -37,6 +37,7 @@ pub mod PlanSteps
 pub mod PlanTurn
 pub mod PlannedStepLaws
 pub mod PreemptionLaws
+pub mod RoundLaws
 pub mod RowLaws
 pub mod RunLaws
 pub mod SequenceLaws

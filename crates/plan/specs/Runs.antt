@@ -27,12 +27,26 @@ use Rattle.plan.specs.declared.Round.{Round}
 abbrev pub Plan : Type 0
 Plan = List ℕ
 
--- "k stores of 8 bytes, the guessed start of each round"
-unfoldable pub guess : Plan → ℕ → Store
-guess plan r = take 8 (drop (1 + 8 * r) plan)
-
 unfoldable pub jobTotal : Accepted → ℕ
 jobTotal a = length (a .jobs)
+
+-- "With k jobs there are k rounds"
+unfoldable pub roundNumbers : Accepted → List Round
+roundNumbers a = map (λ n. record { 0 = n }) (upTo (jobTotal a))
+
+-- rounds follow each other by number
+abbrev pub firstRound : Round
+firstRound = record { 0 = 0 }
+
+abbrev pub earlier : Round → Round → Bool
+earlier q r = ltb (q .0) (r .0)
+
+abbrev pub notLater : Round → Round → Bool
+notLater q r = leb (q .0) (r .0)
+
+-- "k stores of 8 bytes, the guessed start of each round"
+unfoldable pub guess : Plan → Round → Store
+guess plan r = take 8 (drop (1 + 8 * r .0) plan)
 
 -- a step that a job has made: its round, its value, and the job's priority after it
 pub record Step : Type 0 where
@@ -46,29 +60,37 @@ pub record Running : Type 0 where
   pub stores : List Store
   pub failed : Flags
 
+-- the store of a round
+abbrev pub storeIn : Running → Round → Store
+storeIn running r = getD (running .stores) (r .0) noStore
+
 -- a job's steps from here to its End, and where the run then stands
 pub record JobRun : Type 0 where
   pub steps : List Step
   pub running : Running
 
+-- the round of the step whose bytes are at an offset
+abbrev pub roundAt : Plan → ℕ → Round
+roundAt plan offset = record { 0 = getD plan offset 0 }
+
 -- One step's two bytes, checked in the order 40, 42, 41. "40 SHAPE: .. bytes run out"; "42 ROUND: at least k, or below the
 -- job's previous step"; "41 VALUE: not a value its instruction allows".
-unfoldable pub stepBytes : Accepted → Plan → Job → Local → ℕ → ℕ → Checked ℕ (Unit {0})
+unfoldable pub stepBytes : Accepted → Plan → Job → Local → Round → ℕ → Checked ℕ (Unit {0})
 stepBytes a plan x local previous offset = do
   require (ltb (offset + 1) (length plan)) 40 (length plan)
-  require (ltb (getD plan offset 0) (jobTotal a) && leb previous (getD plan offset 0)) 42 offset
+  require (ltb (roundAt plan offset .0) (jobTotal a) && notLater previous (roundAt plan offset)) 42 offset
   require (member (getD plan (offset + 1) 0) (values (instructionOf (a .table) (jobAt a x .task) (local .next)))) 41 (offset + 1)
 
 -- what the step does: its instruction, on the store of its round
 unfoldable pub stepEffect : Accepted → Plan → Job → Local → Running → Effect
 stepEffect a plan x local running =
     perform (instructionOf (a .table) (jobAt a x .task) (local .next)) (getD plan (running .offset + 1) 0) local
-    (getD (running .stores) (getD plan (running .offset) 0) noStore)
+    (storeIn running (roundAt plan (running .offset)))
 
 unfoldable pub stepMade : Accepted → Plan → Job → Running → Effect → Step
 stepMade a plan x running effect =
     record {
-      round = record { 0 = getD plan (running .offset) 0 };
+      round = roundAt plan (running .offset);
       value = getD plan (running .offset + 1) 0;
       priorityAfter = priority (ceilingsOf (a .table)) (base a x) (effect .local .held);
     }
@@ -77,13 +99,13 @@ unfoldable pub runningAfter : Plan → Job → Running → Effect → Running
 runningAfter plan x running effect =
     record {
       offset = running .offset + 2;
-      stores = set (running .stores) (getD plan (running .offset) 0) (effect .store);
+      stores = set (running .stores) (roundAt plan (running .offset) .0) (effect .store);
       failed = flagged (effect .failed) (x .0) (running .failed);
     }
 
 -- A job runs whole: step after step until its End. A body has at most 16 instructions and skips go forward only, so 16 steps
 -- are enough.
-unfoldable pub runJob : Accepted → Plan → Job → ℕ → Local → ℕ → Running → Checked ℕ JobRun
+unfoldable pub runJob : Accepted → Plan → Job → ℕ → Local → Round → Running → Checked ℕ JobRun
 runJob a plan x zero local previous running = passed (record { steps = []; running = running })
 runJob a plan x (suc left) local previous running = do
   stepBytes a plan x local previous (running .offset)
@@ -92,7 +114,7 @@ runJob a plan x (suc left) local previous running = do
   let next = runningAfter plan x running effect
   rest ← if effect .ended
       then passed (record { steps = []; running = next })
-      else runJob a plan x left (effect .local) (step .round .0) next
+      else runJob a plan x left (effect .local) (step .round) next
   passed (record { steps = step ∷ rest .steps; running = rest .running })
 
 -- the run of the listed jobs: each job's steps, and where the run then stands
@@ -103,14 +125,14 @@ pub record JobRuns : Type 0 where
 unfoldable pub runJobs : Accepted → Plan → List Job → Running → Checked ℕ JobRuns
 runJobs a plan [] running = passed (record { steps = []; running = running })
 runJobs a plan (x ∷ xs) running = do
-  one ← runJob a plan x mostInstructions fresh 0 running
+  one ← runJob a plan x mostInstructions fresh firstRound running
   others ← runJobs a plan xs (one .running)
   passed (record { steps = one .steps ∷ others .steps; running = others .running })
 
 -- the run before its first step: "each step on its round's store, which at first is that round's guess"
 unfoldable pub runStart : Accepted → Plan → Running
 runStart a plan =
-    record { offset = 1 + 8 * jobTotal a; stores = map (guess plan) (upTo (jobTotal a)); failed = noFlags }
+    record { offset = 1 + 8 * jobTotal a; stores = map (guess plan) (roundNumbers a); failed = noFlags }
 
 -- "40 SHAPE: first byte not k, bytes run out, or bytes left over; place is the offset of the first wrong, missing or extra
 -- byte." "A plan checks 40 for the first byte and guesses, then per step 40, 42, 41, then leftover 40"

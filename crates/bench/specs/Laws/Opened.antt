@@ -124,7 +124,7 @@ unfolding Plans.legalRun Plans.endOf Plans.checkPlan Plans.checked Plans.planAns
 plansOpened = tt
 
 unfoldable pub runsOpened : Unit {0}
-unfolding Runs.guess Runs.jobTotal Runs.stepBytes Runs.stepEffect Runs.stepMade Runs.runningAfter Runs.runJob Runs.runJobs Runs.runStart Runs.runPlan
+unfolding Runs.jobTotal Runs.roundNumbers Runs.guess Runs.stepBytes Runs.stepEffect Runs.stepMade Runs.runningAfter Runs.runJob Runs.runJobs Runs.runStart Runs.runPlan
 runsOpened = tt
 
 unfoldable pub conversionEntriesOpened : Unit {0}

@@ -19,13 +19,14 @@ use Rattle.timing.specs.declared.Job.{Job}
 use Rattle.timing.specs.Accepted.{Accepted}
 use Rattle.timing.specs.Code.IsAccepted.{IsAccepted}
 use Rattle.order.specs.States.{State, hasEnded}
+use Rattle.plan.specs.declared.Round.{Round}
 use Rattle.plan.specs.Legality.{roundsOf, end}
 use Rattle.plan.specs.Plans.{Legal}
-use Rattle.plan.specs.Runs.{Plan, JobRuns, jobTotal}
+use Rattle.plan.specs.Runs.{Plan, JobRuns, jobTotal, firstRound}
 use Rattle.matching.specs.Laws.ColumnLaws.{elsewhere}
 use Rattle.notation.specs.Laws.CountLaws.{counted, countBelow, only-last}
 use Rattle.matching.specs.Laws.Cuts.{Cut}
-use Rattle.matching.specs.Laws.Histories.{Mark, Marks, job, inRound}
+use Rattle.matching.specs.Laws.Histories.{Mark, Marks, job, round, inRound}
 use Rattle.matching.specs.Laws.LegalLaws.{legal-run, above-none-at}
 use Rattle.matching.specs.Laws.PlanReading.{markOf, marksOf}
 use Rattle.matching.specs.Laws.PlanRounds.{none-left, rounds-marked, next-place, next-round}
@@ -50,18 +51,18 @@ jobs-counted test f r (suc k) same =
 
 -- ---- the last round of some marks
 
-abbrev roundsIn : List Mark → List ℕ
-roundsIn ms = map (λ m. m .round) ms
+abbrev roundsIn : List Mark → List Round
+roundsIn ms = map (λ m. round (m .round)) ms
 
 -- the last of some marks is in its round
-last-round : (m : Mark) (ms : List Mark) (d : ℕ) → inRound (lastOr d (roundsIn (m ∷ ms))) (m ∷ ms) ≡ [] → ⊥
+last-round : (m : Mark) (ms : List Mark) (d : Round) → inRound (lastOr d (roundsIn (m ∷ ms)) .0) (m ∷ ms) ≡ [] → ⊥
 unfolding lastOr
 last-round m [] d e = elsewhere (m .round) m [] e .0 refl
-last-round m (n ∷ ms) d e = last-round n ms (m .round) (elsewhere _ m (n ∷ ms) e .1)
+last-round m (n ∷ ms) d e = last-round n ms (round (m .round)) (elsewhere _ m (n ∷ ms) e .1)
 
-last-some : (ms : List Mark) → 0 < length (roundsIn ms) → inRound (lastOr 0 (roundsIn ms)) ms ≡ [] → ⊥
+last-some : (ms : List Mark) → 0 < length (roundsIn ms) → inRound (lastOr firstRound (roundsIn ms) .0) ms ≡ [] → ⊥
 last-some [] lt e = omega arith
-last-some (m ∷ ms) lt e = last-round m ms 0 e
+last-some (m ∷ ms) lt e = last-round m ms firstRound e
 
 module _ {a : Accepted} (ok : IsAccepted a) (plan : Plan) {runs : JobRuns} (legal : Legal a plan runs) {now : Marks} {x : ℕ} {m : Mark}
     (cut : Cut (marksOf runs) now x m) where
@@ -93,7 +94,7 @@ module _ {a : Accepted} (ok : IsAccepted a) (plan : Plan) {runs : JobRuns} (lega
   last-made y isY none e =
       let rounds = rounds-made y none in
       last-some (getD now y []) (omega (arith, ap length rounds, legal-rising a plan legal .hasStep (job y) isY))
-      (ap (λ (rs : List ℕ). inRound (lastOr 0 rs) (getD now y [])) (sym rounds) ∙ e)
+      (ap (λ (rs : List Round). inRound (lastOr firstRound rs .0) (getD now y [])) (sym rounds) ∙ e)
 
   -- that is not in the cut's round: the job is not x, no job above y has a step where y ends, and none above x has made one there
   end-apart : (y : ℕ) → y < jobTotal a → cut .rest y ≡ [] → endAt runs y ≡ m .round → ⊥

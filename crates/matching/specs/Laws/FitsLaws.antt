@@ -27,8 +27,9 @@ use Rattle.machine.specs.declared.Local.{Local}
 use Rattle.machine.specs.Buffers.{filled, planRoom}
 use Rattle.machine.specs.Instructions.{fresh}
 use Rattle.plan.specs.Plans.{Legal}
+use Rattle.plan.specs.declared.Round.{Round}
 use Rattle.plan.specs.Runs as runs
-use Rattle.plan.specs.Runs.{Plan, Step, Running, JobRun, JobRuns, jobTotal, runJob, runJobs, runStart, runPlan}
+use Rattle.plan.specs.Runs.{Plan, Step, Running, JobRun, JobRuns, jobTotal, firstRound, runJob, runJobs, runStart, runPlan}
 use Rattle.matching.specs.Laws.LegalLaws.{legal-run}
 
 -- ---- how far a run reads
@@ -57,7 +58,7 @@ module _ (a : Accepted) (plan : Plan) where
   onward-reads false next further most later e = later e
 
   -- a step is two bytes
-  job-reads : (x : Job) (left : ℕ) (local : Local) (previous : ℕ) (running : Running) {run : JobRun}
+  job-reads : (x : Job) (left : ℕ) (local : Local) (previous : Round) (running : Running) {run : JobRun}
       → runJob a plan x left local previous running ≡ passed run → jobEnd run ≤ running .offset + 2 * left
   unfolding runJob runs.runningAfter
   job-reads x zero local previous running e = omega (arith, ap jobEnd (passed-same {P = ℕ} e))
@@ -65,13 +66,13 @@ module _ (a : Accepted) (plan : Plan) where
       let effect : Effect = runs.stepEffect a plan x local running in
       let step = runs.stepMade a plan x running effect in
       let next : Running = runs.runningAfter plan x running effect in
-      let further = runJob a plan x left (effect .local) (step .round .0) next in
+      let further = runJob a plan x left (effect .local) (step .round) next in
       let onward = if effect .ended then passed (record { steps = []; running = next }) else further in
       let checks = then-passed (runs.stepBytes a plan x local previous (running .offset)) _ e in
       let after = bind-passed onward
       (λ rest. passed (record { steps = step ∷ rest .steps; running = rest .running })) (checks .2) in
       let rest = onward-reads (effect .ended) next further (2 * left)
-      (λ h. job-reads x left (effect .local) (step .round .0) next h) (after .1) in
+      (λ h. job-reads x left (effect .local) (step .round) next h) (after .1) in
       omega (arith, rest, before-reads step (after .0) (after .2))
 
   -- and a job has at most 16 steps
@@ -80,9 +81,9 @@ module _ (a : Accepted) (plan : Plan) where
   unfolding runJobs
   jobs-read [] running e = omega (arith, ap jobsEnd (passed-same {P = ℕ} e))
   jobs-read (x ∷ xs) running e =
-      let first = bind-passed (runJob a plan x mostInstructions fresh 0 running) _ e in
+      let first = bind-passed (runJob a plan x mostInstructions fresh firstRound running) _ e in
       let second = bind-passed (runJobs a plan xs (first .0 .running)) _ (first .2) in
-      let one = job-reads x mostInstructions fresh 0 running (first .1) in
+      let one = job-reads x mostInstructions fresh firstRound running (first .1) in
       let others = jobs-read xs (first .0 .running) (second .1) in
       omega (arith, one, others, ap jobsEnd (passed-same {P = ℕ} (second .2)))
 

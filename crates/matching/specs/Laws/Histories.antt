@@ -18,6 +18,7 @@ use Rattle.machine.specs.declared.Local.{Local}
 use Rattle.machine.specs.Ends.{noStore}
 use Rattle.machine.specs.Held.{priority}
 use Rattle.machine.specs.Instructions.{Store, fresh, perform}
+use Rattle.plan.specs.declared.Round.{Round}
 use Rattle.plan.specs.Runs.{Step}
 
 -- a step: its round and its value
@@ -31,6 +32,9 @@ Marks = List (List Mark)
 
 unfoldable pub job : ℕ → Job
 job x = record { 0 = x }
+
+abbrev pub round : ℕ → Round
+round r = record { 0 = r }
 
 -- one step more of job x, at the end
 unfoldable pub marked : Marks → ℕ → Mark → Marks

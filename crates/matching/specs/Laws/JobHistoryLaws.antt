@@ -25,8 +25,8 @@ use Rattle.machine.specs.Ends.{Flags, flagged}
 use Rattle.machine.specs.Instructions.{Store, fresh}
 use Rattle.order.specs.Laws.LengthLaws.{body-short}
 use Rattle.plan.specs.Runs as runs
-use Rattle.plan.specs.Runs.{Plan, JobRun, jobTotal, stepBytes, stepEffect, stepMade, runningAfter, runJob}
-use Rattle.matching.specs.Laws.Histories.{Mark, ColumnRun, job, unbegun, effectOf, stepped, markStep, runMarks}
+use Rattle.plan.specs.Runs.{Plan, JobRun, jobTotal, firstRound, stepBytes, stepEffect, stepMade, runningAfter, runJob}
+use Rattle.matching.specs.Laws.Histories.{Mark, ColumnRun, job, round, unbegun, effectOf, stepped, markStep, runMarks}
 use Rattle.matching.specs.Laws.PlanReading.{marksBytes, markOf, stepOf, Allowed, Whole, standing}
 
 -- ---- a mark in a plan
@@ -49,7 +49,8 @@ mark-stands plan o inside =
 
 -- a step's two bytes that pass are in the plan and are an allowed mark
 bytes-say : (a : Accepted) (plan : Plan) (x : ℕ) (c : ColumnRun) (previous o : ℕ) {u : Unit {0}}
-    → stepBytes a plan (job x) (c .column .local) previous o ≡ passed u → (o + 1 < length plan) × Allowed a x previous (markAt plan o) c
+    → stepBytes a plan (job x) (c .column .local) (round previous) o ≡ passed u
+    → (o + 1 < length plan) × Allowed a x previous (markAt plan o) c
 unfolding stepBytes markAt
 bytes-say a plan x c previous o e =
     let first = then-passed (require (ltb (o + 1) (length plan)) 40 (length plan)) _ e in
@@ -86,14 +87,15 @@ module _ (a : Accepted) (plan : Plan) (x left : ℕ) (c : ColumnRun) (previous o
   record Later (one : JobRun) : Type 0 where
     rest : JobRun
     goes : markStep a x here c .column .ended ≡ false
-    later : runJob a plan (job x) left (markStep a x here c .column .local) (here .round) onward ≡ passed rest
+    later : runJob a plan (job x) left (markStep a x here c .column .local) (round (here .round)) onward ≡ passed rest
     made : record { steps = stepOf a x here (effectOf a x here c) ∷ rest .steps; running = rest .running } ≡ one
 
-  job-says : {one : JobRun} → runJob a plan (job x) (suc left) (c .column .local) previous (standing o flags c) ≡ passed one
+  job-says : {one : JobRun}
+      → runJob a plan (job x) (suc left) (c .column .local) (round previous) (standing o flags c) ≡ passed one
       → (o + 1 < length plan) × Allowed a x previous here c × (Last one ⊎ Later one)
   unfolding runJob stepEffect stepMade runningAfter effectOf markStep stepped stepOf markAt job
   job-says {one} e =
-      let bytes = then-passed (stepBytes a plan (job x) (c .column .local) previous o) _ e in
+      let bytes = then-passed (stepBytes a plan (job x) (c .column .local) (round previous) o) _ e in
       let parts = bind-passed _ (λ rest. passed (record { steps = stepOf a x here (effectOf a x here c) ∷ rest .steps; running = rest .running })) (bytes .2) in
       let made = passed-same (parts .2) in
       let allowed = bytes-say a plan x c previous o (bytes .1) in (
@@ -132,7 +134,8 @@ module _ (a : Accepted) (plan : Plan) (x left : ℕ) (c : ColumnRun) (previous o
 module _ (a : Accepted) (plan : Plan) (x : ℕ) where
   -- a job that runs to its End runs over whole marks, whose bytes stand in the plan
   pub job-read : (left previous o : ℕ) (c : ColumnRun) (flags : Flags) {one : JobRun}
-      → runJob a plan (job x) left (c .column .local) previous (standing o flags c) ≡ passed one → c .column .ended ≡ false
+      → runJob a plan (job x) left (c .column .local) (round previous) (standing o flags c) ≡ passed one
+      → c .column .ended ≡ false
       → runMarks a x (map markOf (one .steps)) c .column .ended ≡ true → JobBack a plan x previous o c one
   unfolding runJob runMarks markOf stepOf
   job-read zero previous o c flags {one} e early ends =
@@ -153,7 +156,7 @@ module _ (a : Accepted) (plan : Plan) (x : ℕ) where
 module _ {a : Accepted} (ok : IsAccepted a) (plan : Plan) (x : ℕ) (isJob : x < jobTotal a) where
   -- from a place in the body, as many steps as instructions are left are enough
   run-ended : (left previous o : ℕ) (c : ColumnRun) (flags : Flags) {one : JobRun}
-      → runJob a plan (job x) left (c .column .local) previous (standing o flags c) ≡ passed one
+      → runJob a plan (job x) left (c .column .local) (round previous) (standing o flags c) ≡ passed one
       → c .column .local .next < length (bodyOf (taskOf (a .table) (jobAt a (job x) .task)))
       → length (bodyOf (taskOf (a .table) (jobAt a (job x) .task))) ≤ c .column .local .next + left
       → runMarks a x (map markOf (one .steps)) c .column .ended ≡ true
@@ -174,7 +177,7 @@ module _ {a : Accepted} (ok : IsAccepted a) (plan : Plan) (x : ℕ) (isJob : x <
 
   -- a job's run in a plan is that of whole marks
   pub column-read : (o : ℕ) (stores : List Store) (flags : Flags) {one : JobRun}
-      → runJob a plan (job x) 16 fresh 0 (record { offset = o; stores = stores; failed = flags }) ≡ passed one
+      → runJob a plan (job x) 16 fresh firstRound (record { offset = o; stores = stores; failed = flags }) ≡ passed one
       → JobBack a plan x 0 o (record { column = unbegun; stores = stores }) one
   unfolding unbegun fresh base job jobTotal
   column-read o stores flags e =

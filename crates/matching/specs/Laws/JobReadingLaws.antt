@@ -27,9 +27,10 @@ use Rattle.machine.specs.declared.Local.{Local}
 use Rattle.machine.specs.Ends.{Flags, flagged}
 use Rattle.machine.specs.Instructions.{Store, fresh, values}
 use Rattle.order.specs.Laws.LengthLaws.{body-short}
+use Rattle.plan.specs.declared.Round.{Round}
 use Rattle.plan.specs.Runs as runs
-use Rattle.plan.specs.Runs.{Plan, Step, JobRun, jobTotal, stepBytes, stepEffect, stepMade, runningAfter, runJob}
-use Rattle.matching.specs.Laws.Histories.{Mark, ColumnRun, job, unbegun, effectOf, stepped, markStep, runMarks}
+use Rattle.plan.specs.Runs.{Plan, Step, JobRun, jobTotal, firstRound, stepBytes, stepEffect, stepMade, runningAfter, runJob}
+use Rattle.matching.specs.Laws.Histories.{Mark, ColumnRun, job, round, unbegun, effectOf, stepped, markStep, runMarks}
 use Rattle.matching.specs.Laws.PlanReading.{marksBytes, stepOf, Allowed, Whole, standing}
 
 -- ---- a plan's next two bytes
@@ -70,7 +71,7 @@ require-true : {P : Type 0} (test : Bool) (number : ℕ) (place : P) → test �
 unfolding require
 require-true test number place e = rw e
 
-module _ (a : Accepted) (plan : Plan) (x : Job) (left : ℕ) (local : Local) (previous : ℕ) (running : runs.Running)
+module _ (a : Accepted) (plan : Plan) (x : Job) (left : ℕ) (local : Local) (previous : Round) (running : runs.Running)
     {effect : Effect} {step : Step} {next : runs.Running} where
   -- a step that is allowed and is the End
   job-ends : stepBytes a plan x local previous (running .offset) ≡ passed tt → stepEffect a plan x local running ≡ effect
@@ -82,14 +83,15 @@ module _ (a : Accepted) (plan : Plan) (x : Job) (left : ℕ) (local : Local) (pr
   -- and one that is not
   job-goes : stepBytes a plan x local previous (running .offset) ≡ passed tt → stepEffect a plan x local running ≡ effect
       → stepMade a plan x running effect ≡ step → runningAfter plan x running effect ≡ next → effect .ended ≡ false → {rest : JobRun}
-      → runJob a plan x left (effect .local) (step .round .0) next ≡ passed rest
+      → runJob a plan x left (effect .local) (step .round) next ≡ passed rest
       → runJob a plan x (suc left) local previous running ≡ passed (record { steps = step ∷ rest .steps; running = rest .running })
   unfolding runJob _>>=_ if_then_else_
   job-goes allowed does makes leaves goes later = then-goes _ allowed ∙ rw (does, makes, leaves, goes, later) refl
 
 module _ (a : Accepted) (plan : Plan) (x : ℕ) (o : ℕ) {m : Mark} {rest : List ℕ} (two : Two plan o (m .round) (m .value) rest) (c : ColumnRun) where
   -- the mark's two bytes are allowed
-  mark-passes : {previous : ℕ} → Allowed a x previous m c → stepBytes a plan (job x) (c .column .local) previous o ≡ passed tt
+  mark-passes : {previous : ℕ} → Allowed a x previous m c
+      → stepBytes a plan (job x) (c .column .local) (round previous) o ≡ passed tt
   unfolding stepBytes
   mark-passes {previous} allowed =
       let below : getD plan o 0 < jobTotal a = omega (arith, two .first, allowed .inPlan) in
@@ -127,20 +129,24 @@ longerRun a x m c rest = record { steps = stepOf a x m (effectOf a x m c) ∷ re
 module _ (a : Accepted) (plan : Plan) (x left previous o : ℕ) {m : Mark} {rest : List ℕ} (two : Two plan o (m .round) (m .value) rest)
     (c : ColumnRun) (flags : Flags) (allowed : Allowed a x previous m c) where
   mark-ends : markStep a x m c .column .ended ≡ true
-      → runJob a plan (job x) (suc left) (c .column .local) previous (standing o flags c) ≡ passed (lastRun a x m c o flags)
+      → runJob a plan (job x) (suc left) (c .column .local) (round previous) (standing o flags c)
+      ≡ passed (lastRun a x m c o flags)
   unfolding markStep stepped lastRun
   mark-ends ends =
-      job-ends a plan (job x) left (c .column .local) previous (standing o flags c) (mark-passes a plan x o {m = m} two c allowed)
-      (mark-does a plan x o {m = m} two c flags) (mark-makes a plan x o {m = m} two c flags _) (mark-leaves a plan x o {m = m} two c flags) ends
+      job-ends a plan (job x) left (c .column .local) (round previous) (standing o flags c)
+      (mark-passes a plan x o {m = m} two c allowed) (mark-does a plan x o {m = m} two c flags) (mark-makes a plan x o {m = m} two c flags _)
+      (mark-leaves a plan x o {m = m} two c flags) ends
 
   mark-goes : markStep a x m c .column .ended ≡ false → {later : JobRun}
-      → runJob a plan (job x) left (markStep a x m c .column .local) (m .round)
+      → runJob a plan (job x) left (markStep a x m c .column .local) (round (m .round))
       (standing (o + 2) (flagged (effectOf a x m c .failed) x flags) (markStep a x m c)) ≡ passed later
-      → runJob a plan (job x) (suc left) (c .column .local) previous (standing o flags c) ≡ passed (longerRun a x m c later)
+      → runJob a plan (job x) (suc left) (c .column .local) (round previous) (standing o flags c)
+      ≡ passed (longerRun a x m c later)
   unfolding markStep stepped stepOf longerRun
   mark-goes goes onward =
-      job-goes a plan (job x) left (c .column .local) previous (standing o flags c) (mark-passes a plan x o {m = m} two c allowed)
-      (mark-does a plan x o {m = m} two c flags) (mark-makes a plan x o {m = m} two c flags _) (mark-leaves a plan x o {m = m} two c flags) goes onward
+      job-goes a plan (job x) left (c .column .local) (round previous) (standing o flags c)
+      (mark-passes a plan x o {m = m} two c allowed) (mark-does a plan x o {m = m} two c flags) (mark-makes a plan x o {m = m} two c flags _)
+      (mark-leaves a plan x o {m = m} two c flags) goes onward
 
 -- ---- a job
 
@@ -188,7 +194,9 @@ module _ (a : Accepted) (plan : Plan) (x : ℕ) where
   -- a job whose marks stand in the plan and are whole runs over them
   pub job-runs : (ms : List Mark) (left previous o : ℕ) (c : ColumnRun) (flags : Flags) (rest : List ℕ) → Whole a x previous ms c
       → drop o plan ≡ marksBytes ms ++ rest → length ms ≤ left
-      → (one : JobRun) × (runJob a plan (job x) left (c .column .local) previous (standing o flags c) ≡ passed one) × JobRead a x ms c o flags one
+      → (one : JobRun)
+      × (runJob a plan (job x) left (c .column .local) (round previous) (standing o flags c) ≡ passed one)
+      × JobRead a x ms c o flags one
   unfolding marksBytes each
   job-runs [] left previous o c flags rest whole bytes short = absurd whole
   job-runs (m ∷ ms) zero previous o c flags rest whole bytes short = absurd (omega arith)
@@ -225,7 +233,7 @@ module _ (a : Accepted) (plan : Plan) (x : ℕ) (stores : List Store) where
   -- a whole job's run leaves its column's steps and stores, and its flag
   pub column-runs : (ms : List Mark) (left o : ℕ) (flags : Flags) (rest : List ℕ)
       → Whole a x 0 ms (record { column = unbegun; stores = stores }) → drop o plan ≡ marksBytes ms ++ rest → length ms ≤ left
-      → runJob a plan (job x) left fresh 0 (record { offset = o; stores = stores; failed = flags })
+      → runJob a plan (job x) left fresh firstRound (record { offset = o; stores = stores; failed = flags })
       ≡ passed (record {
         steps = runMarks a x ms (record { column = unbegun; stores = stores }) .column .steps;
         running = standing (o + length (marksBytes ms))

@@ -14,7 +14,7 @@ use borrow.Author.Tests.{ltb-true, leb-true, eqb-true, lt-ltb, ne-eqb, not-false
 use Rattle.notation.specs.Checked.{passed, noneOf, placedBy, _>>_}
 use Rattle.notation.specs.Laws.CheckedLaws.{passed-same, bind-passed, then-passed, placed-passed, noneOf-passed}
 use Rattle.notation.specs.Laws.ListLaws.{upTo-member, each-member}
-use Rattle.notation.specs.Lists.{if_then_else_, upTo, all, only, same}
+use Rattle.notation.specs.Lists.{if_then_else_, all, only, same}
 use Rattle.notation.specs.Laws.QuantifierLaws.{at-all}
 use Rattle.notation.specs.Laws.TestLaws.{both, either, and-holds}
 use Rattle.timing.specs.declared.Job.{Job}
@@ -22,9 +22,11 @@ use Rattle.timing.specs.Accepted.{Accepted}
 use Rattle.timing.specs.Code.IsAccepted.{Timed}
 use Rattle.timing.specs.Laws.RelationLaws.{related}
 use Rattle.timing.specs.Relations.{IsJob, base, before, mayPreempt, jobNumbers}
+use Rattle.plan.specs.declared.Round.{Round}
 use Rattle.plan.specs.Legality.{Pair, pairs, roundsOf, start, end, beforeRule, apart, nested, noStepWithin, preemptRule, priorityAt, lockRule, orderFault, lockFault, dueStore, guessFault, legality}
 use Rattle.plan.specs.Plans.{Legal, legalRun}
-use Rattle.plan.specs.Runs.{Plan, JobRuns, guess, jobTotal, runPlan}
+use Rattle.plan.specs.Runs.{Plan, JobRuns, jobTotal, roundNumbers, firstRound, guess, runPlan}
+use Rattle.matching.specs.Laws.RoundLaws.{round-member}
 
 -- ---- lists and tests
 
@@ -78,7 +80,7 @@ pairs-member a x y isJob lt =
 pub record Faultless (a : Accepted) (plan : Plan) (runs : JobRuns) : Type 0 where
   pub orders : {p : Pair} → List·Memᴰ p (pairs a) → orderFault a runs p ≡ false
   pub locks : {p : Pair} → List·Memᴰ p (pairs a) → lockFault a runs p ≡ false
-  pub guesses : {r : ℕ} → List·Memᴰ r (upTo (jobTotal a)) → guessFault a plan runs r ≡ false
+  pub guesses : {r : Round} → List·Memᴰ r (roundNumbers a) → guessFault a plan runs r ≡ false
 
 -- the three rules of x towards y
 abbrev pub Rules : Accepted → JobRuns → Job → Job → Type 0
@@ -102,7 +104,7 @@ module _ (a : Accepted) (plan : Plan) {runs : JobRuns} (legal : Legal a plan run
       record {
         orders = noneOf-passed 43 (orderFault a runs) (placed-passed (λ p. p .lower .0) _ (first .1));
         locks = noneOf-passed 44 (lockFault a runs) (placed-passed (λ p. p .lower .0) _ (second .1));
-        guesses = noneOf-passed 45 (guessFault a plan runs) (second .2);
+        guesses = noneOf-passed 45 (guessFault a plan runs) (placed-passed (λ r. r .0) _ (second .2));
       }
 
   -- a pair's tests ask the rules both ways
@@ -124,35 +126,41 @@ module _ (a : Accepted) (plan : Plan) {runs : JobRuns} (legal : Legal a plan run
       ]
 
   -- each round's guess is the store that it must start from
-  pub legal-guesses : (r : ℕ) → r < jobTotal a → guess plan r ≡ dueStore a runs r
+  pub legal-guesses : (r : Round) → r .0 < jobTotal a → guess plan r ≡ dueStore a runs r
   unfolding guessFault
-  legal-guesses r lt = same-equal _ _ (not-false _ (legal-faultless .guesses (upTo-member (jobTotal a) r .1 lt)))
+  legal-guesses r lt = same-equal _ _ (not-false _ (legal-faultless .guesses (round-member a r lt)))
 
 -- ---- how two jobs' rounds lie to each other
+
+-- the round of a job's step k
+abbrev pub roundOf : JobRuns → Job → ℕ → Round
+roundOf runs x k = getD (roundsOf runs x) k firstRound
 
 -- every job has a step, and its rounds lie between its start and its end
 pub record Rising (a : Accepted) (runs : JobRuns) : Type 0 where
   pub hasStep : (x : Job) → IsJob a x → 0 < length (roundsOf runs x)
   pub between : (x : Job) → IsJob a x → (k : ℕ) → k < length (roundsOf runs x)
-      → (start runs x ≤ getD (roundsOf runs x) k 0) × (getD (roundsOf runs x) k 0 ≤ end runs x)
+      → (start runs x .0 ≤ roundOf runs x k .0) × (roundOf runs x k .0 ≤ end runs x .0)
 
-pub start-end : {a : Accepted} {runs : JobRuns} → Rising a runs → (x : Job) → IsJob a x → start runs x ≤ end runs x
+pub start-end : {a : Accepted} {runs : JobRuns} → Rising a runs → (x : Job) → IsJob a x
+    → start runs x .0 ≤ end runs x .0
 start-end rising x isJob = omega (arith, rising .between x isJob 0 (rising .hasStep x isJob))
 
 -- Y is nested in X, with all that the third case asks
 pub record Within (a : Accepted) (runs : JobRuns) (y x : Job) : Type 0 where
   pub preempts : mayPreempt a y x ≡ true
-  pub starts : start runs x ≤ start runs y
-  pub ends : end runs y < end runs x
+  pub starts : start runs x .0 ≤ start runs y .0
+  pub ends : end runs y .0 < end runs x .0
   pub clear : noStepWithin runs x y ≡ true
   pub unlocked : priorityAt a runs x (start runs y) < base a y
 
 -- x ends before y starts, or y ends before x starts, or y is nested in x
 abbrev pub Lying : Accepted → JobRuns → Job → Job → Type 0
-Lying a runs x y = (end runs x < start runs y) ⊎ (end runs y < start runs x) ⊎ Within a runs y x
+Lying a runs x y = (end runs x .0 < start runs y .0) ⊎ (end runs y .0 < start runs x .0) ⊎ Within a runs y x
 
 -- "X before Y: end X < start Y."
-before-ends : (a : Accepted) (runs : JobRuns) (x y : Job) → beforeRule a runs x y ≡ true → before a x y ≡ true → end runs x < start runs y
+before-ends : (a : Accepted) (runs : JobRuns) (x y : Job) → beforeRule a runs x y ≡ true → before a x y ≡ true
+    → end runs x .0 < start runs y .0
 unfolding beforeRule
 before-ends a runs x y rule h = ltb-true _ _ (asked (before a x y) _ rule h)
 
@@ -161,7 +169,7 @@ nested-within : (a : Accepted) (runs : JobRuns) (y x : Job) → mayPreempt a y x
     → lockRule a runs y x ≡ true → Within a runs y x
 unfolding lockRule nested
 nested-within a runs y x may nest clear rule =
-    let parts = both (leb (start runs x) (start runs y)) _ nest in
+    let parts = both (leb (start runs x .0) (start runs y .0)) _ nest in
     record {
       preempts = may;
       starts = leb-true _ _ (parts .0);
@@ -177,7 +185,7 @@ unfolding preemptRule apart
 preempt-lies a runs y x rule lock may =
     elim (either (not (mayPreempt a y x) || apart runs x y) _ rule) [
       | inl aside ↦
-          elim (either (ltb (end runs x) (start runs y)) _ (asked (mayPreempt a y x) _ aside may)) [
+          elim (either (ltb (end runs x .0) (start runs y .0)) _ (asked (mayPreempt a y x) _ aside may)) [
             | inl e ↦ inl (ltb-true _ _ e)
             | inr e ↦ inr (inl (ltb-true _ _ e))
           ]
@@ -188,7 +196,7 @@ preempt-lies a runs y x rule lock may =
 
 -- a round of y is not the end of x
 lying-none : {a : Accepted} {runs : JobRuns} → Rising a runs → (x y : Job) → IsJob a x → IsJob a y → Lying a runs x y
-    → (k : ℕ) → k < length (roundsOf runs y) → getD (roundsOf runs y) k 0 ≡ end runs x → ⊥
+    → (k : ℕ) → k < length (roundsOf runs y) → roundOf runs y k .0 ≡ end runs x .0 → ⊥
 lying-none rising x y isX isY lies k lt =
     let round = rising .between y isY k lt in
     elim lies [
@@ -198,7 +206,7 @@ lying-none rising x y isX isY lies k lt =
     ]
 
 lying-differ : {a : Accepted} {runs : JobRuns} → Rising a runs → (x y : Job) → IsJob a x → IsJob a y → Lying a runs x y
-    → end runs x ≡ end runs y → ⊥
+    → end runs x .0 ≡ end runs y .0 → ⊥
 lying-differ rising x y isX isY lies e =
     elim lies [
       | inl first ↦ omega (arith, start-end rising y isY)
@@ -219,7 +227,7 @@ module _ (a : Accepted) (plan : Plan) {runs : JobRuns} (timed : Timed a) (legal 
 
   module _ (rising : Rising a runs) where
     -- two jobs' ends differ
-    pub ends-differ : (x y : Job) → IsJob a x → IsJob a y → (x .0 ≡ y .0 → ⊥) → end runs x ≡ end runs y → ⊥
+    pub ends-differ : (x y : Job) → IsJob a x → IsJob a y → (x .0 ≡ y .0 → ⊥) → end runs x .0 ≡ end runs y .0 → ⊥
     ends-differ x y isX isY distinct e =
         elim (decLt (x .0) (y .0)) [
           | yes below ↦ lying-differ rising x y isX isY (rounds-lie x y isY below) e
@@ -227,7 +235,7 @@ module _ (a : Accepted) (plan : Plan) {runs : JobRuns} (timed : Timed a) (legal 
         ]
 
     -- so a job is known by its end
-    pub ends-tell : (x y : Job) → IsJob a x → IsJob a y → end runs x ≡ end runs y → x .0 ≡ y .0
+    pub ends-tell : (x y : Job) → IsJob a x → IsJob a y → end runs x .0 ≡ end runs y .0 → x .0 ≡ y .0
     ends-tell x y isX isY e =
         elim (ℕ-discrete (x .0) (y .0)) [
           | yes equal ↦ equal
@@ -236,9 +244,11 @@ module _ (a : Accepted) (plan : Plan) {runs : JobRuns} (timed : Timed a) (legal 
 
     -- in the round where x ends, no job above x in number has a step
     pub above-none-at : (x y : Job) → IsJob a y → x .0 < y .0 → (k : ℕ) → k < length (roundsOf runs y)
-        → getD (roundsOf runs y) k 0 ≡ end runs x → ⊥
+        → roundOf runs y k .0 ≡ end runs x .0 → ⊥
     above-none-at x y isJob lt = lying-none rising x y (omega arith) isJob (rounds-lie x y isJob lt)
 
-    pub above-none : (x y : Job) → IsJob a y → x .0 < y .0 → all (λ r. not (eqb r (end runs x))) (roundsOf runs y) ≡ true
+    pub above-none : (x y : Job) → IsJob a y → x .0 < y .0
+        → all (λ r. not (eqb (r .0) (end runs x .0))) (roundsOf runs y) ≡ true
     above-none x y isJob lt =
-        at-all (λ r. not (eqb r (end runs x))) (roundsOf runs y) 0 (λ k below. ap not (ne-eqb _ _ (above-none-at x y isJob lt k below)))
+        at-all (λ r. not (eqb (r .0) (end runs x .0))) (roundsOf runs y) firstRound
+        (λ k below. ap not (ne-eqb _ _ (above-none-at x y isJob lt k below)))

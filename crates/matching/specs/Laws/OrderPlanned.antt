@@ -8,8 +8,7 @@ use mathlib.Core.List.{List, []}
 use lib.ListN.{length, getD}
 use Rattle.notation.specs.Checked.{passed}
 use Rattle.taskfile.specs.Laws.CheckSteps.{bind-goes, then-goes}
-use Rattle.notation.specs.Laws.ListLaws.{getD-any, upTo-length, getD-upTo}
-use Rattle.notation.specs.Lists.{upTo}
+use Rattle.notation.specs.Laws.ListLaws.{getD-any}
 use Rattle.notation.specs.Laws.QuantifierLaws.{map-length, map-at}
 use Rattle.timing.specs.Accepted.{Accepted}
 use Rattle.timing.specs.Code.IsAccepted.{IsAccepted}
@@ -24,13 +23,14 @@ use Rattle.plan.specs.Plans.{legalRun, endOf, Legal}
 use Rattle.plan.specs.Runs.{Plan, JobRuns, guess, jobTotal, runPlan}
 use Rattle.matching.specs.Laws.ColumnLaws.{columns-jobs}
 use Rattle.matching.specs.Conversions.{planOf, orderOf}
-use Rattle.matching.specs.Laws.Histories.{Marks, job, rows, JobColumn, unbegun, columns}
+use Rattle.matching.specs.Laws.Histories.{Marks, job, round, rows, JobColumn, unbegun, columns}
 use Rattle.matching.specs.Laws.OrderKept.{stepsBy, OrderKept, parts-same}
 use Rattle.matching.specs.Laws.OrderRuns.{kept-complete, stores-complete}
 use Rattle.matching.specs.Laws.PairedLegal.{SameSteps, paired-legal}
 use Rattle.matching.specs.Laws.PartLaws.{parts-all}
-use Rattle.matching.specs.Laws.PlanReading.{written, guessesOf, Eights, guessed, AllWhole, columnsRun}
+use Rattle.matching.specs.Laws.PlanReading.{written, Eights, guessed, AllWhole, columnsRun}
 use Rattle.matching.specs.Laws.PlanReadingLaws.{guesses-back, plan-runs, marks-back}
+use Rattle.matching.specs.Laws.RoundLaws.{guess-of}
 use Rattle.matching.specs.Laws.RowLaws.{rows-order}
 use Rattle.matching.specs.Laws.TraceEnds.{last-store, failed-flags}
 use Rattle.matching.specs.Laws.TraceStepLaws.{traced-whole, guesses-whole, marks-whole, plan-traced, first-guess}
@@ -100,11 +100,9 @@ module _ {a : Accepted} (ok : IsAccepted a) {order : List ℕ} {s : State} (comp
   run-stores = refl
 
   -- the plan's guesses are the trace's, the first of which is the initial store
-  guess-is : (q : ℕ) → q < jobTotal a → guess plan q ≡ getD guesses q []
-  unfolding guessesOf
+  guess-is : (q : ℕ) → q < jobTotal a → guess plan (round q) ≡ getD guesses q []
   guess-is q lt =
-      ap (guess plan) (sym (getD-upTo (jobTotal a) q 0 lt))
-      ∙ sym (map-at (guess plan) (upTo (jobTotal a)) q 0 [] (omega (arith, upTo-length (jobTotal a))))
+      sym (guess-of a plan q [] lt)
       ∙ ap (λ (l : List Store). getD l q []) (guesses-back a guesses h (guesses-whole a order) eights)
 
   guess-zero : 0 < jobTotal a → getD guesses 0 [] ≡ a .table .store
@@ -112,7 +110,7 @@ module _ {a : Accepted} (ok : IsAccepted a) {order : List ℕ} {s : State} (comp
   guess-zero lt = traced-whole a order .kept 0 (omega arith) ∙ first-guess (a .table .store) (jobTotal a) [] lt
 
   -- and each later one the store that the round before left
-  guess-due : (q : ℕ) → q < jobTotal a → guess plan q ≡ dueStore a runs q
+  guess-due : (q : ℕ) → q < jobTotal a → guess plan (round q) ≡ dueStore a runs (round q)
   unfolding dueStore
   guess-due zero lt = guess-is 0 lt ∙ guess-zero lt
   guess-due (suc q) lt =
@@ -126,7 +124,8 @@ module _ {a : Accepted} (ok : IsAccepted a) {order : List ℕ} {s : State} (comp
   plan-legal : Legal a plan runs
   unfolding legalRun
   plan-legal =
-      let fair = paired-legal a runs (stepsBy a h guesses) same-steps (kept .pairs) (complete .finished) plan guess-due in
+      let fair = paired-legal a runs (stepsBy a h guesses) same-steps (kept .pairs) (complete .finished) plan
+      (λ r lt. guess-due (r .0) lt) in
       bind-goes _ plan-run ∙ then-goes _ fair
 
   -- ---- its end

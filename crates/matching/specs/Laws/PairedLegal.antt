@@ -6,12 +6,12 @@ use mathlib.Core.Logic.{_⊎_, inl, inr}
 use Prim.Native.Nat.{ℕ, _≤_, _<_}
 use native.Mathlib.Omega.{arith}
 use mathlib.Core.Bool.{Bool, true, false, not, _&&_, _||_}
-use mathlib.Core.List.{List, [], _∷_, map, List·Memᴰ, List·Memᴰ·not-nil, List·Memᴰ·head, List·Memᴰ·tail, List·Memᴰ·cases-cons, Memᴰ·of-map}
-use lib.ListN.{length, getD}
+use mathlib.Core.List.{List, [], _∷_, map, map-map, List·Memᴰ, List·Memᴰ·not-nil, List·Memᴰ·head, List·Memᴰ·tail, List·Memᴰ·cases-cons, Memᴰ·of-map}
+use lib.ListN.{length, getD, List·getD-map}
 use lib.Dec.{leb, ltb, eqb}
 use borrow.Author.Tests.{ltb-true, leb-true, lt-ltb, le-ltb, le-leb, lt-leb, eq-eqb}
 use Rattle.notation.specs.Checked.{passed, noneOf, placedBy}
-use Rattle.taskfile.specs.Laws.CheckSteps.{then-goes, noneOf-upTo-none}
+use Rattle.taskfile.specs.Laws.CheckSteps.{then-goes}
 use Rattle.notation.specs.Laws.ListLaws.{upTo-member, member-each}
 use Rattle.notation.specs.Lists.{if_then_else_, upTo, only, same, firstOr, lastOr}
 use Rattle.notation.specs.Laws.QuantifierLaws.{at-all, map-length}
@@ -22,10 +22,12 @@ use Rattle.timing.specs.Laws.JobNumberLaws.{all-jobs}
 use Rattle.timing.specs.Relations.{IsJob, base, before, mayPreempt, jobNumbers}
 use Rattle.order.specs.Code.Invariant.{hasBegun}
 use Rattle.order.specs.States.{State, hasEnded, allEnded}
+use Rattle.plan.specs.declared.Round.{Round}
 use Rattle.plan.specs.Legality.{Pair, pairs, stepsOf, roundsOf, start, end, beforeRule, apart, nested, noStepWithin, preemptRule, priorityAt, lockRule, orderFault, lockFault, dueStore, guessFault, legality}
-use Rattle.plan.specs.Runs.{Plan, Step, JobRuns, guess, jobTotal}
-use Rattle.matching.specs.Laws.LegalLaws.{Rules, asked-holds}
+use Rattle.plan.specs.Runs.{Plan, Step, JobRuns, jobTotal, roundNumbers, firstRound, guess}
+use Rattle.matching.specs.Laws.LegalLaws.{roundOf, Rules, asked-holds}
 use Rattle.matching.specs.Laws.Pairings.{Made, madeRounds, first, last, priorityUpTo, Clear, Inside, Paired}
+use Rattle.matching.specs.Laws.RoundLaws.{member-round}
 
 -- ---- lists and tests
 
@@ -36,6 +38,17 @@ outside s e r h =
       | inl low ↦ ap not (and-first (ltb s r) (leb r e) (le-ltb s r low))
       | inr high ↦ ap not (and-last (ltb s r) (leb r e) (lt-leb r e high))
     ]
+
+-- the first and the last element, by what a function says of each
+first-map : {A B : Type 0} (f : A → B) (d : A) (xs : List A) → f (firstOr d xs) ≡ firstOr (f d) (map f xs)
+unfolding firstOr
+first-map f d [] = refl
+first-map f d (x ∷ xs) = refl
+
+last-map : {A B : Type 0} (f : A → B) (d : A) (xs : List A) → f (lastOr d xs) ≡ lastOr (f d) (map f xs)
+unfolding lastOr
+last-map f d [] = refl
+last-map f d (x ∷ xs) = last-map f x xs
 
 -- a list is the same as itself
 same-refl : (xs : List ℕ) → same xs xs ≡ true
@@ -83,9 +96,10 @@ pairs-all a P h p m =
     let kept = member-only (λ (y : Job). ltb (x .0) (y .0)) (jobNumbers a) (inner .1) in
     subst P (inner .2) (h x (inner .0) (jobs-are a x (outer .1)) (jobs-are a (inner .0) kept))
 
-guess-right : (a : Accepted) (plan : Plan) (runs : JobRuns) (q : ℕ) → guess plan q ≡ dueStore a runs q → guessFault a plan runs q ≡ false
+guess-right : (a : Accepted) (plan : Plan) (runs : JobRuns) (r : Round) → guess plan r ≡ dueStore a runs r
+    → guessFault a plan runs r ≡ false
 unfolding guessFault
-guess-right a plan runs q e = ap not (ap (λ (s : List ℕ). same (guess plan q) s) (sym e) ∙ same-refl (guess plan q))
+guess-right a plan runs r e = ap not (ap (λ (s : List ℕ). same (guess plan r) s) (sym e) ∙ same-refl (guess plan r))
 
 -- ---- two jobs' rules
 
@@ -95,30 +109,39 @@ SameSteps a runs made = (x : Job) → IsJob a x → getD (runs .steps) (x .0) []
 
 module _ (a : Accepted) (runs : JobRuns) (made : Made) (steps : SameSteps a runs made) where
   -- so its rounds, starts, ends and priorities are the order's
-  rounds-made : (x : Job) → IsJob a x → roundsOf runs x ≡ madeRounds made x
+  rounds-made : (x : Job) → IsJob a x → map (λ r. r .0) (roundsOf runs x) ≡ madeRounds made x
   unfolding roundsOf madeRounds stepsOf
-  rounds-made x isJob = ap (map (λ (step : Step). step .round .0)) (steps x isJob)
+  rounds-made x isJob =
+      map-map (λ (r : Round). r .0) (λ (step : Step). step .round) (stepsOf runs x)
+      ∙ ap (map (λ (step : Step). step .round .0)) (steps x isJob)
 
-  start-made : (x : Job) → IsJob a x → start runs x ≡ first made x
+  round-made : (x : Job) → IsJob a x → (k : ℕ) → roundOf runs x k .0 ≡ getD (madeRounds made x) k 0
+  round-made x isJob k =
+      sym (List·getD-map (λ (r : Round). r .0) (roundsOf runs x) k firstRound)
+      ∙ ap (λ (l : List ℕ). getD l k 0) (rounds-made x isJob)
+
+  start-made : (x : Job) → IsJob a x → start runs x .0 ≡ first made x
   unfolding start first
-  start-made x isJob = ap (firstOr 0) (rounds-made x isJob)
+  start-made x isJob = first-map (λ (r : Round). r .0) firstRound (roundsOf runs x) ∙ ap (firstOr 0) (rounds-made x isJob)
 
-  end-made : (x : Job) → IsJob a x → end runs x ≡ last made x
+  end-made : (x : Job) → IsJob a x → end runs x .0 ≡ last made x
   unfolding end last
-  end-made x isJob = ap (lastOr 0) (rounds-made x isJob)
+  end-made x isJob = last-map (λ (r : Round). r .0) firstRound (roundsOf runs x) ∙ ap (lastOr 0) (rounds-made x isJob)
 
-  priority-made : (x : Job) (r : ℕ) → IsJob a x → priorityAt a runs x r ≡ priorityUpTo a made x r
+  priority-made : (x : Job) (r : Round) → IsJob a x → priorityAt a runs x r ≡ priorityUpTo a made x (r .0)
   unfolding priorityAt priorityUpTo stepsOf
   priority-made x r isJob =
-      ap (λ (l : List Step). lastOr (base a x) (map (λ step. step .priorityAfter) (only (λ step. leb (step .round .0) r) l))) (steps x isJob)
+      ap (λ (l : List Step). lastOr (base a x) (map (λ step. step .priorityAfter) (only (λ step. leb (step .round .0) (r .0)) l))) (steps x isJob)
 
   -- no step of x within y
   clear-made : (x y : Job) → IsJob a x → IsJob a y → Clear made x y → noStepWithin runs x y ≡ true
   unfolding noStepWithin
   clear-made x y isX isY clear =
-      rw (rounds-made x isX, start-made y isY, end-made y isY)
-      (at-all (λ r. not (ltb (first made y) r && leb r (last made y))) (madeRounds made x) 0
-      (λ k lt. outside (first made y) (last made y) (getD (madeRounds made x) k 0) (clear k lt)))
+      let count = map-length (λ (r : Round). r .0) (roundsOf runs x) in
+      rw (start-made y isY, end-made y isY)
+      (at-all (λ r. not (ltb (first made y) (r .0) && leb (r .0) (last made y))) (roundsOf runs x) firstRound
+      (λ k lt. outside (first made y) (last made y) (roundOf runs x k .0)
+      (rw (round-made x isX k) (clear k (omega (arith, lt, count, ap length (rounds-made x isX)))))))
 
   module _ {s : State} {r : ℕ} (paired : Paired a s r made) (done : allEnded a s ≡ true) where
     ended : (x : Job) → IsJob a x → hasEnded s x ≡ true
@@ -142,8 +165,8 @@ module _ (a : Accepted) (runs : JobRuns) (made : Made) (steps : SameSteps a runs
     before-made : (x y : Job) → IsJob a x → IsJob a y → beforeRule a runs x y ≡ true
     unfolding beforeRule
     before-made x y isX isY =
-        asked-holds (before a x y) (ltb (end runs x) (start runs y))
-        (λ h. lt-ltb (end runs x) (start runs y)
+        asked-holds (before a x y) (ltb (end runs x .0) (start runs y .0))
+        (λ h. lt-ltb (end runs x .0) (start runs y .0)
         (omega (arith, paired .preceding x y isX isY h (begun y isY), end-made x isX, start-made y isY)))
 
     -- "start X ≤ start Y and end Y < end X", with no step of X within Y
@@ -151,8 +174,8 @@ module _ (a : Accepted) (runs : JobRuns) (made : Made) (steps : SameSteps a runs
         → (nested runs y x && noStepWithin runs x y) ≡ true
     unfolding nested
     nested-made x y isX isY inside ends =
-        let starts : start runs x ≤ start runs y = omega (arith, inside .starts, start-made x isX, start-made y isY) in
-        let closes : end runs y < end runs x = omega (arith, ends, end-made x isX, end-made y isY) in
+        let starts : start runs x .0 ≤ start runs y .0 = omega (arith, inside .starts, start-made x isX, start-made y isY) in
+        let closes : end runs y .0 < end runs x .0 = omega (arith, ends, end-made x isX, end-made y isY) in
         and-holds _ _ (and-holds _ _ (le-leb _ _ starts) (lt-ltb _ _ closes)) (clear-made x y isX isY (inside .clear))
 
     -- "Y may preempt X: either end X < start Y, or end Y < start X, or .."
@@ -162,11 +185,11 @@ module _ (a : Accepted) (runs : JobRuns) (made : Made) (steps : SameSteps a runs
     lies-made x y isX isY may =
         elim (paired .both-ended x y isX isY may (ended x isX) (ended y isY)) [
           | inl earlier ↦
-              let lt : end runs x < start runs y = omega (arith, earlier, end-made x isX, start-made y isY) in
-              inl (or-left (ltb (end runs x) (start runs y)) _ (lt-ltb _ _ lt))
+              let lt : end runs x .0 < start runs y .0 = omega (arith, earlier, end-made x isX, start-made y isY) in
+              inl (or-left (ltb (end runs x .0) (start runs y .0)) _ (lt-ltb _ _ lt))
           | inr (inl later) ↦
-              let lt : end runs y < start runs x = omega (arith, later, end-made y isY, start-made x isX) in
-              inl (or-right (ltb (end runs x) (start runs y)) _ (lt-ltb _ _ lt))
+              let lt : end runs y .0 < start runs x .0 = omega (arith, later, end-made y isY, start-made x isX) in
+              inl (or-right (ltb (end runs x .0) (start runs y .0)) _ (lt-ltb _ _ lt))
           | inr (inr inner) ↦ inr (nested-made x y isX isY (inner .0) (inner .1))
         ]
 
@@ -187,9 +210,9 @@ module _ (a : Accepted) (runs : JobRuns) (made : Made) (steps : SameSteps a runs
         → (first made x ≤ first made y) × (last made y < last made x)
     unfolding nested
     nested-says x y isX isY nest =
-        let parts = both (leb (start runs x) (start runs y)) _ nest in
-        let starts = leb-true (start runs x) (start runs y) (parts .0) in
-        let closes = ltb-true (end runs y) (end runs x) (parts .1) in (
+        let parts = both (leb (start runs x .0) (start runs y .0)) _ nest in
+        let starts = leb-true (start runs x .0) (start runs y .0) (parts .0) in
+        let closes = ltb-true (end runs y .0) (end runs x .0) (parts .1) in (
           omega (arith, starts, start-made x isX, start-made y isY),
           omega (arith, closes, end-made x isX, end-made y isY),
         )
@@ -202,7 +225,7 @@ module _ (a : Accepted) (runs : JobRuns) (made : Made) (steps : SameSteps a runs
         elim (paired .both-ended x y isX isY may (ended x isX) (ended y isY)) [
           | inl earlier ↦ absurd (omega (arith, says .1, earlier, first-last y isY))
           | inr (inl later) ↦ absurd (omega (arith, says .0, later, first-last y isY))
-          | inr (inr inner) ↦ rw (start-made y isY, priority-made x (first made y) isX) (inner .0 .unlocked)
+          | inr (inr inner) ↦ rw (priority-made x (start runs y) isX, start-made y isY) (inner .0 .unlocked)
         ]
 
     lock-made : (x y : Job) → IsJob a x → IsJob a y → lockRule a runs y x ≡ true
@@ -239,12 +262,14 @@ module _ (a : Accepted) (runs : JobRuns) (made : Made) (steps : SameSteps a runs
     paired-locks = pairs-all a (λ p. lockFault a runs p ≡ false) paired-lock
 
     -- and with the right guesses the run is legal
-    pub paired-legal : (plan : Plan) → ((q : ℕ) → q < jobTotal a → guess plan q ≡ dueStore a runs q) → legality a plan runs ≡ passed tt
+    pub paired-legal : (plan : Plan) → ((r : Round) → r .0 < jobTotal a → guess plan r ≡ dueStore a runs r)
+        → legality a plan runs ≡ passed tt
     unfolding legality placedBy
     paired-legal plan right =
         let orders = none-faulty 43 (orderFault a runs) (pairs a) paired-orders in
         let locks = none-faulty 44 (lockFault a runs) (pairs a) paired-locks in
-        let guesses = noneOf-upTo-none 45 (guessFault a plan runs) (jobTotal a) (λ q lt. guess-right a plan runs q (right q lt)) in
+        let guesses = none-faulty 45 (guessFault a plan runs) (roundNumbers a)
+        (λ r m. guess-right a plan runs r (right r (member-round a r m))) in
         then-goes _ (ap (placedBy (λ (p : Pair). p .lower .0)) orders)
         ∙ then-goes _ (ap (placedBy (λ (p : Pair). p .lower .0)) locks)
-        ∙ guesses
+        ∙ ap (placedBy (λ (r : Round). r .0)) guesses

@@ -7,9 +7,8 @@ use native.Mathlib.Omega.{arith}
 use mathlib.Core.Bool.{true}
 use mathlib.Core.List.{List, [], _∷_, map}
 use lib.ListN.{length, getD, List·getD-map}
-use Rattle.notation.specs.Laws.ListLaws.{upTo-length, getD-upTo, map-snoc}
-use Rattle.notation.specs.Lists.{upTo, lastOr}
-use Rattle.notation.specs.Laws.QuantifierLaws.{map-at}
+use Rattle.notation.specs.Laws.ListLaws.{map-snoc}
+use Rattle.notation.specs.Lists.{lastOr}
 use Rattle.taskfile.specs.Tables.{ceilingsOf}
 use Rattle.timing.specs.Accepted.{Accepted}
 use Rattle.timing.specs.Code.IsAccepted.{IsAccepted}
@@ -20,9 +19,9 @@ use Rattle.machine.specs.Laws.HeldLaws.{priority-none}
 use Rattle.machine.specs.Instructions.{Store, fresh}
 use Rattle.plan.specs.Legality.{stepsOf, dueStore}
 use Rattle.plan.specs.Plans.{Legal}
-use Rattle.plan.specs.Runs.{Plan, Step, JobRuns, guess, jobTotal}
+use Rattle.plan.specs.Runs.{Plan, Step, JobRuns, jobTotal, firstRound}
 use Rattle.matching.specs.Laws.CutRuns.{whole-at, whole-ends}
-use Rattle.matching.specs.Laws.Histories.{Mark, Marks, job, JobColumn, unbegun, ColumnRun, effectOf, stepped, markStep, runMarks, columns}
+use Rattle.matching.specs.Laws.Histories.{Mark, Marks, job, round, JobColumn, unbegun, ColumnRun, effectOf, stepped, markStep, runMarks, columns}
 use Rattle.matching.specs.Laws.LegalLaws.{legal-run, legal-guesses}
 use Rattle.notation.specs.Laws.ElementLaws.{last-snoc}
 use Rattle.matching.specs.Laws.PartLaws.{column-at}
@@ -30,6 +29,7 @@ use Rattle.matching.specs.Laws.Parts.{beginning}
 use Rattle.matching.specs.Laws.PlanHistoryLaws.{PlanBack, plan-read, plan-run-is}
 use Rattle.matching.specs.Laws.PlanReading.{marksOf, stepOf, guessesOf, guessed, flagsFrom, columnsRun}
 use Rattle.matching.specs.Laws.PlanRounds.{rounds-marked}
+use Rattle.matching.specs.Laws.RoundLaws.{guess-of}
 use Rattle.matching.specs.Laws.RunLaws.{Climbs, job-climbs}
 use Rattle.matching.specs.Laws.SequenceLaws.{AllRounds}
 
@@ -71,7 +71,7 @@ module _ {a : Accepted} (ok : IsAccepted a) (plan : Plan) {runs : JobRuns} (lega
   pub legal-climbs : AllRounds (jobTotal a) h
   unfolding jobTotal job
   legal-climbs y lt =
-      subst (Climbs (jobTotal a) 0) (rounds-marked runs y)
+      subst (Climbs (jobTotal a) firstRound) (rounds-marked runs y)
       (job-climbs a plan (legal-run a plan legal .0) (job y) (omega (arith, lt, legal-back .full)))
 
   -- the run is the history's reading by columns
@@ -92,12 +92,8 @@ module _ {a : Accepted} (ok : IsAccepted a) (plan : Plan) {runs : JobRuns} (lega
   legal-failed = ap (λ (r : JobRuns). r .running .failed) run-is
 
   -- each guess is the store that is due
-  pub guess-due : (q : ℕ) → q < jobTotal a → (d : Store) → getD S q d ≡ dueStore a runs q
-  unfolding guessesOf
-  guess-due q lt d =
-      map-at (guess plan) (upTo (jobTotal a)) q 0 d (omega (arith, upTo-length (jobTotal a)))
-      ∙ ap (guess plan) (getD-upTo (jobTotal a) q 0 lt)
-      ∙ legal-guesses a plan legal q lt
+  pub guess-due : (q : ℕ) → q < jobTotal a → (d : Store) → getD S q d ≡ dueStore a runs (round q)
+  guess-due q lt d = guess-of a plan q d lt ∙ legal-guesses a plan legal (round q) lt
 
   -- every column ends
   pub legal-ends : (y : ℕ) → y < jobTotal a → getD (columns a h S .jobs) y unbegun .ended ≡ true

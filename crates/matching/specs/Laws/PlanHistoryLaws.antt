@@ -12,9 +12,7 @@ use lib.Dec.{leb, ltb, eqb}
 use borrow.Author.Tests.{leb-true, eqb-true}
 use Rattle.notation.specs.Checked.{passed, require}
 use Rattle.notation.specs.Laws.CheckedLaws.{passed-same, bind-passed, then-passed, require-passed}
-use Rattle.notation.specs.Laws.ListLaws.{upTo-length, getD-upTo}
 use Rattle.notation.specs.Lists.{from, upTo, each}
-use Rattle.notation.specs.Laws.QuantifierLaws.{map-length, map-at}
 use Rattle.notation.specs.Laws.TestLaws.{both}
 use Rattle.taskfile.specs.Laws.TimesLaws.{holds}
 use Rattle.timing.specs.declared.Job.{Job}
@@ -23,12 +21,13 @@ use Rattle.timing.specs.Code.IsAccepted.{IsAccepted}
 use Rattle.timing.specs.Relations.{jobNumbers}
 use Rattle.machine.specs.Instructions.{fresh}
 use Rattle.plan.specs.Runs as runs
-use Rattle.plan.specs.Runs.{Plan, JobRun, JobRuns, jobTotal, guess, runJob, runJobs, runStart, runPlan}
-use Rattle.matching.specs.Laws.Histories.{Mark, ColumnRun, job}
+use Rattle.plan.specs.Runs.{Plan, JobRun, JobRuns, jobTotal, roundNumbers, firstRound, guess, runJob, runJobs, runStart, runPlan}
+use Rattle.matching.specs.Laws.Histories.{Mark, ColumnRun, job, round}
 use Rattle.matching.specs.Laws.JobHistoryLaws.{column-read}
 use Rattle.matching.specs.Laws.JobReadingLaws.{column-runs, whole-short}
 use Rattle.matching.specs.Laws.PlanReading.{marksBytes, written, markOf, AllWhole, columnsRun, Eights, guessed, guessesOf, marksOf}
 use Rattle.matching.specs.Laws.PlanReadingLaws.{numbered, plan-runs}
+use Rattle.matching.specs.Laws.RoundLaws.{guesses-total, guess-of}
 
 -- ---- all jobs
 
@@ -41,7 +40,8 @@ pub record JobsBack (a : Accepted) (plan : Plan) (x n : ℕ) (running : runs.Run
 module _ {a : Accepted} (ok : IsAccepted a) (plan : Plan) where
   -- one job and those after it
   back-more : (x n : ℕ) (running : runs.Running) {one : JobRun} {others : JobRuns} → x < jobTotal a
-      → runJob a plan (job x) 16 fresh 0 running ≡ passed one → JobsBack a plan (suc x) n (one .running) others
+      → runJob a plan (job x) 16 fresh firstRound running ≡ passed one
+      → JobsBack a plan (suc x) n (one .running) others
       → JobsBack a plan x (suc n) running (record { steps = one .steps ∷ others .steps; running = others .running })
   unfolding marksOf each
   back-more x n running {one} {others} isJob first later =
@@ -65,7 +65,7 @@ module _ {a : Accepted} (ok : IsAccepted a) (plan : Plan) where
   jobs-read zero x running total e =
       subst (JobsBack a plan x 0 running) (passed-same e) (record { full = refl; whole = tt; bytes = refl })
   jobs-read (suc n) x running total e =
-      let one = bind-passed (runJob a plan (job x) 16 fresh 0 running) _ e in
+      let one = bind-passed (runJob a plan (job x) 16 fresh firstRound running) _ e in
       let others = bind-passed (runJobs a plan (map job (from (suc x) n)) (one .0 .running)) _ (one .2) in
       let later = jobs-read n (suc x) (one .0 .running) (omega arith) (others .1) in
       subst (JobsBack a plan x (suc n) running) (passed-same (others .2)) (back-more x n running (omega arith) (one .1) later)
@@ -73,7 +73,8 @@ module _ {a : Accepted} (ok : IsAccepted a) (plan : Plan) where
 -- ---- a plan
 
 -- guess by guess, the guesses are the plan's bytes after the first
-guesses-stand : (plan : Plan) (n x : ℕ) → each (map (guess plan) (from x n)) (λ store. store) ≡ take (8 * n) (drop (1 + 8 * x) plan)
+guesses-stand : (plan : Plan) (n x : ℕ)
+    → each (map (guess plan) (map round (from x n))) (λ store. store) ≡ take (8 * n) (drop (1 + 8 * x) plan)
 unfolding each from guess
 guesses-stand plan zero x = let none : 8 * 0 ≡ 0 = omega arith in sym (ap (λ (k : ℕ). take k (drop (1 + 8 * x) plan)) none)
 guesses-stand plan (suc n) x =
@@ -85,22 +86,17 @@ guesses-stand plan (suc n) x =
     ∙ sym (take-add 8 (8 * n) here) ∙ ap (λ (k : ℕ). take k here) (sym more)
 
 module _ (a : Accepted) (plan : Plan) (long : 1 + 8 * jobTotal a ≤ length plan) where
-  -- there are as many guesses as jobs, of 8 bytes each
-  guesses-total : length (guessesOf a plan) ≡ jobTotal a
-  unfolding guessesOf
-  guesses-total = map-length (guess plan) (upTo (jobTotal a)) ∙ upTo-length (jobTotal a)
-
+  -- a guess has 8 bytes
   guesses-eight : Eights (guessesOf a plan)
-  unfolding guessesOf guess
+  unfolding guess
   guesses-eight r lt =
-      let below : r < jobTotal a = omega (arith, guesses-total) in
-      let held = map-at (guess plan) (upTo (jobTotal a)) r 0 [] (omega (arith, upTo-length (jobTotal a))) in
-      ap length (held ∙ ap (guess plan) (getD-upTo (jobTotal a) r 0 below))
+      let below : r < jobTotal a = omega (arith, guesses-total a plan) in
+      ap length (guess-of a plan r [] below)
       ∙ length-take-le 8 (drop (1 + 8 * r) plan) (omega (arith, length-drop (1 + 8 * r) plan))
 
   -- the plan is its first byte, its guesses and the rest
   plan-parts : plan ≡ getD plan 0 0 ∷ (each (guessesOf a plan) (λ store. store) ++ drop (1 + 8 * jobTotal a) plan)
-  unfolding guessesOf upTo
+  unfolding guessesOf roundNumbers upTo
   plan-parts =
       let n : ℕ = 8 * jobTotal a in
       let one : 1 + 8 * 0 ≡ 1 = omega arith in
@@ -154,7 +150,7 @@ module _ {a : Accepted} (ok : IsAccepted a) (plan : Plan) {all : JobRuns} (e : r
             plan-parts a plan (parts .long)
             ∙ ap (λ (k : ℕ). k ∷ (each (guessesOf a plan) (λ store. store) ++ drop (1 + 8 * jobTotal a) plan)) (parts .first)
             ∙ ap (λ (l : List ℕ). jobTotal a ∷ (each (guessesOf a plan) (λ store. store) ++ l)) ends;
-        total = guesses-total a plan (parts .long);
+        total = guesses-total a plan;
         eights = guesses-eight a plan (parts .long);
         full = back .full;
         whole = back .whole;

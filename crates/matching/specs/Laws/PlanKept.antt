@@ -34,7 +34,7 @@ use Rattle.matching.specs.Laws.CutLaws.{sequence-cut}
 use Rattle.matching.specs.Laws.CutRounds.{round-counted}
 use Rattle.matching.specs.Laws.CutRuns.{cut-ended, cut-open, next-offered, steps-taken}
 use Rattle.matching.specs.Laws.Cuts.{Placed, Cut, sequence, placedByte, gathered}
-use Rattle.matching.specs.Laws.Histories.{Mark, Marks, job, unbegun, columns}
+use Rattle.matching.specs.Laws.Histories.{Mark, Marks, job, round, unbegun, columns}
 use Rattle.notation.specs.Laws.ElementLaws.{none-or-some}
 use Rattle.matching.specs.Laws.MovedLaws.{agree-turn}
 use Rattle.matching.specs.Laws.OfferedLaws.{job-offered, byte-task, byte-value}
@@ -75,7 +75,7 @@ module _ {a : Accepted} (ok : IsAccepted a) (plan : Plan) {runs : JobRuns} (lega
   -- guess 0 is the initial store
   guess-first : (q : ℕ) → q ≡ 0 → q < jobTotal a → (d : Store) → getD (guessesOf a plan) q d ≡ a .table .store
   unfolding dueStore
-  guess-first q e lt d = guess-due ok plan legal q lt d ∙ ap (dueStore a runs) e
+  guess-first q e lt d = guess-due ok plan legal q lt d ∙ ap (λ (k : ℕ). dueStore a runs (round k)) e
 
   pub plan-starts : PlanKept a plan (initial a) 0 []
   unfolding run gathered traceOf traceFrom startTrace initial noFlags

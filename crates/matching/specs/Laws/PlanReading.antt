@@ -9,7 +9,7 @@ use mathlib.Core.Bool.{true, false}
 use mathlib.Core.List.{List, [], _∷_, _++_, map}
 use lib.ListN.{length, getD}
 use Rattle.taskfile.specs.Judgement.{instructionOf}
-use Rattle.notation.specs.Lists.{upTo, member, each}
+use Rattle.notation.specs.Lists.{member, each}
 use Rattle.taskfile.specs.Tables.{ceilingsOf}
 use Rattle.timing.specs.Accepted.{Accepted}
 use Rattle.timing.specs.Relations.{base, jobAt}
@@ -18,7 +18,7 @@ use Rattle.machine.specs.Ends.{Flags, noFlags, flagged}
 use Rattle.machine.specs.Held.{priority}
 use Rattle.machine.specs.Instructions.{Store, values}
 use Rattle.plan.specs.Runs as runs
-use Rattle.plan.specs.Runs.{Plan, Step, JobRuns, guess, jobTotal}
+use Rattle.plan.specs.Runs.{Plan, Step, JobRuns, jobTotal, roundNumbers, guess}
 use Rattle.matching.specs.Laws.Histories.{Mark, Marks, JobColumn, ColumnRun, job, unbegun, markStep, runMarks, columnsFrom}
 
 -- "for each of its steps, two bytes: round, Pick value or 0"
@@ -31,7 +31,7 @@ written a guesses h = jobTotal a ∷ (each guesses (λ store. store) ++ each h m
 
 -- the guesses of a plan
 unfoldable pub guessesOf : Accepted → Plan → List Store
-guessesOf a plan = map (guess plan) (upTo (jobTotal a))
+guessesOf a plan = map (guess plan) (roundNumbers a)
 
 -- each guess has 8 bytes
 abbrev pub Eights : List Store → Type 0

@@ -10,9 +10,7 @@ use lib.Seq.{take-at, drop-at, drop-drop, drop-append-seam, drop-append-add, ext
 use borrow.Author.Tests.{lt-ltb, le-leb, eq-eqb}
 use Rattle.notation.specs.Checked.{Checked, passed, _>>=_}
 use Rattle.taskfile.specs.Laws.CheckSteps.{require-holds, bind-goes}
-use Rattle.notation.specs.Laws.ListLaws.{upTo-length, getD-upTo}
 use Rattle.notation.specs.Lists.{from, upTo, each}
-use Rattle.notation.specs.Laws.QuantifierLaws.{map-length, map-at}
 use Rattle.notation.specs.Laws.TestLaws.{and-holds}
 use Rattle.timing.specs.declared.Job.{Job}
 use Rattle.timing.specs.Accepted.{Accepted}
@@ -21,16 +19,17 @@ use Rattle.timing.specs.Relations.{jobNumbers}
 use Rattle.machine.specs.Ends.{Flags, noFlags}
 use Rattle.machine.specs.Instructions.{Store, fresh}
 use Rattle.plan.specs.Runs as runs
-use Rattle.plan.specs.Runs.{Plan, Step, JobRun, JobRuns, jobTotal, guess, runJob, runJobs, runStart, runPlan}
-use Rattle.matching.specs.Laws.Histories.{Mark, Marks, ColumnRun, job, unbegun, effectOf, stepped, markStep, runMarks, columnsFrom}
+use Rattle.plan.specs.Runs.{Plan, Step, JobRun, JobRuns, jobTotal, firstRound, guess, runJob, runJobs, runStart, runPlan}
+use Rattle.matching.specs.Laws.Histories.{Mark, Marks, ColumnRun, job, round, unbegun, effectOf, stepped, markStep, runMarks, columnsFrom}
 use Rattle.matching.specs.Laws.JobReadingLaws.{column-runs, whole-short}
 use Rattle.matching.specs.Laws.PlanReading.{marksBytes, written, markOf, stepOf, Whole, AllWhole, standing, flagsFrom, columnsRun, Eights, guessed, guessesOf, marksOf}
+use Rattle.matching.specs.Laws.RoundLaws.{guesses-total, guess-of}
 
 -- ---- all jobs
 
 -- one job's run and that of those after it
 jobs-go : (a : Accepted) (plan : Plan) (x : Job) (xs : List Job) (running : runs.Running) {one : JobRun} {others : JobRuns}
-    → runJob a plan x 16 fresh 0 running ≡ passed one → runJobs a plan xs (one .running) ≡ passed others
+    → runJob a plan x 16 fresh firstRound running ≡ passed one → runJobs a plan xs (one .running) ≡ passed others
     → runJobs a plan (x ∷ xs) running ≡ passed (record { steps = one .steps ∷ others .steps; running = others .running })
 unfolding runJobs _>>=_
 jobs-go a plan x xs running first later = rw (first, later) refl
@@ -117,7 +116,7 @@ guess-at (s ∷ guesses) rest eights (suc r) lt =
     ∙ guess-at guesses rest (λ k lt. eights (suc k) (omega arith)) r (omega arith)
 
 module _ (a : Accepted) (guesses : List Store) (h : Marks) (total : length guesses ≡ jobTotal a) (eights : Eights guesses) where
-  guess-back : (r : ℕ) → r < length guesses → guess (written a guesses h) r ≡ getD guesses r []
+  guess-back : (r : ℕ) → r < length guesses → guess (written a guesses h) (round r) ≡ getD guesses r []
   unfolding guess written
   guess-back r lt =
       let on : 1 + 8 * r ≡ suc (8 * r) = omega arith in
@@ -125,14 +124,10 @@ module _ (a : Accepted) (guesses : List Store) (h : Marks) (total : length guess
 
   -- the guesses of the written plan are those it was written with
   pub guesses-back : guessesOf a (written a guesses h) ≡ guesses
-  unfolding guessesOf
   guesses-back =
-      let long = map-length (guess (written a guesses h)) (upTo (jobTotal a)) ∙ upTo-length (jobTotal a) in
+      let long = guesses-total a (written a guesses h) in
       ext-getD [] _ guesses (long ∙ sym total)
-      (λ i lt.
-      map-at (guess (written a guesses h)) (upTo (jobTotal a)) i 0 [] (omega (arith, long, upTo-length (jobTotal a)))
-      ∙ ap (guess (written a guesses h)) (getD-upTo (jobTotal a) i 0 (omega (arith, long)))
-      ∙ guess-back i (omega (arith, long)))
+      (λ i lt. guess-of a (written a guesses h) i [] (omega (arith, long)) ∙ guess-back i (omega (arith, long)))
 
   written-starts : runStart a (written a guesses h) ≡ guessed a guesses
   unfolding runStart guessed guessesOf

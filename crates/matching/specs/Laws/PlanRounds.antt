@@ -22,13 +22,14 @@ use Rattle.timing.specs.Accepted.{Accepted}
 use Rattle.timing.specs.Code.IsAccepted.{IsAccepted}
 use Rattle.timing.specs.Laws.RelationLaws.{before-says}
 use Rattle.timing.specs.Relations.{IsJob, base, before}
+use Rattle.plan.specs.declared.Round.{Round}
 use Rattle.plan.specs.Legality.{stepsOf, roundsOf, start, end, beforeRule, noStepWithin, priorityAt}
 use Rattle.plan.specs.Plans.{Legal}
-use Rattle.plan.specs.Runs.{Plan, Step, JobRuns}
+use Rattle.plan.specs.Runs.{Plan, Step, JobRuns, firstRound}
 use Rattle.matching.specs.Laws.ColumnLaws.{elsewhere}
 use Rattle.matching.specs.Laws.Cuts.{Cut}
-use Rattle.matching.specs.Laws.Histories.{Mark, Marks, job, inRound}
-use Rattle.matching.specs.Laws.LegalLaws.{Within, legal-rules, rounds-lie, asked}
+use Rattle.matching.specs.Laws.Histories.{Mark, Marks, job, round, inRound}
+use Rattle.matching.specs.Laws.LegalLaws.{roundOf, Within, legal-rules, rounds-lie, asked}
 use Rattle.notation.specs.Laws.ElementLaws.{only-append, Some, none-or-some, only-all, only-none, cons-some}
 use Rattle.matching.specs.Laws.PlanReading.{markOf, marksOf}
 use Rattle.matching.specs.Laws.RunLaws.{legal-rising}
@@ -51,8 +52,8 @@ map-drop f (suc n) (x ∷ xs) = map-drop f n xs
 
 -- ---- rounds of marks
 
-unfoldable rounds : List Mark → List ℕ
-rounds ms = map (λ m. m .round) ms
+unfoldable rounds : List Mark → List Round
+rounds ms = map (λ m. round (m .round)) ms
 
 -- marks of which none is in a round with Q are in rounds with P, where each round has one of the two
 none-in : (P Q : ℕ → Type 0) → ((q : ℕ) → P q ⊎ Q q) → (ms : List Mark) → ((q : ℕ) → Q q → inRound q ms ≡ [])
@@ -79,29 +80,32 @@ high-or-low : (r q : ℕ) → (r < q) ⊎ (q ≤ r)
 high-or-low r q = elim (decLt r q) [ yes high ↦ inl high | no low ↦ inr (omega arith) ]
 
 -- what holds of the rounds of all in the front part holds of the first, and of all in the back part of the last
-first-has : (P : ℕ → Type 0) (front back : List Mark) → Every (λ m. P (m .round)) front → Some front → P (firstOr 0 (rounds (front ++ back)))
+first-has : (P : ℕ → Type 0) (front back : List Mark) → Every (λ m. P (m .round)) front → Some front
+    → P (firstOr firstRound (rounds (front ++ back)) .0)
 unfolding rounds firstOr
 first-has P [] back h some = absurd (some refl)
 first-has P (m ∷ front) back h some = h .0
 
-last-of : (P : ℕ → Type 0) (d : ℕ) (ms : List Mark) → P d → Every (λ m. P (m .round)) ms → P (lastOr d (rounds ms))
+last-of : (P : ℕ → Type 0) (d : Round) (ms : List Mark) → P (d .0) → Every (λ m. P (m .round)) ms
+    → P (lastOr d (rounds ms) .0)
 unfolding rounds lastOr
 last-of P d [] p h = p
-last-of P d (m ∷ ms) p h = last-of P (m .round) ms (h .0) (h .1)
+last-of P d (m ∷ ms) p h = last-of P (round (m .round)) ms (h .0) (h .1)
 
-last-has : (P : ℕ → Type 0) (d : ℕ) (front back : List Mark) → Every (λ m. P (m .round)) back → Some back
-    → P (lastOr d (rounds (front ++ back)))
+last-has : (P : ℕ → Type 0) (d : Round) (front back : List Mark) → Every (λ m. P (m .round)) back → Some back
+    → P (lastOr d (rounds (front ++ back)) .0)
 unfolding rounds lastOr
 last-has P d [] [] h some = absurd (some refl)
-last-has P d [] (m ∷ back) h some = last-of P (m .round) back (h .0) (h .1)
-last-has P d (m ∷ front) back h some = last-has P (m .round) front back h some
+last-has P d [] (m ∷ back) h some = last-of P (round (m .round)) back (h .0) (h .1)
+last-has P d (m ∷ front) back h some = last-has P (round (m .round)) front back h some
 
 -- a job's rounds are those of its marks
-pub rounds-marked : (runs : JobRuns) (y : ℕ) → roundsOf runs (job y) ≡ map (λ m. m .round) (getD (marksOf runs) y [])
+pub rounds-marked : (runs : JobRuns) (y : ℕ)
+    → roundsOf runs (job y) ≡ map (λ m. round (m .round)) (getD (marksOf runs) y [])
 unfolding roundsOf stepsOf marksOf job markOf
 rounds-marked runs y =
-    sym (ap (map (λ (m : Mark). m .round)) (List·getD-map (map markOf) (runs .steps) y [])
-    ∙ map-map (λ (m : Mark). m .round) markOf (getD (runs .steps) y []))
+    sym (ap (map (λ (m : Mark). round (m .round))) (List·getD-map (map markOf) (runs .steps) y [])
+    ∙ map-map (λ (m : Mark). round (m .round)) markOf (getD (runs .steps) y []))
 
 -- ---- the rounds of a cut
 
@@ -142,24 +146,24 @@ module _ (runs : JobRuns) {now : Marks} {x : ℕ} {m : Mark} (cut : Cut (marksOf
           ]
 
   -- a job with a step made has started, and one above x in an earlier round
-  pub has-started : (y : ℕ) → Some (getD now y []) → start runs (job y) ≤ m .round
+  pub has-started : (y : ℕ) → Some (getD now y []) → start runs (job y) .0 ≤ m .round
   unfolding start
   has-started y some =
       rw (rounds-whole y) (first-has (λ q. q ≤ m .round) (getD now y []) (cut .rest y) (made-low y) some)
 
-  pub started-lower : (y : ℕ) → x < y → Some (getD now y []) → start runs (job y) < m .round
+  pub started-lower : (y : ℕ) → x < y → Some (getD now y []) → start runs (job y) .0 < m .round
   unfolding start
   started-lower y lt some =
       rw (rounds-whole y) (first-has (λ q. q < m .round) (getD now y []) (cut .rest y) (made-lower y lt) some)
 
   -- a job with a step left has not ended before
-  pub ends-later : (y : ℕ) → Some (cut .rest y) → m .round ≤ end runs (job y)
+  pub ends-later : (y : ℕ) → Some (cut .rest y) → m .round ≤ end runs (job y) .0
   unfolding end
   ends-later y some =
-      rw (rounds-whole y) (last-has (λ q. m .round ≤ q) 0 (getD now y []) (cut .rest y) (left-high y) some)
+      rw (rounds-whole y) (last-has (λ q. m .round ≤ q) firstRound (getD now y []) (cut .rest y) (left-high y) some)
 
   -- so a job that ended before has none left
-  pub none-left : (y : ℕ) → end runs (job y) < m .round → cut .rest y ≡ []
+  pub none-left : (y : ℕ) → end runs (job y) .0 < m .round → cut .rest y ≡ []
   none-left y lt = elim (none-or-some (cut .rest y)) [
     | inl none ↦ none
     | inr some ↦ absurd (omega (arith, ends-later y some))
@@ -172,21 +176,23 @@ module _ (runs : JobRuns) {now : Marks} {x : ℕ} {m : Mark} (cut : Cut (marksOf
   pub next-place : length (getD now x []) < length (roundsOf runs (job x))
   unfolding rounds
   next-place =
-      let count = ap length (rounds-whole x) ∙ map-length (λ (n : Mark). n .round) (getD now x [] ++ cut .rest x)
+      let count = ap length (rounds-whole x) ∙ map-length (λ (n : Mark). round (n .round)) (getD now x [] ++ cut .rest x)
       ∙ length-append (getD now x []) (cut .rest x) ∙ ap (λ (l : List Mark). length (getD now x []) + length l) (cut .next) in
       omega (arith, count)
 
-  pub next-round : getD (roundsOf runs (job x)) (length (getD now x [])) 0 ≡ m .round
+  pub next-round : roundOf runs (job x) (length (getD now x [])) .0 ≡ m .round
   unfolding rounds
   next-round =
-      ap (λ (l : List ℕ). getD l (length (getD now x [])) 0) (rounds-whole x ∙ ap (λ (l : List Mark). rounds (getD now x [] ++ l)) (cut .next))
-      ∙ List·getD-map (λ (n : Mark). n .round) (getD now x [] ++ m ∷ cut .more) (length (getD now x [])) (record { round = 0; value = 0 })
+      ap (λ (l : List Round). getD l (length (getD now x [])) firstRound .0)
+      (rounds-whole x ∙ ap (λ (l : List Mark). rounds (getD now x [] ++ l)) (cut .next))
+      ∙ ap (λ (r : Round). r .0)
+      (List·getD-map (λ (n : Mark). round (n .round)) (getD now x [] ++ m ∷ cut .more) (length (getD now x [])) (record { round = 0; value = 0 }))
       ∙ ap (λ (n : Mark). n .round) (getD-append-seam (getD now x []) m (cut .more) (record { round = 0; value = 0 }))
 
   -- a job that has not begun starts with that step
-  pub starts-here : getD now x [] ≡ [] → start runs (job x) ≡ m .round
+  pub starts-here : getD now x [] ≡ [] → start runs (job x) ≡ round (m .round)
   unfolding start rounds firstOr
-  starts-here none = ap (firstOr 0) (rounds-whole x ∙ ap₂ (λ (l k : List Mark). rounds (l ++ k)) none (cut .next))
+  starts-here none = ap (firstOr firstRound) (rounds-whole x ∙ ap₂ (λ (l k : List Mark). rounds (l ++ k)) none (cut .next))
 
   -- of a job below x the steps up to the cut's round are those made
   steps-made : (y : ℕ) → y < x
@@ -210,7 +216,7 @@ module _ (runs : JobRuns) {now : Marks} {x : ℕ} {m : Mark} (cut : Cut (marksOf
 
   -- so its priority then is that after the steps made
   pub priority-made : (a : Accepted) (y : ℕ) → y < x
-      → priorityAt a runs (job y) (m .round)
+      → priorityAt a runs (job y) (round (m .round))
       ≡ lastOr (base a (job y)) (map (λ step. step .priorityAfter) (take (length (getD now y [])) (stepsOf runs (job y))))
   unfolding priorityAt
   priority-made a y lt = ap (λ (l : List Step). lastOr (base a (job y)) (map (λ step. step .priorityAfter) l)) (steps-made y lt)
@@ -219,15 +225,17 @@ module _ (runs : JobRuns) {now : Marks} {x : ℕ} {m : Mark} (cut : Cut (marksOf
 
   module _ {a : Accepted} (ok : IsAccepted a) (plan : Plan) (legal : Legal a plan runs) (isX : IsJob a (job x)) where
     -- the next step's job has started by the cut's round
-    started-here : start runs (job x) ≤ m .round
+    started-here : start runs (job x) .0 ≤ m .round
     started-here = omega (arith, legal-rising a plan legal .between (job x) isX (length (getD now x [])) next-place, next-round)
 
     -- where x has no step within y, the cut's round is not after y's start and up to its end
-    round-clear : (y : Job) → noStepWithin runs (job x) y ≡ true → start runs y < m .round → m .round ≤ end runs y → ⊥
+    round-clear : (y : Job) → noStepWithin runs (job x) y ≡ true
+        → start runs y .0 < m .round → m .round ≤ end runs y .0 → ⊥
     unfolding noStepWithin
     round-clear y clear after upto =
-        let test : ℕ → Bool = λ r. not (ltb (start runs y) r && leb r (end runs y)) in
-        let free = ap test (sym next-round) ∙ all-at test (roundsOf runs (job x)) (length (getD now x [])) 0 clear next-place in
+        let test : ℕ → Bool = λ r. not (ltb (start runs y .0) r && leb r (end runs y .0)) in
+        let free = ap test (sym next-round)
+        ∙ all-at (λ r. test (r .0)) (roundsOf runs (job x)) (length (getD now x [])) firstRound clear next-place in
         not-both _ (and-holds _ _ (lt-ltb _ _ after) (le-leb _ _ upto)) (not-true _ free)
 
     -- no job above x has a step made and a step left
@@ -246,7 +254,7 @@ module _ (runs : JobRuns) {now : Marks} {x : ℕ} {m : Mark} (cut : Cut (marksOf
     pub lies-within : (y : ℕ) → y < x → getD now x [] ≡ [] → Some (getD now y []) → Some (cut .rest y) → Within a runs (job x) (job y)
     unfolding job
     lies-within y lt none some more =
-        let here = starts-here none in
+        let here = ap (λ (r : Round). r .0) (starts-here none) in
         let begins = has-started y some in
         let lasts = ends-later y more in
         elim (rounds-lie a plan (ok .isTimed) legal (job y) (job x) isX lt) [
@@ -260,5 +268,5 @@ module _ (runs : JobRuns) {now : Marks} {x : ℕ} {m : Mark} (cut : Cut (marksOf
     unfolding beforeRule job
     before-done z isZ h none =
         let rule = legal-rules a plan legal z (job x) isZ isX (before-says a z (job x) h .0) .0 in
-        let ends : end runs z < start runs (job x) = ltb-true _ _ (asked (before a z (job x)) _ rule h) in
-        none-left (z .0) (omega (arith, ends, starts-here none))
+        let ends : end runs z .0 < start runs (job x) .0 = ltb-true _ _ (asked (before a z (job x)) _ rule h) in
+        none-left (z .0) (omega (arith, ends, ap (λ (r : Round). r .0) (starts-here none)))

@@ -12,8 +12,7 @@ use borrow.Author.Tests.{ltb-true, leb-true}
 use Rattle.taskfile.specs.Chains.{mostInstructions}
 use Rattle.notation.specs.Checked.{Checked, passed, require}
 use Rattle.notation.specs.Laws.CheckedLaws.{passed-same, bind-passed, then-passed, require-passed}
-use Rattle.notation.specs.Laws.ListLaws.{upTo-length}
-use Rattle.notation.specs.Lists.{if_then_else_, upTo, firstOr, lastOr}
+use Rattle.notation.specs.Lists.{if_then_else_, firstOr, lastOr}
 use Rattle.notation.specs.Laws.PairLaws.{every-at}
 use Rattle.notation.specs.Ordered.{Every}
 use Rattle.notation.specs.Laws.QuantifierLaws.{map-length}
@@ -27,29 +26,32 @@ use Rattle.timing.specs.Relations.{IsJob, jobNumbers}
 use Rattle.machine.specs.declared.Effect.{Effect}
 use Rattle.machine.specs.declared.Local.{Local}
 use Rattle.machine.specs.Instructions.{fresh}
+use Rattle.plan.specs.declared.Round.{Round}
 use Rattle.plan.specs.Legality.{stepsOf, roundsOf, start, end}
 use Rattle.plan.specs.Plans.{Legal}
-use Rattle.plan.specs.Runs.{Plan, Step, Running, JobRun, JobRuns, guess, jobTotal, stepBytes, stepEffect, stepMade, runningAfter, runJob, runJobs, runStart, runPlan}
+use Rattle.plan.specs.Runs.{Plan, Step, Running, JobRun, JobRuns, jobTotal, firstRound, stepBytes, stepEffect, stepMade, runningAfter, runJob, runJobs, runStart, runPlan}
 use Rattle.notation.specs.Laws.CountLaws.{Distinct, Bounded, countBelow, countBelow-is, every-value}
 use Rattle.matching.specs.Laws.Histories.{job}
-use Rattle.matching.specs.Laws.LegalLaws.{Rising, legal-run, ends-tell}
+use Rattle.matching.specs.Laws.LegalLaws.{roundOf, Rising, legal-run, ends-tell}
+use Rattle.matching.specs.Laws.PlanReading.{guessesOf}
+use Rattle.matching.specs.Laws.RoundLaws.{guesses-total}
 
 -- ---- rounds that do not fall
 
 -- each round is below k and at least the one before it, and the first at least p
-abbrev pub Climbs : ℕ → ℕ → List ℕ → Type 0
+abbrev pub Climbs : ℕ → Round → List Round → Type 0
 Climbs k p [] = Unit {0}
-Climbs k p (r ∷ rs) = (p ≤ r) × (r < k) × Climbs k r rs
+Climbs k p (r ∷ rs) = (p .0 ≤ r .0) × (r .0 < k) × Climbs k r rs
 
 -- so the last is at least p
-climb-last : (k p : ℕ) (rs : List ℕ) → Climbs k p rs → p ≤ lastOr p rs
+climb-last : (k : ℕ) (p : Round) (rs : List Round) → Climbs k p rs → p .0 ≤ lastOr p rs .0
 unfolding lastOr
 climb-last k p [] h = omega arith
 climb-last k p (r ∷ rs) h = omega (arith, h .0, climb-last k r rs (h .2))
 
 -- and each lies between p and the last, below k
-climb-at : (k p : ℕ) (rs : List ℕ) → Climbs k p rs → (i : ℕ) → i < length rs
-    → (p ≤ getD rs i 0) × (getD rs i 0 ≤ lastOr p rs) × (getD rs i 0 < k)
+climb-at : (k : ℕ) (p : Round) (rs : List Round) → Climbs k p rs → (i : ℕ) → i < length rs
+    → (p .0 ≤ getD rs i firstRound .0) × (getD rs i firstRound .0 ≤ lastOr p rs .0) × (getD rs i firstRound .0 < k)
 unfolding lastOr
 climb-at k p [] h i lt = absurd (omega arith)
 climb-at k p (r ∷ rs) h zero lt = (h .0, climb-last k r rs (h .2), h .1)
@@ -58,8 +60,8 @@ climb-at k p (r ∷ rs) h (suc i) lt =
     (omega (arith, h .0, found .0), found .1, found .2)
 
 -- from the first on
-climb-first : (k p : ℕ) (rs : List ℕ) → Climbs k p rs → (i : ℕ) → i < length rs
-    → (firstOr 0 rs ≤ getD rs i 0) × (getD rs i 0 ≤ lastOr 0 rs)
+climb-first : (k : ℕ) (p : Round) (rs : List Round) → Climbs k p rs → (i : ℕ) → i < length rs
+    → (firstOr firstRound rs .0 ≤ getD rs i firstRound .0) × (getD rs i firstRound .0 ≤ lastOr firstRound rs .0)
 unfolding firstOr lastOr
 climb-first k p [] h i lt = absurd (omega arith)
 climb-first k p (r ∷ rs) h i lt =
@@ -67,7 +69,7 @@ climb-first k p (r ∷ rs) h i lt =
     (found .0, found .1)
 
 -- the last of some is below k
-climb-below : (k p : ℕ) (rs : List ℕ) → Climbs k p rs → 0 < length rs → lastOr 0 rs < k
+climb-below : (k : ℕ) (p : Round) (rs : List Round) → Climbs k p rs → 0 < length rs → lastOr firstRound rs .0 < k
 unfolding lastOr
 climb-below k p [] h lt = absurd (omega arith)
 climb-below k p (r ∷ []) h lt = h .1
@@ -75,17 +77,18 @@ climb-below k p (r ∷ q ∷ rs) h lt = climb-below k r (q ∷ rs) (h .2) (omega
 
 -- ---- one step
 
-unfoldable rounds : List Step → List ℕ
-rounds steps = map (λ step. step .round .0) steps
+unfoldable rounds : List Step → List Round
+rounds steps = map (λ step. step .round) steps
 
 module _ (a : Accepted) (plan : Plan) where
   -- by number 42 a step's round is one of the plan's, and not below the previous step's
-  step-round : (x : Job) (local : Local) (previous offset : ℕ) {u : Unit {0}} → stepBytes a plan x local previous offset ≡ passed u
-      → (previous ≤ getD plan offset 0) × (getD plan offset 0 < jobTotal a)
+  step-round : (x : Job) (local : Local) (previous : Round) (offset : ℕ) {u : Unit {0}}
+      → stepBytes a plan x local previous offset ≡ passed u
+      → (previous .0 ≤ getD plan offset 0) × (getD plan offset 0 < jobTotal a)
   unfolding stepBytes
   step-round x local previous offset e =
       let first = then-passed (require (ltb (offset + 1) (length plan)) 40 (length plan)) _ e in
-      let test : Bool = ltb (getD plan offset 0) (jobTotal a) && leb previous (getD plan offset 0) in
+      let test : Bool = ltb (getD plan offset 0) (jobTotal a) && leb (previous .0) (getD plan offset 0) in
       let second = then-passed (require test 42 offset) _ (first .2) in
       let parts = both (ltb (getD plan offset 0) (jobTotal a)) _ (holds _ (require-passed test 42 offset (second .1))) in
       (leb-true _ _ (parts .1), ltb-true _ _ (parts .0))
@@ -93,7 +96,7 @@ module _ (a : Accepted) (plan : Plan) where
   -- ---- one job's steps
 
   -- the steps that a job makes from `previous` on, over so many stores
-  record Ran (previous stores : ℕ) (run : JobRun) : Type 0 where
+  record Ran (previous : Round) (stores : ℕ) (run : JobRun) : Type 0 where
     climbs : Climbs (jobTotal a) previous (rounds (run .steps))
     kept : length (run .running .stores) ≡ stores
 
@@ -111,17 +114,18 @@ module _ (a : Accepted) (plan : Plan) where
       let next = runningAfter plan x running effect in
       if effect .ended
       then passed (record { steps = []; running = next })
-      else runJob a plan x left (effect .local) (nextStep x local running .round .0) next
+      else runJob a plan x left (effect .local) (nextStep x local running .round) next
 
   -- a step that passed, and what followed it
-  record Stepped (x : Job) (left : ℕ) (local : Local) (previous : ℕ) (running : Running) (run : JobRun) : Type 0 where
-    above : previous ≤ nextStep x local running .round .0
+  record Stepped (x : Job) (left : ℕ) (local : Local) (previous : Round) (running : Running)
+      (run : JobRun) : Type 0 where
+    above : previous .0 ≤ nextStep x local running .round .0
     below : nextStep x local running .round .0 < jobTotal a
     rest : JobRun
     follows : onward x left local running ≡ passed rest
     made : run ≡ stepBefore (nextStep x local running) rest
 
-  run-step : (x : Job) (left : ℕ) (local : Local) (previous : ℕ) (running : Running) {run : JobRun}
+  run-step : (x : Job) (left : ℕ) (local : Local) (previous : Round) (running : Running) {run : JobRun}
       → runJob a plan x (suc left) local previous running ≡ passed run → Stepped x left local previous running run
   unfolding runJob stepMade
   run-step x left local previous running e =
@@ -143,7 +147,7 @@ module _ (a : Accepted) (plan : Plan) where
   next-stores x running effect = length-set (running .stores) (getD plan (running .offset) 0) (effect .store)
 
   -- nothing more after an End, and the job's further steps otherwise
-  onward-ran : (ended : Bool) (previous : ℕ) (next : Running) (further : Checked ℕ JobRun) {rest : JobRun}
+  onward-ran : (ended : Bool) (previous : Round) (next : Running) (further : Checked ℕ JobRun) {rest : JobRun}
       → (further ≡ passed rest → Ran previous (length (next .stores)) rest)
       → (if ended then passed (record { steps = []; running = next }) else further) ≡ passed rest
       → Ran previous (length (next .stores)) rest
@@ -153,14 +157,14 @@ module _ (a : Accepted) (plan : Plan) where
   onward-ran false previous next further later e = later e
 
   -- so a job's rounds climb, and the number of stores stays
-  runs-job : (x : Job) (left : ℕ) (local : Local) (previous : ℕ) (running : Running) {run : JobRun}
+  runs-job : (x : Job) (left : ℕ) (local : Local) (previous : Round) (running : Running) {run : JobRun}
       → runJob a plan x left local previous running ≡ passed run → Ran previous (length (running .stores)) run
   unfolding runJob rounds
   runs-job x zero local previous running e =
       subst (Ran previous (length (running .stores))) (passed-same {P = ℕ} e) (record { climbs = tt; kept = refl })
   runs-job x (suc left) local previous running e =
       let effect = stepEffect a plan x local running in
-      let round = nextStep x local running .round .0 in
+      let round = nextStep x local running .round in
       let next = runningAfter plan x running effect in
       let further = runJob a plan x left (effect .local) round next in
       let found = run-step x left local previous running e in
@@ -169,7 +173,7 @@ module _ (a : Accepted) (plan : Plan) where
       (record { climbs = (found .above, found .below, ran .climbs); kept = ran .kept ∙ next-stores x running effect })
 
   -- and it has a step
-  runs-some : (x : Job) (left : ℕ) (local : Local) (previous : ℕ) (running : Running) {run : JobRun}
+  runs-some : (x : Job) (left : ℕ) (local : Local) (previous : Round) (running : Running) {run : JobRun}
       → runJob a plan x (suc left) local previous running ≡ passed run → 0 < length (run .steps)
   runs-some x left local previous running e =
       let count = ap (λ (run : JobRun). length (run .steps)) (run-step x left local previous running e .made) in
@@ -179,7 +183,7 @@ module _ (a : Accepted) (plan : Plan) where
 
   -- a job's steps in the run: some, whose rounds climb
   abbrev Whole : List Step → Type 0
-  Whole steps = (0 < length steps) × Climbs (jobTotal a) 0 (rounds steps)
+  Whole steps = (0 < length steps) × Climbs (jobTotal a) firstRound (rounds steps)
 
   record AllRan (jobs stores : ℕ) (runs : JobRuns) : Type 0 where
     counted : length (runs .steps) ≡ jobs
@@ -192,23 +196,23 @@ module _ (a : Accepted) (plan : Plan) where
   runs-jobs [] running e =
       subst (AllRan 0 (length (running .stores))) (passed-same {P = ℕ} e) (record { counted = refl; kept = refl; whole = tt })
   runs-jobs (x ∷ xs) running e =
-      let first = bind-passed (runJob a plan x mostInstructions fresh 0 running) _ e in
+      let first = bind-passed (runJob a plan x mostInstructions fresh firstRound running) _ e in
       let one = first .0 in
       let second = bind-passed (runJobs a plan xs (one .running)) _ (first .2) in
-      let ran = runs-job x mostInstructions fresh 0 running (first .1) in
+      let ran = runs-job x mostInstructions fresh firstRound running (first .1) in
       let others = runs-jobs xs (one .running) (second .1) in
       subst (AllRan (suc (length xs)) (length (running .stores))) (passed-same {P = ℕ} (second .2))
       (record {
         counted = ap suc (others .counted);
         kept = others .kept ∙ ran .kept;
-        whole = ((runs-some x 15 fresh 0 running (first .1), ran .climbs), others .whole);
+        whole = ((runs-some x 15 fresh firstRound running (first .1), ran .climbs), others .whole);
       })
 
   -- ---- the plan
 
   start-stores : length (runStart a plan .stores) ≡ jobTotal a
-  unfolding runStart
-  start-stores = map-length (guess plan) (upTo (jobTotal a)) ∙ upTo-length (jobTotal a)
+  unfolding runStart guessesOf
+  start-stores = guesses-total a plan
 
   module _ {runs : JobRuns} (ran : runPlan a plan ≡ passed runs) where
     plan-ran : AllRan (jobTotal a) (jobTotal a) runs
@@ -237,10 +241,10 @@ module _ (a : Accepted) (plan : Plan) where
 
     job-some : (x : Job) → IsJob a x → 0 < length (roundsOf runs x)
     unfolding roundsOf
-    job-some x isJob = omega (arith, map-length (λ (step : Step). step .round .0) (stepsOf runs x), job-whole x isJob .0)
+    job-some x isJob = omega (arith, map-length (λ (step : Step). step .round) (stepsOf runs x), job-whole x isJob .0)
 
     -- whose rounds do not fall
-    pub job-climbs : (x : Job) → IsJob a x → Climbs (jobTotal a) 0 (roundsOf runs x)
+    pub job-climbs : (x : Job) → IsJob a x → Climbs (jobTotal a) firstRound (roundsOf runs x)
     unfolding roundsOf rounds
     job-climbs x isJob = job-whole x isJob .1
 
@@ -248,21 +252,24 @@ module _ (a : Accepted) (plan : Plan) where
     pub run-rising : Rising a runs
     unfolding start end
     run-rising =
-        record { hasStep = job-some; between = λ x isJob. climb-first (jobTotal a) 0 (roundsOf runs x) (job-climbs x isJob) }
+        record {
+          hasStep = job-some;
+          between = λ x isJob. climb-first (jobTotal a) firstRound (roundsOf runs x) (job-climbs x isJob);
+        }
 
     -- its rounds are the plan's
-    pub run-below : (x : Job) → IsJob a x → (k : ℕ) → k < length (roundsOf runs x) → getD (roundsOf runs x) k 0 < jobTotal a
-    run-below x isJob k lt = climb-at (jobTotal a) 0 (roundsOf runs x) (job-climbs x isJob) k lt .2
+    pub run-below : (x : Job) → IsJob a x → (k : ℕ) → k < length (roundsOf runs x) → roundOf runs x k .0 < jobTotal a
+    run-below x isJob k lt = climb-at (jobTotal a) firstRound (roundsOf runs x) (job-climbs x isJob) k lt .2
 
-    pub end-below : (x : Job) → IsJob a x → end runs x < jobTotal a
+    pub end-below : (x : Job) → IsJob a x → end runs x .0 < jobTotal a
     unfolding end
-    end-below x isJob = climb-below (jobTotal a) 0 (roundsOf runs x) (job-climbs x isJob) (job-some x isJob)
+    end-below x isJob = climb-below (jobTotal a) firstRound (roundsOf runs x) (job-climbs x isJob) (job-some x isJob)
 
 -- ---- a legal plan's ends
 
 -- the round in which job n ends
 abbrev pub endAt : JobRuns → ℕ → ℕ
-endAt runs n = end runs (job n)
+endAt runs n = end runs (job n) .0
 
 module _ (a : Accepted) (plan : Plan) {runs : JobRuns} (legal : Legal a plan runs) where
   pub legal-rising : Rising a runs

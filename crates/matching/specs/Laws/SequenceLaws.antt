@@ -15,7 +15,7 @@ use borrow.Author.Tests.{eq-eqb, ne-eqb, lt-ltb, le-ltb}
 use Rattle.notation.specs.Lists.{from, upTo, only, each}
 use Rattle.timing.specs.Accepted.{Accepted}
 use Rattle.matching.specs.Laws.Cuts.{Placed, rowSteps, sequence, placedByte, gathered}
-use Rattle.matching.specs.Laws.Histories.{Mark, Marks, marked, bytesOf, inRound, rowFrom, rows}
+use Rattle.matching.specs.Laws.Histories.{Mark, Marks, round, marked, bytesOf, inRound, rowFrom, rows}
 use Rattle.notation.specs.Laws.ElementLaws.{only-append, each-snoc, only-in, only-out}
 use Rattle.matching.specs.Laws.RunLaws.{Climbs}
 
@@ -123,7 +123,7 @@ rows-job y h (r ∷ rs) =
 
 -- the rounds of these steps do not fall, from p on, and are below n
 abbrev pub RoundsFrom : ℕ → ℕ → List Mark → Type 0
-RoundsFrom n p ms = Climbs n p (map (λ m. m .round) ms)
+RoundsFrom n p ms = Climbs n (round p) (map (λ m. round (m .round)) ms)
 
 abbrev pub Rounds : ℕ → List Mark → Type 0
 Rounds n ms = RoundsFrom n 0 ms
