@@ -1,15 +1,17 @@
 // What every entry has of a file, and the reader's entry.
-use crate::jobs::job_total;
-use crate::jobs::jobs_of;
-use crate::jobs::no_jobs;
+use jobs::job_total;
+use jobs::jobs_of;
+use jobs::no_jobs;
 use reader::load_file;
 use response::responses_of;
-use tables::record_at;
+use sites::record_at;
 use taskfile::Check;
 use taskfile::Judged;
 use taskfile::Table;
+use taskfile::limits::TASKS;
+use taskfile::numbers;
 use timing::AcceptAnswer;
-use timing::JobList;
+use timing::MOST_JOBS;
 use timing::ReadAnswer;
 ghost use mathlib.Core.Path.{_≡_};
 ghost use Rattle.timing.specs.Accepted.{accept};
@@ -23,7 +25,7 @@ pub fn refused_file(number: u8, place: u8, table: Table) -> AcceptAnswer
     AcceptAnswer {
         check: Check::Refused(number, place),
         table: table,
-        responses: [0; 8],
+        responses: [0; TASKS],
         list: no_jobs(),
     }
 }
@@ -44,8 +46,8 @@ pub fn accept_file(file: &[u8]) -> AcceptAnswer
     if let Judged::Faulty(number, site) = timed {
         return refused_file(number, record_at(file, site), table);
     }
-    if 32 < job_total(table) {
-        return refused_file(11, 0, table);
+    if MOST_JOBS < job_total(table) {
+        return refused_file(numbers::JOBS, 0, table);
     }
     AcceptAnswer {
         check: Check::Passed,
@@ -65,7 +67,7 @@ pub fn read(file: &[u8]) -> ReadAnswer
         return ReadAnswer {
             number: number,
             place: place as u32,
-            responses: [0; 8],
+            responses: [0; TASKS],
             jobs: 0,
         };
     }

@@ -1,4 +1,2 @@
-// The reader's entry whole: the response times and the jobs of a file's table, and how its jobs relate.
+// The reader's entry whole: a file's table with its response times and its jobs, or the number that the file earns.
 pub mod entries;
-pub mod jobs;
-pub mod relations;

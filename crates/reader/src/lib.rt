@@ -1,14 +1,19 @@
 // The reader up to number 9.
-use chains::read_chains;
 use judgement::judge;
-use tables::record_at;
+use record_walk::read_chains;
+use records::empty_task;
+use sites::record_at;
 use tables::table_at;
 use taskfile::Check;
-use taskfile::Instruction;
 use taskfile::Judged;
 use taskfile::LoadAnswer;
 use taskfile::Table;
-use taskfile::TaskEntry;
+use taskfile::limits::BYTES;
+use taskfile::limits::LOCKS;
+use taskfile::limits::RECORD;
+use taskfile::limits::TASKS;
+use taskfile::limits::VARIABLES;
+use taskfile::numbers;
 ghost use Rattle.taskfile.specs.File.{load, sized};
 ghost use Rattle.taskfile.specs.Code.Reading.{LoadedAs};
 ghost use Rattle.taskfile.specs.Tables.{emptyTable};
@@ -22,36 +27,24 @@ pub fn is_sized(file: &[u8]) -> bool
     if n == 0 {
         return false;
     }
-    if 4096 < n {
+    if BYTES < n {
         return false;
     }
-    n % 16 == 0
+    n % RECORD == 0
 }
 
 // A table with nothing in it.
 pub fn empty_table() -> Table
     ensures { λ x. ⌜ x ≡ emptyTable ⌝ }
 {
-    let end = Instruction {
-        operation: 0,
-        a: 0,
-        b: 0,
-        c: 0,
-    };
-    let none = TaskEntry {
-        execution: 0,
-        period: 0,
-        arrival: 0,
-        length: 0,
-        body: [end; 16],
-    };
+    let none = empty_task();
     Table {
         window: 0,
-        store: [0; 8],
+        store: [0; VARIABLES],
         tasks: 0,
-        entries: [none; 8],
+        entries: [none; TASKS],
         locks: 0,
-        ceilings: [0; 8],
+        ceilings: [0; LOCKS],
     }
 }
 
@@ -61,7 +54,7 @@ pub fn load_file(file: &[u8]) -> LoadAnswer
 {
     if !is_sized(file) {
         return LoadAnswer {
-            check: Check::Refused(1, 0),
+            check: Check::Refused(numbers::SIZE, 0),
             table: empty_table(),
         };
     }

@@ -1,41 +1,66 @@
-// The table that a file's chains spell, read by following indices, and the record at a site of it.
+// The table that a file's chains spell, read by following indices.
 use records::byte_at;
+use records::empty_task;
+use records::end_instruction;
 use records::instruction_at;
 use records::wide_at;
 use taskfile::Body;
 use taskfile::Ceilings;
+use taskfile::Chain;
 use taskfile::Entries;
-use taskfile::Instruction;
-use taskfile::Site;
 use taskfile::Table;
 use taskfile::TaskEntry;
+use taskfile::limits::INSTRUCTIONS;
+use taskfile::limits::LOCKS;
+use taskfile::limits::MOST_INSTRUCTIONS;
+use taskfile::limits::MOST_LOCKS;
+use taskfile::limits::MOST_TASKS;
+use taskfile::limits::TASKS;
+use taskfile::limits::VARIABLES;
+use taskfile::offsets;
 ghost use mathlib.Core.Path.{_≡_};
 ghost use Prim.Native.Nat.{_≤_};
 ghost use lib.ListN.{length, take, drop};
 ghost use Rattle.taskfile.specs.Code.Reading.{linkedTask, linkedChains};
-ghost use Rattle.taskfile.specs.Code.ReadingParts.{bodyAt, entriesAt, ceilingsAt, linkAfter, siteRecord};
+ghost use Rattle.taskfile.specs.Code.ReadingParts.{chainAt, bodyAt, entriesAt, ceilingsAt};
 ghost use Rattle.taskfile.specs.Tables.{entryAt, tableAt};
+
+// The records of the chain from the record `first` on, at most `most`.
+pub fn chain_at(file: &[u8], first: u8, most: u8) -> Chain
+    requires { ⌜ most ≤ 16 ⌝ }
+    ensures { λ x. ⌜ x ≡ chainAt (now (file .entry)) first most ⌝ }
+{
+    let mut records = [0u8; INSTRUCTIONS];
+    let mut n: u8 = 0;
+    let mut index = first;
+    while index != 0 && n < most {
+        let at = n as usize;
+        records[at] = index;
+        index = byte_at(file, index, offsets::NEXT);
+        n += 1;
+    }
+    Chain {
+        count: n,
+        records: records,
+    }
+}
 
 // The body whose first instruction is at `first`, at most 16 instructions; End fills the array up.
 pub fn body_at(file: &[u8], first: u8) -> Body
     ensures { λ x. ⌜ x ≡ bodyAt (now (file .entry)) first ⌝ }
 {
-    let end = Instruction {
-        operation: 0,
-        a: 0,
-        b: 0,
-        c: 0,
-    };
-    let mut body = [end; 16];
-    let mut n: usize = 0;
-    let mut index = first;
-    while index != 0 && n < 16 {
-        body[n] = instruction_at(file, index);
-        index = byte_at(file, index, 1);
+    let chain = chain_at(file, first, MOST_INSTRUCTIONS);
+    let records = chain.records;
+    let end = end_instruction();
+    let mut body = [end; INSTRUCTIONS];
+    let mut n: u8 = 0;
+    while n < chain.count {
+        let at = n as usize;
+        body[at] = instruction_at(file, records[at]);
         n += 1;
     }
     Body {
-        length: n as u8,
+        length: chain.count,
         body: body,
     }
 }
@@ -44,12 +69,12 @@ pub fn body_at(file: &[u8], first: u8) -> Body
 pub fn entry_at(file: &[u8], r: u8) -> TaskEntry
     ensures { λ x. ⌜ x ≡ entryAt (now (file .entry)) (linkedTask (now (file .entry)) r) ⌝ }
 {
-    let read = body_at(file, byte_at(file, r, 2));
+    let read = body_at(file, byte_at(file, r, offsets::FIRST_INSTRUCTION));
     let body = read.body;
     TaskEntry {
-        execution: wide_at(file, r, 4),
-        period: wide_at(file, r, 8),
-        arrival: wide_at(file, r, 12),
+        execution: wide_at(file, r, offsets::EXECUTION),
+        period: wide_at(file, r, offsets::PERIOD),
+        arrival: wide_at(file, r, offsets::ARRIVAL),
         length: read.length,
         body: body,
     }
@@ -59,29 +84,18 @@ pub fn entry_at(file: &[u8], r: u8) -> TaskEntry
 pub fn entries_at(file: &[u8], first: u8) -> Entries
     ensures { λ x. ⌜ x ≡ entriesAt (now (file .entry)) first ⌝ }
 {
-    let end = Instruction {
-        operation: 0,
-        a: 0,
-        b: 0,
-        c: 0,
-    };
-    let none = TaskEntry {
-        execution: 0,
-        period: 0,
-        arrival: 0,
-        length: 0,
-        body: [end; 16],
-    };
-    let mut entries = [none; 8];
-    let mut n: usize = 0;
-    let mut index = first;
-    while index != 0 && n < 8 {
-        entries[n] = entry_at(file, index);
-        index = byte_at(file, index, 1);
+    let chain = chain_at(file, first, MOST_TASKS);
+    let records = chain.records;
+    let none = empty_task();
+    let mut entries = [none; TASKS];
+    let mut n: u8 = 0;
+    while n < chain.count {
+        let at = n as usize;
+        entries[at] = entry_at(file, records[at]);
         n += 1;
     }
     Entries {
-        count: n as u8,
+        count: chain.count,
         entries: entries,
     }
 }
@@ -90,22 +104,23 @@ pub fn entries_at(file: &[u8], first: u8) -> Entries
 pub fn ceilings_at(file: &[u8], first: u8) -> Ceilings
     ensures { λ x. ⌜ x ≡ ceilingsAt (now (file .entry)) first ⌝ }
 {
-    let mut ceilings = [0u8; 8];
-    let mut n: usize = 0;
-    let mut index = first;
-    while index != 0 && n < 8 {
-        ceilings[n] = byte_at(file, index, 2);
-        index = byte_at(file, index, 1);
+    let chain = chain_at(file, first, MOST_LOCKS);
+    let records = chain.records;
+    let mut ceilings = [0u8; LOCKS];
+    let mut n: u8 = 0;
+    while n < chain.count {
+        let at = n as usize;
+        ceilings[at] = byte_at(file, records[at], offsets::CEILING);
         n += 1;
     }
     Ceilings {
-        count: n as u8,
+        count: chain.count,
         ceilings: ceilings,
     }
 }
 
-// The initial values of the shared variables.
-pub fn store_at(file: &[u8]) -> [u8; 8]
+// The initial values of the shared variables, bytes 8 to 15 of the header.
+pub fn store_at(file: &[u8]) -> [u8; VARIABLES]
     requires { ⌜ 16 ≤ length (now file) ⌝ }
     ensures { λ x. ⌜ x ≡ take 8 (drop 8 (now (file .entry))) ⌝ }
 {
@@ -125,43 +140,16 @@ pub fn table_at(file: &[u8]) -> Table
     requires { ⌜ 16 ≤ length (now file) ⌝ }
     ensures { λ x. ⌜ x ≡ tableAt (now (file .entry)) (linkedChains (now (file .entry))) ⌝ }
 {
-    let tasks = entries_at(file, byte_at(file, 0, 2));
-    let locks = ceilings_at(file, byte_at(file, 0, 3));
+    let tasks = entries_at(file, byte_at(file, 0, offsets::FIRST_TASK));
+    let locks = ceilings_at(file, byte_at(file, 0, offsets::FIRST_LOCK));
     let entries = tasks.entries;
     let ceilings = locks.ceilings;
     Table {
-        window: wide_at(file, 0, 4),
+        window: wide_at(file, 0, offsets::WINDOW),
         store: store_at(file),
         tasks: tasks.count,
         entries: entries,
         locks: locks.count,
         ceilings: ceilings,
-    }
-}
-
-// The record that n links lead to from `index`.
-pub fn link_after(file: &[u8], index: u8, n: u8) -> u8
-    ensures { λ x. ⌜ x ≡ linkAfter (now (file .entry)) index n ⌝ }
-{
-    let mut at = index;
-    let mut left = n;
-    while 0 < left {
-        at = byte_at(file, at, 1);
-        left -= 1;
-    }
-    at
-}
-
-// The record at a site of the file's table.
-pub fn record_at(file: &[u8], site: Site) -> u8
-    ensures { λ x. ⌜ x ≡ siteRecord (now (file .entry)) site ⌝ }
-{
-    match site {
-        Site::AtHeader => 0,
-        Site::AtTask(i) => link_after(file, byte_at(file, 0, 2), i.0),
-        Site::AtInstruction(i, p) => {
-            let task = link_after(file, byte_at(file, 0, 2), i.0);
-            link_after(file, byte_at(file, task, 2), p)
-        }
     }
 }

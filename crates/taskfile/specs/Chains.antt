@@ -28,9 +28,9 @@ recordOf kind f r = do
   require (eqb (byteAt f r 0) (kindNumber kind)) 2 r
   require (tidy f r kind && inRange f r kind) 4 r
 
--- Following an index that `holder` holds, where `allowed` more records of this kind may come and `again` says whether the record
--- was reached already. "3 CHAIN: an index outside the file or to a record already reached; place is the record holding it." "5
--- COUNT: a task, lock or instruction too many (place: that record)".
+-- Following an index that `holder` holds, where `allowed` more records of this kind may come and `again` says whether
+-- the record was reached already. "3 CHAIN: an index outside the file or to a record already reached; place is the
+-- record holding it." "5 COUNT: a task, lock or instruction too many (place: that record)".
 unfoldable pub follow : Kind → ℕ → File → Bool → ℕ → ℕ → Checked ℕ (Unit {0})
 follow kind allowed f again holder index = do
   require (ltb index (records f) && not again) 3 holder

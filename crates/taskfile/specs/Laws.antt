@@ -1,4 +1,5 @@
 pub mod ChainCases
+pub mod ChainExamples
 pub mod ChainLaws
 pub mod ChainReading
 pub mod CheckSteps

@@ -1,6 +1,6 @@
--- The records of a task file, and number 4 for one record. Document 01, "The task file" and "Instructions":
--- records of 16 bytes, a kind in byte 0, the index of the next record of the chain in byte 1.
--- Which bytes are unused and which values are in range stand apart, since a file may be tidied for the one and not the other.
+-- The records of a task file, and number 4 for one record. Document 01, "The task file" and "Instructions": records
+-- of 16 bytes, a kind in byte 0, the index of the next record of the chain in byte 1. Which bytes are unused and
+-- which values are in range stand apart, since a file may be tidied for the one and not the other.
 -- Assumes nothing.
 use Prim.Native.Nat.{ℕ, _+_, _*_, _/_}
 use mathlib.Core.Bool.{Bool, true, false, _&&_}

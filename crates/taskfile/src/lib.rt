@@ -1,4 +1,15 @@
-// The task file: what a table is, and the reader up to number 9. Document 01, "The task file".
+// The task file: what a table is, and what its reader yields. Document 01, "The task file".
+pub mod kinds;
+pub mod limits;
+pub mod numbers;
+pub mod offsets;
+pub mod operations;
+
+use crate::limits::INSTRUCTIONS;
+use crate::limits::LOCKS;
+use crate::limits::RECORDS;
+use crate::limits::TASKS;
+use crate::limits::VARIABLES;
 
 // A task's number, from 0 in chain order. It is also the task's base priority.
 pub struct Task(pub u8);
@@ -18,18 +29,18 @@ pub struct TaskEntry {
     pub period: u32,
     pub arrival: u32,
     pub length: u8,
-    pub body: [Instruction; 16],
+    pub body: [Instruction; INSTRUCTIONS],
 }
 
 // A table: the window W, the initial store, the first `tasks` of the eight entries, and the ceilings of
 // the first `locks` of the eight locks.
 pub struct Table {
     pub window: u32,
-    pub store: [u8; 8],
+    pub store: [u8; VARIABLES],
     pub tasks: u8,
-    pub entries: [TaskEntry; 8],
+    pub entries: [TaskEntry; TASKS],
     pub locks: u8,
-    pub ceilings: [u8; 8],
+    pub ceilings: [u8; LOCKS],
 }
 
 // The kind of a record: "Byte 0 is the kind".
@@ -65,25 +76,31 @@ pub enum Judged {
 pub struct Chained {
     pub check: Check,
     pub count: u8,
-    pub seen: [bool; 256],
+    pub seen: [bool; RECORDS],
+}
+
+// The records of a chain by following indices, how many there are, and the array that holds them.
+pub struct Chain {
+    pub count: u8,
+    pub records: [u8; INSTRUCTIONS],
 }
 
 // The instructions of a body, how many there are, and the array that holds them.
 pub struct Body {
     pub length: u8,
-    pub body: [Instruction; 16],
+    pub body: [Instruction; INSTRUCTIONS],
 }
 
 // The tasks' entries, how many there are, and the array that holds them.
 pub struct Entries {
     pub count: u8,
-    pub entries: [TaskEntry; 8],
+    pub entries: [TaskEntry; TASKS],
 }
 
 // The locks' ceilings, how many there are, and the array that holds them.
 pub struct Ceilings {
     pub count: u8,
-    pub ceilings: [u8; 8],
+    pub ceilings: [u8; LOCKS],
 }
 
 // What loading a file comes to: its check and, if it passed, its table.

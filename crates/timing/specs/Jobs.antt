@@ -1,5 +1,6 @@
--- The jobs of a table. Document 01, "Response times and jobs": "The jobs of task i arrive at A_i + k × P_i for each k ≥ 0
--- with arrival < W. Jobs are numbered by task, then by arrival. A job's latest finish is arrival + response time."
+-- The jobs of a table. Document 01, "Response times and jobs": "The jobs of task i arrive at A_i + k × P_i for each
+-- k ≥ 0 with arrival < W. Jobs are numbered by task, then by arrival. A job's latest finish is arrival + response
+-- time."
 -- Assumes nothing.
 use Prim.Native.Nat.{ℕ, _+_, _-_, _*_}
 use mathlib.Core.List.{List, map}

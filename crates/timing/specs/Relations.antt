@@ -25,8 +25,8 @@ jobNumbers a = map (λ n. record { 0 = n }) (upTo (length (a .jobs)))
 unfoldable pub base : Accepted → Job → ℕ
 base a x = jobAt a x .task .0
 
--- "X comes before Y if X's latest finish ≤ Y's arrival, or X arrives no later than Y and X's base priority is at least Y's
--- (X and Y distinct)."
+-- "X comes before Y if X's latest finish ≤ Y's arrival, or X arrives no later than Y and X's base priority is at
+-- least Y's (X and Y distinct)."
 unfoldable pub before : Accepted → Job → Job → Bool
 before a x y =
     not (eqb (x .0) (y .0))

@@ -5,6 +5,12 @@ use taskfile::Check;
 use taskfile::Judged;
 use taskfile::Table;
 use taskfile::Task;
+use taskfile::limits::TASKS;
+
+// "at most 32 jobs"; the same as a number to compare with a count.
+pub const JOBS: usize = 32;
+
+pub const MOST_JOBS: u64 = 32;
 
 // A job's number, by task, then by arrival, from 0.
 pub struct Job(pub u8);
@@ -20,13 +26,19 @@ pub struct JobRecord {
 // The jobs of a table, the first `count` of the 32.
 pub struct JobList {
     pub count: u8,
-    pub jobs: [JobRecord; 32],
+    pub jobs: [JobRecord; JOBS],
 }
 
 // A task's response time, if it is at most the task's period.
 pub enum Bound {
     Within(u64),
     Overload,
+}
+
+// The execution times and the periods of a table's tasks, by task number.
+pub struct TaskTimes {
+    pub executions: [u64; TASKS],
+    pub periods: [u64; TASKS],
 }
 
 // A fraction of the processor, part of whole, that tasks need at least.
@@ -38,14 +50,14 @@ pub struct Share {
 // The response times of a table, or the first task that has none.
 pub struct Responses {
     pub check: Judged,
-    pub times: [u64; 8],
+    pub times: [u64; TASKS],
 }
 
 // What every entry has of a file: its check and, if it passed, its table, the response times and the jobs.
 pub struct AcceptAnswer {
     pub check: Check,
     pub table: Table,
-    pub responses: [u64; 8],
+    pub responses: [u64; TASKS],
     pub list: JobList,
 }
 
@@ -54,7 +66,7 @@ pub struct AcceptAnswer {
 pub struct ReadAnswer {
     pub number: u8,
     pub place: u32,
-    pub responses: [u64; 8],
+    pub responses: [u64; TASKS],
     pub jobs: u8,
 }
 

@@ -4,35 +4,31 @@ use mathlib.Core.Path.{_≡_, refl, sym, _∙_}
 use Prim.Native.Nat.{suc, _-_, _≤_}
 use native.Mathlib.Omega.{arith}
 use borrow.Author.Tests.{not-true, not-false}
-use Rattle.timing.specs.Laws.LentTimesLaws.{times-filled}
 use Rattle.timing.specs.Laws.TableResponseLaws.{AllFound, FoundFrom, found-none, found-fit, found-more, found-refused}
 use Rattle.response.proofs.responses_of.Statement.{statement}
 use Rattle.response.proofs.responses_of.Tie as tie
 
 abbrev Inv-loop : tie.InvT-loop
-Inv-loop t executions periods times₀ fit₀ lowest₀ i₀ times fit lowest i = (i ≤ t .tasks) × FoundFrom t i times fit lowest
+Inv-loop t executions periods times₀ fit₀ lowest₀ i₀ times fit lowest i = (i ≤ t .tasks) × FoundFrom t i times fit (lowest .0)
 
 abbrev μ-loop : tie.MeasureT-loop
 μ-loop t executions periods times₀ fit₀ lowest₀ i₀ times fit lowest i = i
 
 -- where the call began
 abbrev entry : tie.At-loop Inv-loop μ-loop → tie.Start Inv-loop μ-loop
-entry c = c .before .before .before
+entry c = c .before .before .before .before
 
 -- what is known of the tasks above the one that a turn is at
 turn : (c : tie.In-loop Inv-loop μ-loop)
     → FoundFrom (entry (c .before) .args .t) (suc (c .before .loop .i - 1)) (c .before .loop .times) (c .before .loop .fit)
-    (c .before .loop .lowest)
+    (c .before .loop .lowest .0)
 turn c = let next : c .before .loop .i ≡ suc (c .before .loop .i - 1) = omega arith in rw (← next) (c .before .loop .inv .1)
 
-executions-of-requires : tie.Need-executions-of-requires Inv-loop μ-loop
-executions-of-requires c κs = c .pre
-
-periods-of-requires : tie.Need-periods-of-requires Inv-loop μ-loop
-periods-of-requires c κs = c .before .pre
+times-of-requires : tie.Need-times-of-requires Inv-loop μ-loop
+times-of-requires c κs = c .pre
 
 loop-holds : tie.Need-loop-holds Inv-loop μ-loop
-loop-holds c = (omega arith, found-none (c .before .before .pre))
+loop-holds c = (omega arith, found-none (c .before .before .before .pre))
 
 sub-i : tie.Need-sub-i Inv-loop μ-loop
 sub-i c = omega arith
@@ -40,9 +36,8 @@ sub-i c = omega arith
 response-of-requires : tie.Need-response-of-requires Inv-loop μ-loop
 response-of-requires c κs =
     let begun = c .before .before in
-    let given = entry (begun .before) .pre in
-    let filled = begun .before .before in (
-      times-filled given (filled .before .executions-of .ensures) (filled .periods-of .ensures),
+    let given = entry (begun .before) .pre in (
+      begun .before .before .before .before .times-of .ensures,
       omega arith,
       found-fit given (omega arith) (turn begun),
     )
@@ -103,8 +98,7 @@ responses-of-spec =
     (tie.spec
     Inv-loop
     μ-loop
-    executions-of-requires
-    periods-of-requires
+    times-of-requires
     loop-holds
     sub-i
     response-of-requires

@@ -1,4 +1,5 @@
--- The parts of the judgement as its functions yield them: the faults of one body, and the shape that a table in arrays has.
+-- The parts of the judgement as its functions yield them: the faults of one body, and the shape that a table in
+-- arrays has.
 -- Assumes nothing.
 use mathlib.Core.Path.{_≡_}
 use Prim.Native.Nat.{ℕ, _+_, _-_, _≤_, _<_}

@@ -1,5 +1,5 @@
--- What the functions of the reader yield, in terms of the definitions: a check as the declared enum, the records reached as
--- marks, and chains by following indices.
+-- What the functions of the reader yield, in terms of the definitions: a check as the declared enum, the records
+-- reached as marks, and chains by following indices.
 -- Assumes nothing.
 use mathlib.Core.Path.{_≡_}
 use Prim.Native.Nat.{ℕ, zero, suc}

@@ -1,10 +1,11 @@
 -- The parts of a table by following indices, as the functions of the reader yield them.
 -- Assumes nothing.
 use Prim.Native.Nat.{ℕ, zero, suc}
-use mathlib.Core.List.{List, map}
+use mathlib.Core.List.{map}
 use lib.ListN.{length}
 use Rattle.taskfile.specs.declared.Body.{Body}
 use Rattle.taskfile.specs.declared.Ceilings.{Ceilings}
+use Rattle.taskfile.specs.declared.Chain.{Chain}
 use Rattle.taskfile.specs.declared.Entries.{Entries}
 use Rattle.taskfile.specs.declared.Site.{Site}
 use Rattle.taskfile.specs.declared.Site.the-variants.{AtHeader, AtTask, AtInstruction}
@@ -13,6 +14,12 @@ use Rattle.notation.specs.Lists.{padded}
 use Rattle.taskfile.specs.Code.Reading.{linked, linkedTask}
 use Rattle.taskfile.specs.Records.{File, byteAt, next, instructionAt}
 use Rattle.taskfile.specs.Tables.{endInstruction, noTask, entryAt}
+
+-- a chain of at most n records, in an array with room for the longest
+unfoldable pub chainAt : File → ℕ → ℕ → Chain
+chainAt f first n =
+    let records = linked f n first in
+    record { count = length records; records = padded mostInstructions 0 records }
 
 unfoldable pub bodyAt : File → ℕ → Body
 bodyAt f first =

@@ -1,6 +1,6 @@
--- The climb to the response time as its functions yield it: the share of the processor that the tasks above need, the lower bound
--- that it starts from, the test whether an interval of some length is long enough, the arrays that the tasks' times are lent in,
--- and the answers as declared types.
+-- The climb to the response time as its functions yield it: the share of the processor that the tasks above need,
+-- the lower bound that it starts from, the test whether an interval of some length is long enough, the arrays that
+-- the tasks' times are lent in, and the answers as declared types.
 -- Assumes nothing.
 use mathlib.Core.Path.{_≡_}
 use Prim.Native.Nat.{ℕ, _+_, _*_, _/_, _%_, _^_, _≤_, _<_}
@@ -101,7 +101,8 @@ abbrev pub AllFit : List TaskEntry → Type 0
 AllFit [] = Unit {0}
 AllFit (e ∷ above) = Fits above (e .execution) (e .period) × AllFit above
 
--- the test for `Fits` by Bini and Buttazzo's scheduling points: of each period only the last multiple up to b, and b itself
+-- the test for `Fits` by Bini and Buttazzo's scheduling points: of each period only the last multiple up to b, and
+-- b itself
 unfoldable pub fitsFrom : List TaskEntry → ℕ → ℕ → Bool
 fitsFrom [] base b = leb base b
 fitsFrom (e ∷ above) base b =

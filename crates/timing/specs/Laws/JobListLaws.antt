@@ -1,15 +1,13 @@
 -- Laws of the job list by value.
 -- Assumes nothing.
-use mathlib.Core.Path.{_≡_, refl, sym, ap, subst, _∙_, fun-ext}
-use Prim.Native.Nat.{ℕ, zero, suc, _+_, _-_, _*_, _^_, _≤_, _<_}
+use mathlib.Core.Path.{_≡_, refl, sym, ap, _∙_, fun-ext}
+use Prim.Native.Nat.{ℕ, _+_, _-_, _*_, _^_, _≤_, _<_}
 use native.Mathlib.Nat.{mul-le-mul, le-mul-of-pos-right, zero-div, zero-mod}
 use native.Mathlib.Decide.{decLe}
 use native.Mathlib.Numerals.{add-one}
 use native.Mathlib.Omega.{arith}
-use mathlib.Core.Bool.{not, _&&_, _||_}
 use mathlib.Core.List.{List, [], _∷_, _++_, map, append-assoc, append-nil}
 use lib.ListN.{length, getD, set, length-append}
-use lib.Dec.{leb, ltb, eqb}
 use Rattle.taskfile.specs.declared.Table.{Table}
 use Rattle.taskfile.specs.declared.Task.{Task}
 use Rattle.taskfile.specs.declared.TaskEntry.{TaskEntry}
@@ -22,7 +20,7 @@ use Rattle.timing.specs.declared.Job.{Job}
 use Rattle.timing.specs.declared.JobList.{JobList}
 use Rattle.timing.specs.declared.JobRecord.{JobRecord}
 use Rattle.timing.specs.Jobs.{arrivalOf, jobsWithin, jobOf, jobsOfTask, jobsOf}
-use Rattle.timing.specs.Relations.{noJob, jobAt, base, before, mayPreempt}
+use Rattle.timing.specs.Relations.{noJob, jobAt}
 use Rattle.timing.specs.Response.{roundedUp}
 use Rattle.timing.specs.Laws.ResponseLaws.{roundedUp-below}
 use Rattle.timing.specs.Code.ResponseParts.{Timeable}
@@ -88,24 +86,6 @@ pub record-listed : (list : JobList) (a : Accepted) (x : Job) → list ≡ jobLi
     → getD (list .jobs) (x .0) noJob ≡ jobAt a x
 unfolding jobAt
 record-listed list a x e lt = job-listed list (a .jobs) (x .0) e lt
-
--- the two relations, by the records of a list
-pub before-listed : (list : JobList) (a : Accepted) (x y : Job) → list ≡ jobListOf (a .jobs) → x .0 < 32 → y .0 < 32
-    → before a x y
-    ≡ (not (eqb (x .0) (y .0))
-    && (leb (getD (list .jobs) (x .0) noJob .latest) (getD (list .jobs) (y .0) noJob .arrival)
-    || leb (getD (list .jobs) (x .0) noJob .arrival) (getD (list .jobs) (y .0) noJob .arrival)
-    && leb (getD (list .jobs) (y .0) noJob .task .0) (getD (list .jobs) (x .0) noJob .task .0)))
-unfolding before base jobAt
-before-listed list a x y e hx hy = rw (job-listed list (a .jobs) (x .0) e hx, job-listed list (a .jobs) (y .0) e hy) refl
-
-pub preempt-listed : (list : JobList) (a : Accepted) (y x : Job) → list ≡ jobListOf (a .jobs) → x .0 < 32 → y .0 < 32
-    → mayPreempt a y x
-    ≡ (ltb (getD (list .jobs) (x .0) noJob .task .0) (getD (list .jobs) (y .0) noJob .task .0)
-    && ltb (getD (list .jobs) (x .0) noJob .arrival) (getD (list .jobs) (y .0) noJob .arrival)
-    && ltb (getD (list .jobs) (y .0) noJob .arrival) (getD (list .jobs) (x .0) noJob .latest))
-unfolding mayPreempt base jobAt
-preempt-listed list a y x e hx hy = rw (job-listed list (a .jobs) (x .0) e hx, job-listed list (a .jobs) (y .0) e hy) refl
 
 -- no job of a task arrives in a window that ends before the first arrival
 pub none-within : (window : ℕ) (e : TaskEntry) → window ≤ e .arrival → 0 ≡ jobsWithin window e

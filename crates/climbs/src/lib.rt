@@ -1,0 +1,66 @@
+// The climb to the least solution of the response equation from a lower bound of every solution.
+use demands::demand_of;
+use taskfile::Table;
+use taskfile::Task;
+use taskfile::limits::TASKS;
+use timing::Bound;
+ghost use mathlib.Core.Path.{_≡_};
+ghost use Prim.Native.Nat.{_<_};
+ghost use Rattle.timing.specs.Response.{responseOf};
+ghost use Rattle.timing.specs.Code.ResponseParts.{TimesOf, boundOf, LowerBound};
+
+// Climbs from a lower bound of every solution to the least solution, or past the period.
+pub fn climb(
+    t: Table,
+    executions: &[u64; TASKS],
+    periods: &[u64; TASKS],
+    i: Task,
+    start: u64,
+) -> Bound
+    requires { ⌜ TimesOf t (now executions) (now periods) (t .tasks) × (i .0 < t .tasks) × LowerBound t i start ⌝ }
+    ensures { λ x. ⌜ x ≡ boundOf (responseOf t i) ⌝ }
+{
+    let at = i.0 as usize;
+    let period = periods[at];
+    let tasks = t.tasks;
+    let mut r = start;
+    while r <= period {
+        let next = demand_of(executions, periods, tasks, i, r);
+        if next == r {
+            return Bound::Within(r);
+        }
+        r = next;
+    }
+    Bound::Overload
+}
+
+// At most `turns` turns of the climb from a lower bound.
+pub fn climb_some(
+    t: Table,
+    executions: &[u64; TASKS],
+    periods: &[u64; TASKS],
+    i: Task,
+    start: u64,
+    turns: u8,
+) -> u64
+    requires { ⌜ TimesOf t (now executions) (now periods) (t .tasks) × (i .0 < t .tasks) × LowerBound t i start ⌝ }
+    ensures { λ r. ⌜ LowerBound t i r ⌝ }
+{
+    let at = i.0 as usize;
+    let period = periods[at];
+    let tasks = t.tasks;
+    let mut r = start;
+    let mut left = turns;
+    while 0 < left {
+        if period < r {
+            return r;
+        }
+        let next = demand_of(executions, periods, tasks, i, r);
+        if next == r {
+            return r;
+        }
+        r = next;
+        left -= 1;
+    }
+    r
+}

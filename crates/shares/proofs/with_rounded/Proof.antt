@@ -1,0 +1,59 @@
+-- `shares::with_rounded` meets its contract: as few parts are made one unit as leave room for c times as many, and both
+-- shares are rounded down to parts of such units.
+-- Assumes nothing.
+use native.Mathlib.Nat.{le-div-iff-mul-le}
+use native.Mathlib.Omega.{arith}
+use borrow.Author.Needs.{needs}
+use Prim.Native.Nat.{_-_, _/_, _^_, _≤_}
+use Rattle.timing.specs.Laws.ResponseLaws.{roundedUp-positive}
+use Rattle.timing.specs.Laws.ShareLaws.{Grouped, grouped, rounded-product, rounded-fits, rounded-most}
+use Rattle.shares.proofs.with_rounded.Statement.{statement}
+use Rattle.shares.proofs.with_rounded.Tie as tie
+
+-- the divisor leaves room for one part at least
+room : (c : tie.Start) → 1 ≤ (2 ^ 64 - 1) / c .args .c
+room c = le-div-iff-mul-le (c .pre .positive) .1 (omega arith)
+
+-- the whole as the function groups it
+group : (c : tie.After-struct-known)
+    → Grouped (c .before .before .before .args .s .whole) ((2 ^ 64 - 1) / c .before .before .before .args .c)
+    (c .before .before .rounded-up .result) (c .before .rounded-up2 .result)
+group c =
+    grouped _ _ (omega arith) (room (c .before .before .before)) (c .before .before .rounded-up .ensures) (c .before .rounded-up2 .ensures)
+
+div-rounded-up : tie.Need-div-rounded-up
+div-rounded-up c = search needs
+
+rounded-up-requires : tie.Need-rounded-up-requires
+rounded-up-requires c κs = room c
+
+rounded-up-requires-2 : tie.Need-rounded-up-requires-2
+rounded-up-requires-2 c κs = rw (c .rounded-up .ensures) (roundedUp-positive _ _ (omega arith))
+
+div-kept : tie.Need-div-kept
+div-kept c = group c .unit
+
+mul-added : tie.Need-mul-added
+mul-added c = omega (arith, rounded-product (c .before .before .before .pre) (group c))
+
+div-added : tie.Need-div-added
+div-added c = search needs
+
+add-t9 : tie.Need-add-t9
+add-t9 c = omega (arith, rounded-fits (c .before .before .before .pre) (group c))
+
+returns : tie.Need-returns
+returns c = rounded-most (c .before .before .before .pre) (group c)
+
+pub with-rounded-spec : {M : Type 1} → statement M
+with-rounded-spec =
+    tie.close
+    (tie.spec
+    div-rounded-up
+    rounded-up-requires
+    rounded-up-requires-2
+    div-kept
+    mul-added
+    div-added
+    add-t9
+    returns)
