@@ -1,30 +1,33 @@
-// How large a file and a table may be. Those that code counts with have a second name as a byte.
+// How large a file and a table may be. A limit that code counts up to has a second name, `MOST_`, as a byte.
 
 // The bytes of a record.
 pub const RECORD: usize = 16;
 
-// The most records of a file, and their bytes.
+// The most records of a file.
 pub const RECORDS: usize = 256;
 
+// The most bytes of a file.
 pub const BYTES: usize = 4096;
 
-// "Limits: 1 to 8 tasks, 0 to 8 locks, 1 to 16 instructions in a body"
+// "1 to 8 tasks"
 pub const TASKS: usize = 8;
 
 pub const MOST_TASKS: u8 = 8;
 
+// "0 to 8 locks"
 pub const LOCKS: usize = 8;
 
 pub const MOST_LOCKS: u8 = 8;
 
+// "1 to 16 instructions in a body"
 pub const INSTRUCTIONS: usize = 16;
 
 pub const MOST_INSTRUCTIONS: u8 = 16;
 
-// A lock's ceiling is 0 to 7.
+// "byte 2 ceiling, 0 to 7"
 pub const HIGHEST_CEILING: u8 = 7;
 
-// The shared variables 0 to 7.
+// "shared variables 0 to 7"
 pub const VARIABLES: usize = 8;
 
 // The operations 0 to 11.

@@ -1,18 +1,18 @@
 // Where the fields of a record stand, by byte. Document 01, "The task file".
 
-// In every record.
+// In every record:
 pub const KIND: u8 = 0;
 
 pub const NEXT: u8 = 1;
 
-// In the header.
+// In the header:
 pub const FIRST_TASK: u8 = 2;
 
 pub const FIRST_LOCK: u8 = 3;
 
 pub const WINDOW: u8 = 4;
 
-// In a task's record, where one byte is unused.
+// In a task's record, where one byte is unused:
 pub const FIRST_INSTRUCTION: u8 = 2;
 
 pub const TASK_UNUSED: u8 = 3;
@@ -23,12 +23,14 @@ pub const PERIOD: u8 = 8;
 
 pub const ARRIVAL: u8 = 12;
 
-// In a lock's record, of which 13 bytes are unused.
+// In a lock's record, where the bytes from one on are unused:
 pub const CEILING: u8 = 2;
 
 pub const LOCK_UNUSED: u8 = 3;
 
-// In an instruction's record, and how many bytes are unused from there to its end.
+pub const LOCK_UNUSED_BYTES: u8 = 13;
+
+// In an instruction's record, where the bytes from one on are unused:
 pub const OPERATION: u8 = 2;
 
 pub const FIELD_A: u8 = 3;

@@ -7,9 +7,10 @@ use taskfile::Table;
 use taskfile::Task;
 use taskfile::limits::TASKS;
 
-// "at most 32 jobs"; the same as a number to compare with a count.
+// "at most 32 jobs"
 pub const JOBS: usize = 32;
 
+// The same, to hold a count of jobs against.
 pub const MOST_JOBS: u64 = 32;
 
 // A job's number, by task, then by arrival, from 0.
