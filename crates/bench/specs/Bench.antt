@@ -110,9 +110,12 @@ pub record BenchCases : Type 0 where
   -- "one task, A 5, W 5: no jobs, holds with count 0, empty order, plan the byte 0."
   pub P12 : (walkAnswer noJobs 0 (lent 512)
       ≡ record { number = 0; place = 0; verdict = Holds; count = 0; length = 0; store = noStore; failed = noFlags })
+      × (walkAfter noJobs 0 (lent 512) ≡ replicate 512 0)
+      × (replayAnswer noJobs [] ≡ endsAs noStore noFlags 0)
       × (orderToPlanAnswer noJobs [] (lent 1281) ≡ endsAs noStore noFlags 1)
       × (orderToPlanAfter noJobs [] (lent 1281) ≡ 0 ∷ replicate 1280 0)
       × (planToOrderAnswer noJobs (0 ∷ []) (lent 512) ≡ endsAs noStore noFlags 0)
+      × (planToOrderAfter noJobs (0 ∷ []) (lent 512) ≡ replicate 512 0)
   -- "X with allowance 23: fails; 22: 21."
   pub P13 : (walkAnswer tableX 23 (lent 512)
       ≡ record { number = 0; place = 0; verdict = Fails; count = 23; length = 8; store = storeX; failed = failedX })
@@ -122,7 +125,7 @@ pub record BenchCases : Type 0 where
 
 -- ---- the theorem
 
-bench : BenchCases
+pub bench : BenchCases
 unfolding opened responseOf ofTable
 bench =
     record {
@@ -137,6 +140,6 @@ bench =
       P9 = refl;
       P10 = refl;
       P11 = refl;
-      P12 = (refl, refl, refl, refl);
+      P12 = (refl, refl, refl, refl, refl, refl, refl);
       P13 = (refl, refl, refl, refl);
     }

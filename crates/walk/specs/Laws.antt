@@ -1,7 +1,9 @@
 pub mod ByteLaws
 pub mod CaseLaws
+pub mod Examples
 pub mod ListedLaws
 pub mod MoveCountLaws
 pub mod MoveLaws
+pub mod Opened
 pub mod PathLaws
 pub mod WalkLaws
