@@ -6,4 +6,5 @@ pub mod MoveCountLaws
 pub mod MoveLaws
 pub mod Opened
 pub mod PathLaws
+pub mod SizeLaws
 pub mod WalkLaws

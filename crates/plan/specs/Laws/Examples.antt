@@ -29,14 +29,26 @@ planOf guesses first second picked start third =
 abbrev guesses : List Store
 guesses = noStore ∷ twoSet 0 2 ∷ twoSet 1 2 ∷ []
 
--- Job 2 is nested in job 1 and that in job 0. The steps of job 0 stand at offsets 25 to 34, those of job 1 at 35 to 40 and
--- those of job 2 at 41 to 46.
+-- the rounds of the nested plan, where the guesses and what job 2 picks are these
+abbrev nestedWith : List Store → ℕ → Plan
+nestedWith stores picked = planOf stores (0 ∷ 0 ∷ 2 ∷ 2 ∷ 2 ∷ []) (0 ∷ 1 ∷ 1 ∷ []) picked 0 (0 ∷ 0 ∷ [])
+
+-- Job 2 is nested in job 1 and that in job 0. The steps of job 0 stand at offsets 25 to 34, those of job 1 at 35 to
+-- 40 and those of job 2 at 41 to 46.
 abbrev nested : Plan
-nested = planOf guesses (0 ∷ 0 ∷ 2 ∷ 2 ∷ 2 ∷ []) (0 ∷ 1 ∷ 1 ∷ []) 2 0 (0 ∷ 0 ∷ [])
+nested = nestedWith guesses 2
 
 -- as `nested`, where job 0 has these rounds
 abbrev withFirst : List ℕ → Plan
 withFirst rounds = planOf guesses rounds (0 ∷ 1 ∷ 1 ∷ []) 2 0 (0 ∷ 0 ∷ [])
+
+-- jobs 1 and 2 overlap and neither is nested, where job 0 has these rounds
+abbrev overlapping : List ℕ → Plan
+overlapping rounds = planOf guesses rounds (0 ∷ 0 ∷ 0 ∷ []) 2 0 (1 ∷ 1 ∷ [])
+
+-- a plan of the table `pair`: the round of each job's one step
+abbrev pairPlan : ℕ → ℕ → Plan
+pairPlan x y = 2 ∷ noStore ++ noStore ++ steps (x ∷ y ∷ [])
 
 abbrev endsWith : Store → Flags → Checked ℕ End
 endsWith store failed = passed (record { store = store; failed = failed })
@@ -46,12 +58,13 @@ endsWith store failed = passed (record { store = store; failed = failed })
 pub record PlanExamples : Type 0 where
   -- a nested plan is legal. Its end store is that of the last round
   pub legal : checkPlan nest nested ≡ endsWith (twoSet 1 2) noFlags
-  -- job 2 is nested in job 0 while that holds a lock whose ceiling is below job 2's base; job 0 then fails its assertion
+  -- job 2 is nested in job 0 while that holds a lock whose ceiling is below job 2's base; job 0 then fails its
+  -- assertion
   pub legalUnderLock : checkPlan nest
       (planOf (noStore ∷ twoSet 0 2 ∷ twoSet 0 2 ∷ []) (0 ∷ 1 ∷ 1 ∷ 1 ∷ 1 ∷ []) (2 ∷ 2 ∷ 2 ∷ []) 2 0 (0 ∷ 0 ∷ []))
       ≡ endsWith (twoSet 1 2) firstFailed
   -- job 1 comes before job 0
-  pub legalBefore : checkPlan pair (2 ∷ each (noStore ∷ noStore ∷ []) (λ g. g) ++ steps (1 ∷ 0 ∷ [])) ≡ endsWith noStore noFlags
+  pub legalBefore : checkPlan pair (pairPlan 1 0) ≡ endsWith noStore noFlags
   -- with no job the end store is the initial store
   pub legalIdle : checkPlan idle (0 ∷ []) ≡ endsWith (twoSet 5 0) noFlags
   -- "40 SHAPE: first byte not k, bytes run out, or bytes left over"
@@ -62,30 +75,27 @@ pub record PlanExamples : Type 0 where
   pub shapeLeft : checkPlan nest (nested ++ (0 ∷ [])) ≡ refused 40 47
   -- "41 VALUE: not a value its instruction allows": an Acquire has the value 0 alone, the Pick 0 to 3
   pub valueFixed : checkPlan nest (take 25 nested ++ (0 ∷ 1 ∷ []) ++ steps (0 ∷ [])) ≡ refused 41 26
-  pub valuePicked : checkPlan nest (planOf guesses (0 ∷ 0 ∷ 2 ∷ 2 ∷ 2 ∷ []) (0 ∷ 1 ∷ 1 ∷ []) 4 0 (0 ∷ 0 ∷ [])) ≡ refused 41 42
+  pub valuePicked : checkPlan nest (nestedWith guesses 4) ≡ refused 41 42
   -- "42 ROUND: at least k, or below the job's previous step"
   pub roundMany : checkPlan nest (withFirst (0 ∷ 0 ∷ 2 ∷ 2 ∷ 3 ∷ [])) ≡ refused 42 33
   pub roundBack : checkPlan nest (withFirst (0 ∷ 0 ∷ 2 ∷ 1 ∷ 2 ∷ [])) ≡ refused 42 31
   -- "per step 40, 42, 41"
   pub roundFirst : checkPlan nest (take 25 nested ++ (3 ∷ 1 ∷ [])) ≡ refused 42 25
   -- "43 ORDER": jobs 1 and 2 overlap, and neither is nested
-  pub orderOverlap : checkPlan nest (planOf guesses (0 ∷ 0 ∷ 2 ∷ 2 ∷ 2 ∷ []) (0 ∷ 0 ∷ 0 ∷ []) 2 0 (1 ∷ 1 ∷ [])) ≡ refused 43 1
+  pub orderOverlap : checkPlan nest (overlapping (0 ∷ 0 ∷ 2 ∷ 2 ∷ 2 ∷ [])) ≡ refused 43 1
   -- job 0 steps in round 1, after job 1's start and not after its end
   pub orderStep : checkPlan nest (withFirst (0 ∷ 0 ∷ 1 ∷ 2 ∷ 2 ∷ [])) ≡ refused 43 0
   -- job 1 comes before job 0, and shares its round or comes after it
-  pub orderShared : checkPlan pair (2 ∷ each (noStore ∷ noStore ∷ []) (λ g. g) ++ steps (0 ∷ 0 ∷ [])) ≡ refused 43 0
-  pub orderBack : checkPlan pair (2 ∷ each (noStore ∷ noStore ∷ []) (λ g. g) ++ steps (0 ∷ 1 ∷ [])) ≡ refused 43 0
+  pub orderShared : checkPlan pair (pairPlan 0 0) ≡ refused 43 0
+  pub orderBack : checkPlan pair (pairPlan 0 1) ≡ refused 43 0
   -- "44 LOCK": job 0 holds a lock with the ceiling 1 when job 1, whose base is 1, starts within it
   pub lock : checkPlan nest (withFirst (0 ∷ 2 ∷ 2 ∷ 2 ∷ 2 ∷ [])) ≡ refused 44 0
   -- 43 of any pair goes before 44
-  pub orderFirst : checkPlan nest (planOf guesses (0 ∷ 2 ∷ 2 ∷ 2 ∷ 2 ∷ []) (0 ∷ 0 ∷ 0 ∷ []) 2 0 (1 ∷ 1 ∷ [])) ≡ refused 43 1
+  pub orderFirst : checkPlan nest (overlapping (0 ∷ 2 ∷ 2 ∷ 2 ∷ 2 ∷ [])) ≡ refused 43 1
   -- "45 GUESS: lowest round whose guess is wrong"
-  pub guessFirst : checkPlan nest
-      (planOf (twoSet 1 0 ∷ noStore ∷ noStore ∷ []) (0 ∷ 0 ∷ 2 ∷ 2 ∷ 2 ∷ []) (0 ∷ 1 ∷ 1 ∷ []) 2 0 (0 ∷ 0 ∷ [])) ≡ refused 45 0
-  pub guessNext : checkPlan nest
-      (planOf (noStore ∷ noStore ∷ noStore ∷ []) (0 ∷ 0 ∷ 2 ∷ 2 ∷ 2 ∷ []) (0 ∷ 1 ∷ 1 ∷ []) 2 0 (0 ∷ 0 ∷ [])) ≡ refused 45 1
-  pub guessLast : checkPlan nest
-      (planOf (noStore ∷ twoSet 0 2 ∷ twoSet 0 2 ∷ []) (0 ∷ 0 ∷ 2 ∷ 2 ∷ 2 ∷ []) (0 ∷ 1 ∷ 1 ∷ []) 2 0 (0 ∷ 0 ∷ [])) ≡ refused 45 2
+  pub guessFirst : checkPlan nest (nestedWith (twoSet 1 0 ∷ noStore ∷ noStore ∷ []) 2) ≡ refused 45 0
+  pub guessNext : checkPlan nest (nestedWith (noStore ∷ noStore ∷ noStore ∷ []) 2) ≡ refused 45 1
+  pub guessLast : checkPlan nest (nestedWith (noStore ∷ twoSet 0 2 ∷ twoSet 0 2 ∷ []) 2) ≡ refused 45 2
 
 pub plan-examples : PlanExamples
 unfolding opened plansOpened nestTable nest pairTable pair idleTable idle
