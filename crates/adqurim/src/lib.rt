@@ -52,10 +52,10 @@ pub extern "C" fn adqurim_replay(file: &[u8], order: &[u8], answer: &mut [u64]) 
     true
 }
 
-// The walk's entry. Words 0 to 42 as the replay's (the failing order's end store, failed jobs and length; zeros if none
-// fails), word 43 the verdict: 0 none, 1 holds, 2 fails; word 44 the count of moves.
-// The order buffer's first 512 bytes hold the failing order and zeros, or zeros alone; see the header. It answers
-// whether there was room for the words; without room nothing changes, the order buffer neither.
+// The walk's entry. Words 0 to 42 as the replay's (the failing order's end store, failed jobs and length; zeros if
+// none fails), word 43 the verdict: 0 none, 1 holds, 2 fails; word 44 the count of moves. The order buffer's first
+// 512 bytes hold the failing order and zeros, or zeros alone; see the header. It answers whether there was room for
+// the words; without room nothing changes, the order buffer neither.
 #[no_mangle]
 pub extern "C" fn adqurim_walk(
     file: &[u8],
@@ -65,7 +65,8 @@ pub extern "C" fn adqurim_walk(
 ) -> bool
     ensures room { λ r. ⌜ r ≡ leb wordsOfWalk (length (now (answer .entry))) ⌝ }
     ensures words { λ _. ⌜ now (answer .exit)
-        ≡ filledWith (walkWords (walkAnswer (now (file .entry)) allowance (now (order .entry)))) (now (answer .entry)) ⌝ }
+        ≡ filledWith (walkWords (walkAnswer (now (file .entry)) allowance (now (order .entry))))
+        (now (answer .entry)) ⌝ }
     ensures buffer { λ _. ⌜ now (order .exit)
         ≡ (if leb wordsOfWalk (length (now (answer .entry)))
         then walkAfter (now (file .entry)) allowance (now (order .entry)) else now (order .entry)) ⌝ }

@@ -1,6 +1,6 @@
--- One name for the definitions of the task file, of times and jobs and of instructions, so that a proof by computing says
--- `unfolding opened`. The search for a response time stays shut, since some tables have periods that no computing reaches
--- the end of: where it is wanted, say `unfolding opened responseOf`.
+-- One name for the definitions of the task file, of times and jobs and of instructions, so that a proof by computing
+-- says `unfolding opened`. The search for a response time stays shut, since some tables have periods that no
+-- computing reaches the end of: where it is wanted, say `unfolding opened responseOf`.
 -- Assumes nothing.
 use Rattle.notation.specs.Checked
 use Rattle.notation.specs.Lists

@@ -78,7 +78,8 @@ pairTable = table 1 0 (task 1 4 0 (endInstruction ∷ []) ∷ task 1 4 0 (endIns
 unfoldable pub pair : Accepted
 pair = record { table = pairTable; responses = 2 ∷ 1 ∷ []; jobs = job 0 0 2 ∷ job 1 0 1 ∷ [] }
 
--- One task with one job: Pick 0 of 0 to 2, skip 1 if register 0 equals register 1, Assert 1, End. It fails unless it picks 0.
+-- One task with one job: Pick 0 of 0 to 2, skip 1 if register 0 equals register 1, Assert 1, End. It fails unless it
+-- picks 0.
 unfoldable pub pickTable : Table
 pickTable =
     table 1 0
@@ -94,6 +95,11 @@ idleTable = table 5 5 (task 1 1 5 (endInstruction ∷ []) ∷ []) []
 unfoldable pub idle : Accepted
 idle = record { table = idleTable; responses = 1 ∷ []; jobs = [] }
 
+-- one name for all of them
+unfoldable pub samplesOpened : Unit {0}
+unfolding nestTable nest pairTable pair pickTable pick idleTable idle
+samplesOpened = tt
+
 -- these are the accepted tables that their tables' own times and jobs make
 pub record Timed : Type 0 where
   pub nestTimed : timed nestTable ≡ passed nest
@@ -102,5 +108,5 @@ pub record Timed : Type 0 where
   pub idleTimed : timed idleTable ≡ passed idle
 
 pub all-timed : Timed
-unfolding opened responseOf nestTable nest pairTable pair pickTable pick idleTable idle
+unfolding opened responseOf samplesOpened
 all-timed = record { nestTimed = refl; pairTimed = refl; pickTimed = refl; idleTimed = refl }

@@ -1,4 +1,5 @@
--- `adqurim::adqurim_read` meets its contract: without room nothing is called, else the words are those of the reader's answer.
+-- `adqurim::adqurim_read` meets its contract: without room nothing is called, else the words are those of the
+-- reader's answer.
 -- Assumes nothing.
 use mathlib.Core.Path.{sym, ap, _∙_}
 use borrow.Author.Needs.{needs}

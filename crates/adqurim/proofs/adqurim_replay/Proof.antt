@@ -1,4 +1,5 @@
--- `adqurim::adqurim_replay` meets its contract: without room nothing is called, else the words are those of the replay's answer.
+-- `adqurim::adqurim_replay` meets its contract: without room nothing is called, else the words are those of the
+-- replay's answer.
 -- Assumes nothing.
 use mathlib.Core.Path.{sym, ap, _∙_}
 use borrow.Author.Needs.{needs}

@@ -1,5 +1,5 @@
--- `adqurim::adqurim_walk` meets its contract: without room nothing is called, else the words are those of the walk's answer and
--- the buffer is as the walk leaves it.
+-- `adqurim::adqurim_walk` meets its contract: without room nothing is called, else the words are those of the walk's
+-- answer and the buffer is as the walk leaves it.
 -- Assumes nothing.
 use mathlib.Core.Path.{sym, ap, _∙_}
 use borrow.Author.Needs.{needs}

@@ -1,4 +1,5 @@
--- What the entries do without room: it is known, before any file is read, how many words an answer takes, so nothing changes.
+-- What the entries do without room: it is known, before any file is read, how many words an answer takes, so nothing
+-- changes.
 -- Assumes nothing.
 use mathlib.Core.Path.{_≡_}
 use Prim.Native.Nat.{ℕ, _≤_, _<_}
@@ -25,7 +26,8 @@ unfolding readAnswerOf
 eight (refused number place) = padded-length 8 0 []
 eight (passed a) = padded-length 8 0 (a .responses)
 
-pub read-unfilled : (lent : List ℕ) (f : File) → length lent < wordsOfRead → lent ≡ filledWith (readWords (readAnswer f)) lent
+pub read-unfilled : (lent : List ℕ) (f : File) → length lent < wordsOfRead
+    → lent ≡ filledWith (readWords (readAnswer f)) lent
 unfolding readAnswer
 read-unfilled lent f short =
     no-room (readWords (readAnswer f)) lent (omega (arith, read-length (readAnswer f) (eight (accept f))))
@@ -45,10 +47,12 @@ walk-unfilled lent f allowance buffer short =
     (omega (arith, walk-length (walkAnswer f allowance buffer) (sized .eight) (sized .each)))
 
 -- the order buffer, without room for the words and with it
-pub buffer-kept : (n : ℕ) (after before : List ℕ) → n < wordsOfWalk → before ≡ (if leb wordsOfWalk n then after else before)
+pub buffer-kept : (n : ℕ) (after before : List ℕ) → n < wordsOfWalk
+    → before ≡ (if leb wordsOfWalk n then after else before)
 unfolding if_then_else_
 buffer-kept n after before short = rw (lt-leb wordsOfWalk n short)
 
-pub buffer-walked : (n : ℕ) (after before : List ℕ) → wordsOfWalk ≤ n → after ≡ (if leb wordsOfWalk n then after else before)
+pub buffer-walked : (n : ℕ) (after before : List ℕ) → wordsOfWalk ≤ n
+    → after ≡ (if leb wordsOfWalk n then after else before)
 unfolding if_then_else_
 buffer-walked n after before room = rw (le-leb wordsOfWalk n room)

@@ -8,13 +8,14 @@ use Rattle.notation.specs.Checked.{Checked, refused, passed}
 use Rattle.machine.specs.Ends.{Flags, End, noFlags, noStore}
 use Rattle.machine.specs.Instructions.{Store}
 use Rattle.samples.specs.Opened.{opened}
-use Rattle.samples.specs.Samples.{nestTable, nest, pairTable, pair, idleTable, idle, twoSet, firstFailed}
+use Rattle.samples.specs.Samples.{nest, pair, idle, samplesOpened, twoSet, firstFailed}
 use Rattle.order.specs.Laws.Opened.{ordersOpened}
 use Rattle.order.specs.Replay.{replay}
 
 -- ---- what the examples say, in short words
 
--- of the table `nest`: job 0 acquires and releases its lock; job 1 starts, and in it job 2, which picks 2; both end, then job 0
+-- of the table `nest`: job 0 acquires and releases its lock; job 1 starts, and in it job 2, which picks 2; both end,
+-- then job 0
 abbrev nested : List ℕ
 nested = 0 ∷ 0 ∷ 16 ∷ 34 ∷ 32 ∷ 32 ∷ 16 ∷ 16 ∷ 0 ∷ 0 ∷ 0 ∷ []
 
@@ -26,7 +27,8 @@ endsWith store failed = passed (record { store = store; failed = failed })
 pub record OrderExamples : Type 0 where
   pub complete : replay nest nested ≡ endsWith (twoSet 1 2) noFlags
   -- job 2 starts while job 0 holds a lock whose ceiling is below job 2's base; job 0 then fails its assertion
-  pub completeUnderLock : replay nest (0 ∷ 34 ∷ 32 ∷ 32 ∷ 0 ∷ 0 ∷ 0 ∷ 0 ∷ 16 ∷ 16 ∷ 16 ∷ []) ≡ endsWith (twoSet 1 2) firstFailed
+  pub completeUnderLock : replay nest (0 ∷ 34 ∷ 32 ∷ 32 ∷ 0 ∷ 0 ∷ 0 ∷ 0 ∷ 16 ∷ 16 ∷ 16 ∷ [])
+      ≡ endsWith (twoSet 1 2) firstFailed
   -- job 1 comes before job 0
   pub completeBefore : replay pair (16 ∷ 0 ∷ []) ≡ endsWith noStore noFlags
   pub completeIdle : replay idle [] ≡ endsWith (twoSet 5 0) noFlags
@@ -50,7 +52,7 @@ pub record OrderExamples : Type 0 where
   pub extraIdle : replay idle (255 ∷ []) ≡ refused 32 0
 
 pub order-examples : OrderExamples
-unfolding opened ordersOpened nestTable nest pairTable pair idleTable idle
+unfolding opened samplesOpened ordersOpened
 order-examples =
     record {
       complete = refl;

@@ -2,14 +2,14 @@
 -- Assumes nothing.
 use mathlib.Core.Path.{_≡_, refl}
 use Prim.Native.Nat.{ℕ}
-use mathlib.Core.List.{List, [], _∷_, _++_, map}
+use mathlib.Core.List.{List, [], _∷_, _++_}
 use lib.ListN.{take}
 use Rattle.notation.specs.Checked.{Checked, refused, passed}
 use Rattle.notation.specs.Lists.{each}
 use Rattle.machine.specs.Ends.{Flags, End, noFlags, noStore}
 use Rattle.machine.specs.Instructions.{Store}
 use Rattle.samples.specs.Opened.{opened}
-use Rattle.samples.specs.Samples.{nestTable, nest, pairTable, pair, idleTable, idle, twoSet, firstFailed}
+use Rattle.samples.specs.Samples.{nest, pair, idle, samplesOpened, twoSet, firstFailed}
 use Rattle.plan.specs.Laws.Opened.{plansOpened}
 use Rattle.plan.specs.Plans.{checkPlan}
 use Rattle.plan.specs.Runs.{Plan}
@@ -98,7 +98,7 @@ pub record PlanExamples : Type 0 where
   pub guessLast : checkPlan nest (nestedWith (noStore ∷ twoSet 0 2 ∷ twoSet 0 2 ∷ []) 2) ≡ refused 45 2
 
 pub plan-examples : PlanExamples
-unfolding opened plansOpened nestTable nest pairTable pair idleTable idle
+unfolding opened samplesOpened plansOpened
 plan-examples =
     record {
       legal = refl;

@@ -1,6 +1,6 @@
--- The answers of a replay and of a walk have eight variables and 32 flags, whatever the file: no step changes how many there
--- are, and a complete order is a run of steps from the table's own eight. So it is known, before any file is read, how many
--- words the answer takes.
+-- The answers of a replay and of a walk have eight variables and 32 flags, whatever the file: no step changes how
+-- many there are, and a complete order is a run of steps from the table's own eight. So it is known, before any file
+-- is read, how many words the answer takes.
 -- Assumes nothing.
 use mathlib.Core.Path.{_≡_, refl, sym, ap, subst, _∙_}
 use Prim.Native.Nat.{ℕ, zero, suc, _%_, _<_}
@@ -21,7 +21,8 @@ use Rattle.timing.specs.Code.IsAccepted.{IsAccepted}
 use Rattle.machine.specs.declared.Local.{Local}
 use Rattle.machine.specs.Ends.{Flags, End, noFlags, noStore}
 use Rattle.machine.specs.Buffers.{orderRoom, runAnswer, unwritten}
-use Rattle.machine.specs.Instructions.{Store, perform, operations, end, load, store, setNumber, add, subtract, skipLess, skipEqual, pick, acquireLock, releaseLock, assert, register}
+use Rattle.machine.specs.Instructions.{Store, perform, operations, register, end, load, store, setNumber, add}
+use Rattle.machine.specs.Instructions.{subtract, skipLess, skipEqual, pick, acquireLock, releaseLock, assert}
 use Rattle.order.specs.Orders.{Turn, nextOf, performed, step, run, endOf}
 use Rattle.order.specs.Replay.{replay, replayed, replayAnswer}
 use Rattle.order.specs.States.{State, initial}
@@ -39,7 +40,8 @@ pub record Sized (variables : Store) (failed : Flags) : Type 0 where
 -- ---- the steps of an order
 
 -- each operation by its number; a number above 11 is taken as End
-operation-keeps : (o : ℕ) (i : Instruction) (v : ℕ) (l : Local) (s : Store) → length (getD operations o end i v l s .store) ≡ length s
+operation-keeps : (o : ℕ) (i : Instruction) (v : ℕ) (l : Local) (s : Store)
+    → length (getD operations o end i v l s .store) ≡ length s
 unfolding operations end load store setNumber add subtract skipLess skipEqual pick acquireLock releaseLock assert
 operation-keeps zero i v l s = refl
 operation-keeps (suc zero) i v l s = refl
@@ -67,8 +69,8 @@ performed-sized a s v turn sized = record {
   each = flag-length _ (turn .frame .job .0) (s .failed) ∙ sized .each;
 }
 
-run-sized : (a : Accepted) (bytes : List ℕ) (s after : State) → run a s bytes ≡ some after → Sized (s .store) (s .failed)
-    → Sized (after .store) (after .failed)
+run-sized : (a : Accepted) (bytes : List ℕ) (s after : State) → run a s bytes ≡ some after
+    → Sized (s .store) (s .failed) → Sized (after .store) (after .failed)
 unfolding run bind
 run-sized a [] s after e sized =
     let same : s ≡ after = cc in
@@ -76,12 +78,15 @@ run-sized a [] s after e sized =
 run-sized a (byte ∷ bytes) s after e sized = go (step a s byte) refl e (λ next h. run-sized a bytes next after h)
   where
     go : (o : Option State) → step a s byte ≡ o → bind o (λ next. run a next bytes) ≡ some after
-        → ((next : State) → run a next bytes ≡ some after → Sized (next .store) (next .failed) → Sized (after .store) (after .failed))
+        → ((next : State) → run a next bytes ≡ some after → Sized (next .store) (next .failed)
+        → Sized (after .store) (after .failed))
         → Sized (after .store) (after .failed)
     go none one h later = absurd (let z : _≡_ {A = ℕ} 0 1 = cc in omega arith)
     go (some next) one h later =
         let made = step-says a s byte one in
-        later next h (subst (λ (t : State). Sized (t .store) (t .failed)) (made .made) (performed-sized a s (byte % 16) (made .turn) sized))
+        later next h
+        (subst (λ (t : State). Sized (t .store) (t .failed)) (made .made)
+        (performed-sized a s (byte % 16) (made .turn) sized))
 
 initial-sized : {a : Accepted} → IsAccepted a → Sized (initial a .store) (initial a .failed)
 unfolding initial noFlags
@@ -93,7 +98,8 @@ zeros-sized : Sized noStore noFlags
 unfolding noStore noFlags
 zeros-sized = record { eight = refl; each = refl }
 
-end-sized : {a : Accepted} → IsAccepted a → (order : List ℕ) (e : End) → replay a order ≡ passed e → Sized (e .store) (e .failed)
+end-sized : {a : Accepted} → IsAccepted a → (order : List ℕ) (e : End) → replay a order ≡ passed e
+    → Sized (e .store) (e .failed)
 unfolding endOf
 end-sized {a} ok order e h =
     let whole = replay-complete ok order h in
@@ -117,19 +123,22 @@ replay-sized f order =
 -- ---- the walk
 
 -- the failing order is complete, and so a run of steps from the initial state
-failing-sized : {a : Accepted} → IsAccepted a → (f : Found) → walk a .failing ≡ some f → Sized (f .ending .store) (f .ending .failed)
+failing-sized : {a : Accepted} → IsAccepted a → (f : Found) → walk a .failing ≡ some f
+    → Sized (f .ending .store) (f .ending .failed)
 unfolding endOf
 failing-sized {a} ok f e =
     let theorem = demand2 ok in
     let found = first-at (λ g. fails (g .ending)) (orders a) f (sym (theorem .first) ∙ e) in
-    let member = subst (λ (g : Found). List·Memᴰ g (orders a)) (found .2) (getD-member (orders a) (found .0) f (found .1)) in
+    let at = getD-member (orders a) (found .0) f (found .1) in
+    let member = subst (λ (g : Found). List·Memᴰ g (orders a)) (found .2) at in
     let complete = theorem .complete f member in
     subst (λ (end : End). Sized (end .store) (end .failed)) (sym (complete .2))
     (run-sized a (f .bytes) (initial a) (complete .0) (complete .1 .allowed) (initial-sized ok))
 
 -- ---- the walk's answer
 
-verdict-sized : (count : ℕ) (o : Option Found) → ((f : Found) → o ≡ some f → Sized (f .ending .store) (f .ending .failed))
+verdict-sized : (count : ℕ) (o : Option Found)
+    → ((f : Found) → o ≡ some f → Sized (f .ending .store) (f .ending .failed))
     → Sized (verdictOf count o .store) (verdictOf count o .failed)
 unfolding verdictOf
 verdict-sized count none each = zeros-sized
@@ -140,26 +149,31 @@ decided-sized : {a : Accepted} → IsAccepted a → (c : Checked ℕ Walked) →
 unfolding decidedAnswer refusal
 decided-sized ok (refused number place) same = zeros-sized
 decided-sized {a} ok (passed w) same =
-    verdict-sized (w .count) (w .failing) (λ f e. failing-sized ok f (ap (λ (x : Walked). x .failing) (same w refl) ∙ e))
+    verdict-sized (w .count) (w .failing)
+    (λ f e. failing-sized ok f (ap (λ (x : Walked). x .failing) (same w refl) ∙ e))
 
 -- what is decided is what was walked
 decided-same : (allowance : ℕ) (walked w : Walked) → decided allowance walked ≡ passed w → walked ≡ w
 unfolding decided
-decided-same allowance walked w e = passed-same (then-passed (require (leb (walked .count) allowance) 21 0) (passed walked) e .2)
+decided-same allowance walked w e =
+    passed-same (then-passed (require (leb (walked .count) allowance) 21 0) (passed walked) e .2)
 
 -- a table to walk is an accepted one
 admitted-accepted : (f : File) (buffer : List ℕ) {a : Accepted} → admitted f buffer ≡ passed a → IsAccepted a
 unfolding admitted
 admitted-accepted f buffer {a} e =
     let parts = bind-passed (accept f) _ e in
-    subst IsAccepted (passed-same (then-passed (require (leb orderRoom (length buffer)) 20 0) (passed (parts .0)) (parts .2) .2)) (accepted f (parts .1))
+    let roomy = then-passed (require (leb orderRoom (length buffer)) 20 0) (passed (parts .0)) (parts .2) in
+    subst IsAccepted (passed-same (roomy .2)) (accepted f (parts .1))
 
 answer-sized : (allowance : ℕ) (c : Checked ℕ Accepted) → ((a : Accepted) → c ≡ passed a → IsAccepted a)
     → Sized (walkAnswerOf allowance c .store) (walkAnswerOf allowance c .failed)
 unfolding walkAnswerOf refusal
 answer-sized allowance (refused number place) ok = zeros-sized
-answer-sized allowance (passed a) ok = decided-sized (ok a refl) (decided allowance (walk a)) (λ w e. decided-same allowance (walk a) w e)
+answer-sized allowance (passed a) ok =
+    decided-sized (ok a refl) (decided allowance (walk a)) (λ w e. decided-same allowance (walk a) w e)
 
-pub walk-sized : (f : File) (allowance : ℕ) (buffer : List ℕ) → Sized (walkAnswer f allowance buffer .store) (walkAnswer f allowance buffer .failed)
+pub walk-sized : (f : File) (allowance : ℕ) (buffer : List ℕ)
+    → Sized (walkAnswer f allowance buffer .store) (walkAnswer f allowance buffer .failed)
 unfolding walkAnswer
 walk-sized f allowance buffer = answer-sized allowance (admitted f buffer) (λ a e. admitted-accepted f buffer e)

@@ -1,12 +1,13 @@
--- `words::put_read` meets its contract. The loop's invariant: the first k of the reader's words are stored. The measure is the
--- number of words left.
+-- `words::put_read` meets its contract. The loop's invariant: the first k of the reader's words are stored. The
+-- measure is the number of words left.
 -- Assumes nothing.
 use mathlib.Core.Path.{_≡_, sym, _∙_}
 use Prim.Native.Nat.{_-_}
 use native.Mathlib.Omega.{arith}
 use lib.ListN.{length, length-map}
 use Rattle.words.specs.Words.{wordsOfRead, readWords}
-use Rattle.words.specs.Laws.WordsLaws.{StoredTo, stored-none, stored-length, stored-more, stored-all, read-length}
+use Rattle.words.specs.Laws.WordsLaws.{StoredTo, stored-none, stored-length, stored-more, stored-all}
+use Rattle.words.specs.Laws.WordsLaws.{read-length}
 use Rattle.words.proofs.put_read.Statement.{statement}
 use Rattle.words.proofs.put_read.Tie as tie
 
@@ -30,7 +31,9 @@ mul-answer : tie.Need-mul-answer Inv-loop μ-loop
 mul-answer c = omega arith
 
 slice-write-answer : tie.Need-slice-write-answer Inv-loop μ-loop
-slice-write-answer c = omega (arith, stored-length (c .before .before .loop .inv), c .before .before .before .before .pre)
+slice-write-answer c =
+    let at-loop = c .before .before in
+    omega (arith, stored-length (at-loop .loop .inv), at-loop .before .before .pre)
 
 add-k : tie.Need-add-k Inv-loop μ-loop
 add-k c = omega arith
@@ -39,7 +42,9 @@ loop-less : tie.Need-loop-less Inv-loop μ-loop
 loop-less c = omega arith
 
 loop-again : tie.Need-loop-again Inv-loop μ-loop
-loop-again c = stored-more (c .before .before .loop .inv) (omega (arith, total (c .before .before .before .before))) (c .read-word .ensures)
+loop-again c =
+    let at-loop = c .before .before in
+    stored-more (at-loop .loop .inv) (omega (arith, total (at-loop .before .before))) (c .read-word .ensures)
 
 same-length : tie.Need-same-length Inv-loop μ-loop
 same-length c = stored-length (c .before .loop .inv)

@@ -1,5 +1,5 @@
--- `words::put_run` meets its contract. The loop's invariant: the first k of the run's words are stored. The measure is the
--- number of words left.
+-- `words::put_run` meets its contract. The loop's invariant: the first k of the run's words are stored. The measure
+-- is the number of words left.
 -- Assumes nothing.
 use mathlib.Core.Path.{_≡_, sym, _∙_}
 use Prim.Native.Nat.{_-_}
@@ -32,7 +32,9 @@ mul-answer : tie.Need-mul-answer Inv-loop μ-loop
 mul-answer c = omega arith
 
 slice-write-answer : tie.Need-slice-write-answer Inv-loop μ-loop
-slice-write-answer c = omega (arith, stored-length (c .before .before .loop .inv), c .before .before .before .before .pre)
+slice-write-answer c =
+    let at-loop = c .before .before in
+    omega (arith, stored-length (at-loop .loop .inv), at-loop .before .before .pre)
 
 add-k : tie.Need-add-k Inv-loop μ-loop
 add-k c = omega arith
@@ -41,7 +43,9 @@ loop-less : tie.Need-loop-less Inv-loop μ-loop
 loop-less c = omega arith
 
 loop-again : tie.Need-loop-again Inv-loop μ-loop
-loop-again c = stored-more (c .before .before .loop .inv) (omega (arith, total (c .before .before .before .before))) (c .run-word .ensures)
+loop-again c =
+    let at-loop = c .before .before in
+    stored-more (at-loop .loop .inv) (omega (arith, total (at-loop .before .before))) (c .run-word .ensures)
 
 same-length : tie.Need-same-length Inv-loop μ-loop
 same-length c = stored-length (c .before .loop .inv)

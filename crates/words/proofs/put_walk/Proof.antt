@@ -34,9 +34,11 @@ same-length c = search needs
 
 returns : tie.Need-returns
 returns c =
-    let start = c .before .before .before .before .before .before .before in
+    let put = c .before .before .before in
+    let part = put .before .before in
+    let start = part .before .before in
     walk-stored (start .args .x) (variables start) (flags start) (start .args .answer .now) (start .pre)
-    (c .before .before .before .before .before .run-part .ensures) (c .before .before .before .put-run .ensures) (c .verdict-word .ensures)
+    (part .run-part .ensures) (put .put-run .ensures) (c .verdict-word .ensures)
 
 pub put-walk-spec : {M : Type 1} → statement M
 put-walk-spec =

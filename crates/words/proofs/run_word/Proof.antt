@@ -44,7 +44,8 @@ returns-3 : tie.Need-returns-3
 returns-3 c =
     let start = c .before .before .before .before .before in
     c .byte-word .ensures
-    ∙ store-word (start .args .t1) (variables start) (flags start) (start .args .k) (start .args .k - 2) (omega arith) (omega arith)
+    ∙ store-word (start .args .t1) (variables start) (flags start) (start .args .k) (start .args .k - 2)
+    (omega arith) (omega arith)
 
 element-copy-out-flag-word : tie.Need-element-copy-out-flag-word
 element-copy-out-flag-word c = search needs
@@ -56,7 +57,8 @@ returns-4 : tie.Need-returns-4
 returns-4 c =
     let start = c .before .before .before .before .before .before in
     c .flag-word .ensures
-    ∙ failed-word (start .args .t1) (variables start) (flags start) (start .args .k) (start .args .k - 10) (omega arith) (omega arith)
+    ∙ failed-word (start .args .t1) (variables start) (flags start) (start .args .k) (start .args .k - 10)
+    (omega arith) (omega arith)
 
 cast-result-3 : tie.Need-cast-result-3
 cast-result-3 c = search needs
@@ -64,7 +66,8 @@ cast-result-3 c = search needs
 returns-5 : tie.Need-returns-5
 returns-5 c =
     let start = c .before .before .before .before in
-    length-word (start .args .t1) (variables start) (flags start) (start .args .k) (omega (arith, start .pre, c .if4 .left))
+    length-word (start .args .t1) (variables start) (flags start) (start .args .k)
+    (omega (arith, start .pre, c .if4 .left))
 
 pub run-word-spec : {M : Type 1} → statement M
 run-word-spec =

@@ -1,4 +1,5 @@
--- Laws of the words: how many an answer has, which word stands where, and what a loop that stores them one by one leaves.
+-- Laws of the words: how many an answer has, which word stands where, and what a loop that stores them one by one
+-- leaves.
 -- Assumes nothing.
 use mathlib.Core.Path.{_≡_, sym, ap, _∙_}
 use Prim.Native.Nat.{ℕ, suc, _+_, _≤_, _<_}
@@ -90,14 +91,17 @@ module _ (a : ReadAnswer) (times : length (a .responses) ≡ 8) where
 module _ (a : RunAnswer) (variables : length (a .store) ≡ 8) (jobs : length (a .failed) ≡ 32) where
   -- the store and the flags
   both-length : length (a .store ++ map flag (a .failed)) ≡ 40
-  both-length = omega (arith, variables, jobs, map-length flag (a .failed), length-append (a .store) (map flag (a .failed)))
+  both-length =
+      let flags : List ℕ = map flag (a .failed) in
+      omega (arith, variables, jobs, map-length flag (a .failed), length-append (a .store) flags)
 
   pub run-length : length (runWords a) ≡ wordsOfRun
   unfolding runWords
   run-length = omega (arith, both-length, length-append (a .store ++ map flag (a .failed)) (a .length ∷ []))
 
   -- the store and the flags stand after the first two words
-  both-word : (k j : ℕ) → k ≡ suc (suc j) → j < 40 → getD (a .store ++ map flag (a .failed)) j 0 ≡ getD (runWords a) k 0
+  both-word : (k j : ℕ) → k ≡ suc (suc j) → j < 40
+      → getD (a .store ++ map flag (a .failed)) j 0 ≡ getD (runWords a) k 0
   unfolding runWords
   both-word k j is lt =
       sym (List·getD-append (a .store ++ map flag (a .failed)) (a .length ∷ []) 0 j (omega (arith, both-length)))
@@ -105,7 +109,8 @@ module _ (a : RunAnswer) (variables : length (a .store) ≡ 8) (jobs : length (a
 
   pub store-word : (k j : ℕ) → k ≡ suc (suc j) → j < 8 → getD (a .store) j 0 ≡ getD (runWords a) k 0
   store-word k j is lt =
-      sym (List·getD-append (a .store) (map flag (a .failed)) 0 j (omega (arith, variables))) ∙ both-word k j is (omega arith)
+      sym (List·getD-append (a .store) (map flag (a .failed)) 0 j (omega (arith, variables)))
+      ∙ both-word k j is (omega arith)
 
   pub failed-word : (k i : ℕ) → k ≡ 10 + i → i < 32 → flag (getD (a .failed) i false) ≡ getD (runWords a) k 0
   failed-word k i is lt =
