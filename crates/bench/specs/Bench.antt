@@ -1,5 +1,5 @@
--- The bench cases. Document 01, "Bench cases": "P1 to P13 form one table, and one theorem shows that the definitions meet every
--- row". `BenchCases` is the table, a field for each row; `bench` is the theorem.
+-- The bench cases. Document 01, "Bench cases": "P1 to P13 form one table, and one theorem shows that the definitions
+-- meet every row". `BenchCases` is the table, a field for each row; `bench` is the theorem.
 -- Assumes nothing.
 use mathlib.Core.Path.{_≡_, refl}
 use Prim.Native.Nat.{ℕ}
@@ -73,10 +73,12 @@ failedX = true ∷ replicate 31 false
 abbrev pub orderX : List ℕ
 orderX = 0 ∷ 16 ∷ 16 ∷ 16 ∷ 0 ∷ 0 ∷ 0 ∷ 0 ∷ []
 
--- "plan of 33 bytes: 2; eight 0; 1 and seven 0; job 0 rounds 0 1 1 1 1; job 1 rounds 0 0 0; values 0", where the rounds of job 1 are r
+-- "plan of 33 bytes: 2; eight 0; 1 and seven 0; job 0 rounds 0 1 1 1 1; job 1 rounds 0 0 0; values 0", where the
+-- rounds of job 1 are r
 abbrev pub planX : ℕ → List ℕ
 planX r =
-    2 ∷ replicate 8 0 ++ (1 ∷ replicate 7 0) ++ (0 ∷ 0 ∷ 1 ∷ 0 ∷ 1 ∷ 0 ∷ 1 ∷ 0 ∷ 1 ∷ 0 ∷ []) ++ (r ∷ 0 ∷ r ∷ 0 ∷ r ∷ 0 ∷ [])
+    2 ∷ replicate 8 0 ++ (1 ∷ replicate 7 0) ++ (0 ∷ 0 ∷ 1 ∷ 0 ∷ 1 ∷ 0 ∷ 1 ∷ 0 ∷ 1 ∷ 0 ∷ [])
+    ++ (r ∷ 0 ∷ r ∷ 0 ∷ r ∷ 0 ∷ [])
 
 -- "one task, A 5, W 5"
 abbrev pub noJobs : File
@@ -94,7 +96,8 @@ pub record BenchCases : Type 0 where
   -- "3,000,000,000/4,000,000,000 and 1,500,000,000/3,000,000,000: 10"
   pub P4 : readAnswer (twoTasks 8 3_000_000_000 4_000_000_000 0 1_500_000_000 3_000_000_000 0) ≡ readRefused 10 1
   -- "one task 1/1, A 0: W 32 gives 32 jobs, W 33 gives 11."
-  pub P5 : (readAnswer (oneTask 32 1 1 0) ≡ readsAs (1 ∷ replicate 7 0) 32) × (readAnswer (oneTask 33 1 1 0) ≡ readRefused 11 0)
+  pub P5 : (readAnswer (oneTask 32 1 1 0) ≡ readsAs (1 ∷ replicate 7 0) 32)
+      × (readAnswer (oneTask 33 1 1 0) ≡ readRefused 11 0)
   -- "P1 with A 0 and 1, W 8: job 1 may preempt job 0; jobs 0 and 1 come before job 2."
   pub P6 : preempts (p1Table 8 1) 1 0 × comesBefore (p1Table 8 1) 0 2 × comesBefore (p1Table 8 1) 1 2
   -- "P1, W 4, job 0 at 0, task 1's A 0: its job comes before job 0; A 2: may preempt it; A 3: job 0 before it."
@@ -110,9 +113,12 @@ pub record BenchCases : Type 0 where
   -- "one task, A 5, W 5: no jobs, holds with count 0, empty order, plan the byte 0."
   pub P12 : (walkAnswer noJobs 0 (lent 512)
       ≡ record { number = 0; place = 0; verdict = Holds; count = 0; length = 0; store = noStore; failed = noFlags })
+      × (walkAfter noJobs 0 (lent 512) ≡ replicate 512 0)
+      × (replayAnswer noJobs [] ≡ endsAs noStore noFlags 0)
       × (orderToPlanAnswer noJobs [] (lent 1281) ≡ endsAs noStore noFlags 1)
       × (orderToPlanAfter noJobs [] (lent 1281) ≡ 0 ∷ replicate 1280 0)
       × (planToOrderAnswer noJobs (0 ∷ []) (lent 512) ≡ endsAs noStore noFlags 0)
+      × (planToOrderAfter noJobs (0 ∷ []) (lent 512) ≡ replicate 512 0)
   -- "X with allowance 23: fails; 22: 21."
   pub P13 : (walkAnswer tableX 23 (lent 512)
       ≡ record { number = 0; place = 0; verdict = Fails; count = 23; length = 8; store = storeX; failed = failedX })
@@ -122,7 +128,7 @@ pub record BenchCases : Type 0 where
 
 -- ---- the theorem
 
-bench : BenchCases
+pub bench : BenchCases
 unfolding opened responseOf ofTable
 bench =
     record {
@@ -137,6 +143,6 @@ bench =
       P9 = refl;
       P10 = refl;
       P11 = refl;
-      P12 = (refl, refl, refl, refl);
+      P12 = (refl, refl, refl, refl, refl, refl, refl);
       P13 = (refl, refl, refl, refl);
     }

@@ -33,8 +33,8 @@ unfoldable pub twoTasks : ℕ → ℕ → ℕ → ℕ → ℕ → ℕ → ℕ �
 twoTasks window c₀ p₀ a₀ c₁ p₁ a₁ =
     headerRecord 1 window ++ taskRecord 3 2 c₀ p₀ a₀ ++ endRecord ++ taskRecord 0 4 c₁ p₁ a₁ ++ endRecord
 
--- "Table X: W 5, store all 0; task 0 has C 2, P 8, A 0, body Load 0 0, Load 1 0, skip 1 if 0 equals 1, Assert 2, End; task 1 has
--- C 1, P 4, A 1, body Set 0 1, Store 0 0, End. No locks. 11 records in walk order."
+-- "Table X: W 5, store all 0; task 0 has C 2, P 8, A 0, body Load 0 0, Load 1 0, skip 1 if 0 equals 1, Assert 2, End;
+-- task 1 has C 1, P 4, A 1, body Set 0 1, Store 0 0, End. No locks. 11 records in walk order."
 unfoldable pub tableX : File
 tableX =
     headerRecord 1 5

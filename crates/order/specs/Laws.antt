@@ -1,4 +1,6 @@
 pub mod CompleteLaws
+pub mod Examples
 pub mod LengthLaws
+pub mod Opened
 pub mod ProgressLaws
 pub mod StepLaws

@@ -1,8 +1,8 @@
--- Which plans are legal, numbers 43 to 45. Document 01, "Round plans": "Start and end of a job are the rounds of its first and
--- last step. The plan is legal if none of 40 to 42 applies and: X before Y: end X < start Y. Y may preempt X: either end X <
--- start Y, or end Y < start X, or start X ≤ start Y and end Y < end X. In the third case X has no step in rounds start Y + 1
--- to end Y, and after X's steps up to round start Y its priority is below Y's base. Guess 0 is the initial store, and the
--- store left in round r is guess r + 1."
+-- Which plans are legal, numbers 43 to 45. Document 01, "Round plans": "Start and end of a job are the rounds of its
+-- first and last step. The plan is legal if none of 40 to 42 applies and: X before Y: end X < start Y. Y may preempt
+-- X: either end X < start Y, or end Y < start X, or start X ≤ start Y and end Y < end X. In the third case X has no
+-- step in rounds start Y + 1 to end Y, and after X's steps up to round start Y its priority is below Y's base. Guess
+-- 0 is the initial store, and the store left in round r is guess r + 1."
 -- Assumes nothing.
 use Prim.Native.Nat.{ℕ}
 use mathlib.Core.Bool.{Bool, not, _&&_, _||_}
@@ -90,8 +90,8 @@ dueStore a runs r = getD (a .table .store ∷ runs .running .stores) (r .0) noSt
 unfoldable pub guessFault : Accepted → Plan → JobRuns → Round → Bool
 guessFault a plan runs r = not (same (guess plan r) (dueStore a runs r))
 
--- "43 ORDER: a pair breaks the round rules, locks aside; the lower job number. 44 LOCK: the priority clause of a nested pair
--- fails; the lower job number. 45 GUESS: lowest round whose guess is wrong."
+-- "43 ORDER: a pair breaks the round rules, locks aside; the lower job number. 44 LOCK: the priority clause of a
+-- nested pair fails; the lower job number. 45 GUESS: lowest round whose guess is wrong."
 unfoldable pub legality : Accepted → Plan → JobRuns → Checked ℕ (Unit {0})
 legality a plan runs = do
   placedBy (λ p. p .lower .0) (noneOf 43 (orderFault a runs) (pairs a))

@@ -1,3 +1,4 @@
+pub mod Laws
 pub mod Legality
 pub mod Plans
 pub mod Runs

@@ -1,5 +1,6 @@
--- Legal plans and how they end, and the plan check's answer for every input. Document 01, "Round plans": "The end store is that
--- of the last round, or the initial store if k is 0. A plan ends with that store and the jobs its run noted as failed."
+-- Legal plans and how they end, and the plan check's answer for every input. Document 01, "Round plans": "The end
+-- store is that of the last round, or the initial store if k is 0. A plan ends with that store and the jobs its run
+-- noted as failed."
 -- Assumes nothing.
 use mathlib.Core.Path.{_≡_}
 use Prim.Native.Nat.{ℕ}

@@ -1,7 +1,7 @@
--- The run of a round plan, numbers 40 to 42. Document 01, "Round plans": "With k jobs there are k rounds; a round ends with a
--- job's End. Plan bytes: k; then k stores of 8 bytes, the guessed start of each round; then for each job in number order, for
--- each of its steps, two bytes: round, Pick value or 0. Jobs run whole, in number order, each step on its round's store,
--- which at first is that round's guess."
+-- The run of a round plan, numbers 40 to 42. Document 01, "Round plans": "With k jobs there are k rounds; a round
+-- ends with a job's End. Plan bytes: k; then k stores of 8 bytes, the guessed start of each round; then for each job
+-- in number order, for each of its steps, two bytes: round, Pick value or 0. Jobs run whole, in number order, each
+-- step on its round's store, which at first is that round's guess."
 -- Assumes nothing.
 use Prim.Native.Nat.{ℕ, zero, suc, _+_, _*_}
 use mathlib.Core.Bool.{Bool, true, false, _&&_}
@@ -73,13 +73,14 @@ pub record JobRun : Type 0 where
 abbrev pub roundAt : Plan → ℕ → Round
 roundAt plan offset = record { 0 = getD plan offset 0 }
 
--- One step's two bytes, checked in the order 40, 42, 41. "40 SHAPE: .. bytes run out"; "42 ROUND: at least k, or below the
--- job's previous step"; "41 VALUE: not a value its instruction allows".
+-- One step's two bytes, checked in the order 40, 42, 41. "40 SHAPE: .. bytes run out"; "42 ROUND: at least k, or
+-- below the job's previous step"; "41 VALUE: not a value its instruction allows".
 unfoldable pub stepBytes : Accepted → Plan → Job → Local → Round → ℕ → Checked ℕ (Unit {0})
 stepBytes a plan x local previous offset = do
   require (ltb (offset + 1) (length plan)) 40 (length plan)
   require (ltb (roundAt plan offset .0) (jobTotal a) && notLater previous (roundAt plan offset)) 42 offset
-  require (member (getD plan (offset + 1) 0) (values (instructionOf (a .table) (jobAt a x .task) (local .next)))) 41 (offset + 1)
+  require (member (getD plan (offset + 1) 0) (values (instructionOf (a .table) (jobAt a x .task) (local .next))))
+      41 (offset + 1)
 
 -- what the step does: its instruction, on the store of its round
 unfoldable pub stepEffect : Accepted → Plan → Job → Local → Running → Effect
@@ -103,8 +104,8 @@ runningAfter plan x running effect =
       failed = flagged (effect .failed) (x .0) (running .failed);
     }
 
--- A job runs whole: step after step until its End. A body has at most 16 instructions and skips go forward only, so 16 steps
--- are enough.
+-- A job runs whole: step after step until its End. A body has at most 16 instructions and skips go forward only, so
+-- 16 steps are enough.
 unfoldable pub runJob : Accepted → Plan → Job → ℕ → Local → Round → Running → Checked ℕ JobRun
 runJob a plan x zero local previous running = passed (record { steps = []; running = running })
 runJob a plan x (suc left) local previous running = do
@@ -134,8 +135,8 @@ unfoldable pub runStart : Accepted → Plan → Running
 runStart a plan =
     record { offset = 1 + 8 * jobTotal a; stores = map (guess plan) (roundNumbers a); failed = noFlags }
 
--- "40 SHAPE: first byte not k, bytes run out, or bytes left over; place is the offset of the first wrong, missing or extra
--- byte." "A plan checks 40 for the first byte and guesses, then per step 40, 42, 41, then leftover 40"
+-- "40 SHAPE: first byte not k, bytes run out, or bytes left over; place is the offset of the first wrong, missing or
+-- extra byte." "A plan checks 40 for the first byte and guesses, then per step 40, 42, 41, then leftover 40"
 unfoldable pub runPlan : Accepted → Plan → Checked ℕ JobRuns
 runPlan a plan = do
   require (ltb 0 (length plan) && eqb (getD plan 0 0) (jobTotal a)) 40 0

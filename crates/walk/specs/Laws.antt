@@ -1,9 +1,12 @@
 pub mod ByteLaws
 pub mod CaseLaws
+pub mod Examples
 pub mod FailingLaws
 pub mod ListedLaws
 pub mod MoveCountLaws
 pub mod MoveLaws
+pub mod Opened
 pub mod PathLaws
 pub mod ShownLaws
+pub mod SizeLaws
 pub mod WalkLaws

@@ -1,11 +1,17 @@
--- `adqurim::adqurim_replay` meets its contract: the words are those of the replay's answer.
+-- `adqurim::adqurim_replay` meets its contract: without room nothing is called, else the words are those of the
+-- replay's answer.
 -- Assumes nothing.
-use mathlib.Core.Path.{ap, _∙_}
+use mathlib.Core.Path.{sym, ap, _∙_}
 use borrow.Author.Needs.{needs}
+use borrow.Author.Tests.{le-leb, lt-leb}
 use Rattle.machine.specs.declared.RunAnswer.{RunAnswer}
-use Rattle.adqurim.specs.Words.{runWords, filledWith}
+use Rattle.words.specs.Words.{runWords, filledWith}
+use Rattle.adqurim.specs.Laws.EntryLaws.{replay-unfilled}
 use Rattle.adqurim.proofs.adqurim_replay.Statement.{statement}
 use Rattle.adqurim.proofs.adqurim_replay.Tie as tie
+
+returns : tie.Need-returns
+returns c = (sym (lt-leb _ _ (c .if1 .taken)), replay-unfilled _ _ _ (c .if1 .taken))
 
 replay-requires : tie.Need-replay-requires
 replay-requires c κs = search needs
@@ -16,11 +22,13 @@ put-run-requires c κs = search needs
 same-length : tie.Need-same-length
 same-length c = search needs
 
-returns : tie.Need-returns
-returns c =
-    let put = c .before .before .put-run .ensures in
-    let lent = c .before .before .before .before .before .before .before .before .args .answer .now in
-    (put .0, put .1 ∙ ap (λ (a : RunAnswer). filledWith (runWords a) lent) (c .before .before .before .before .replay .ensures))
+returns-2 : tie.Need-returns-2
+returns-2 c =
+    let lent = c .before .before .before .before .before .before .before .before .before .args .answer .now in
+    let called = c .before .before .before .before .replay .ensures in (
+      sym (le-leb _ _ (c .before .before .before .before .before .if1 .left)),
+      c .before .before .put-run .ensures ∙ ap (λ (a : RunAnswer). filledWith (runWords a) lent) called,
+    )
 
 pub adqurim-replay-spec : {M : Type 1} → statement M
-adqurim-replay-spec = tie.close (tie.spec replay-requires put-run-requires same-length returns)
+adqurim-replay-spec = tie.close (tie.spec returns replay-requires put-run-requires same-length returns-2)

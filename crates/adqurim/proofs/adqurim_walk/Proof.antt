@@ -1,12 +1,12 @@
--- `adqurim::adqurim_walk` meets its contract: without room nothing is called, else the words are those of the walk's answer and the buffer
--- is as the walk leaves it.
+-- `adqurim::adqurim_walk` meets its contract: without room nothing is called, else the words are those of the walk's
+-- answer and the buffer is as the walk leaves it.
 -- Assumes nothing.
 use mathlib.Core.Path.{sym, ap, _∙_}
 use borrow.Author.Needs.{needs}
-use borrow.Author.Tests.{lt-leb}
+use borrow.Author.Tests.{le-leb, lt-leb}
 use Rattle.walk.specs.declared.WalkAnswer.{WalkAnswer}
-use Rattle.adqurim.specs.Words.{walkWords, filledWith}
-use Rattle.adqurim.specs.Laws.WordsLaws.{walk-unfilled, buffer-kept, buffer-walked}
+use Rattle.words.specs.Words.{walkWords, filledWith}
+use Rattle.adqurim.specs.Laws.EntryLaws.{walk-unfilled, buffer-kept, buffer-walked}
 use Rattle.adqurim.proofs.adqurim_walk.Statement.{statement}
 use Rattle.adqurim.proofs.adqurim_walk.Tie as tie
 
@@ -29,11 +29,14 @@ same-length-2 c = search needs
 
 returns-2 : tie.Need-returns-2
 returns-2 c =
-    let room = c .before .before .before .before .before .before .before .before .if1 .left in
-    let walked = c .before .before .before .before .before .before .walk-file .ensures in
+    let called = c .before .before .before .before .before .before in
+    let room = called .before .before .if1 .left in
+    let walked = called .walk-file .ensures in
     let put = c .before .before .put-walk .ensures in
-    let lent = c .before .before .before .before .before .before .before .before .before .before .before .before .args .answer .now in
-    (put .0, (put .1 ∙ ap (λ (x : WalkAnswer). filledWith (walkWords x) lent) (walked .0), walked .1 ∙ buffer-walked _ _ _ room))
+    let lent = called .before .before .before .before .before .before .args .answer .now in (
+      sym (le-leb _ _ room),
+      (put ∙ ap (λ (x : WalkAnswer). filledWith (walkWords x) lent) (walked .0), walked .1 ∙ buffer-walked _ _ _ room),
+    )
 
 pub adqurim-walk-spec : {M : Type 1} → statement M
 adqurim-walk-spec =

@@ -20,7 +20,11 @@ abbrev p4File : File
 p4File = twoTasks 8 3_000_000_000 4_000_000_000 0 1_500_000_000 3_000_000_000 0
 
 abbrev p4Chains : Chains
-p4Chains = record { tasks = record { taskRecord = 1; body = 2 ∷ [] } ∷ record { taskRecord = 3; body = 4 ∷ [] } ∷ []; locks = [] }
+p4Chains =
+    record {
+      tasks = record { taskRecord = 1; body = 2 ∷ [] } ∷ record { taskRecord = 3; body = 4 ∷ [] } ∷ [];
+      locks = [];
+    }
 
 abbrev task0 : Task
 task0 = record { 0 = 0 }

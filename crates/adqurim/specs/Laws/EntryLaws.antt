@@ -1,0 +1,58 @@
+-- What the entries do without room: it is known, before any file is read, how many words an answer takes, so nothing
+-- changes.
+-- Assumes nothing.
+use mathlib.Core.Path.{_≡_}
+use Prim.Native.Nat.{ℕ, _≤_, _<_}
+use native.Mathlib.Omega.{arith}
+use mathlib.Core.List.{List, []}
+use lib.Dec.{leb}
+use lib.ListN.{length}
+use borrow.Author.Tests.{le-leb, lt-leb}
+use Rattle.notation.specs.Checked.{Checked, refused, passed}
+use Rattle.notation.specs.Lists.{if_then_else_}
+use Rattle.notation.specs.Laws.PaddedLaws.{padded-length}
+use Rattle.taskfile.specs.Records.{File}
+use Rattle.timing.specs.Accepted.{Accepted, accept}
+use Rattle.timing.specs.ReadEntries.{readAnswerOf, readAnswer}
+use Rattle.order.specs.Replay.{replayAnswer}
+use Rattle.walk.specs.WalkEntry.{walkAnswer}
+use Rattle.walk.specs.Laws.SizeLaws.{replay-sized, walk-sized}
+use Rattle.words.specs.Words.{wordsOfRead, wordsOfRun, wordsOfWalk, readWords, runWords, walkWords, filledWith}
+use Rattle.words.specs.Laws.WordsLaws.{no-room, read-length, run-length, walk-length}
+
+-- the reader answers eight response times
+eight : (c : Checked ℕ Accepted) → length (readAnswerOf c .responses) ≡ 8
+unfolding readAnswerOf
+eight (refused number place) = padded-length 8 0 []
+eight (passed a) = padded-length 8 0 (a .responses)
+
+pub read-unfilled : (lent : List ℕ) (f : File) → length lent < wordsOfRead
+    → lent ≡ filledWith (readWords (readAnswer f)) lent
+unfolding readAnswer
+read-unfilled lent f short =
+    no-room (readWords (readAnswer f)) lent (omega (arith, read-length (readAnswer f) (eight (accept f))))
+
+pub replay-unfilled : (lent : List ℕ) (f : File) (order : List ℕ) → length lent < wordsOfRun
+    → lent ≡ filledWith (runWords (replayAnswer f order)) lent
+replay-unfilled lent f order short =
+    let sized = replay-sized f order in
+    no-room (runWords (replayAnswer f order)) lent
+    (omega (arith, run-length (replayAnswer f order) (sized .eight) (sized .each)))
+
+pub walk-unfilled : (lent : List ℕ) (f : File) (allowance : ℕ) (buffer : List ℕ) → length lent < wordsOfWalk
+    → lent ≡ filledWith (walkWords (walkAnswer f allowance buffer)) lent
+walk-unfilled lent f allowance buffer short =
+    let sized = walk-sized f allowance buffer in
+    no-room (walkWords (walkAnswer f allowance buffer)) lent
+    (omega (arith, walk-length (walkAnswer f allowance buffer) (sized .eight) (sized .each)))
+
+-- the order buffer, without room for the words and with it
+pub buffer-kept : (n : ℕ) (after before : List ℕ) → n < wordsOfWalk
+    → before ≡ (if leb wordsOfWalk n then after else before)
+unfolding if_then_else_
+buffer-kept n after before short = rw (lt-leb wordsOfWalk n short)
+
+pub buffer-walked : (n : ℕ) (after before : List ℕ) → wordsOfWalk ≤ n
+    → after ≡ (if leb wordsOfWalk n then after else before)
+unfolding if_then_else_
+buffer-walked n after before room = rw (le-leb wordsOfWalk n room)

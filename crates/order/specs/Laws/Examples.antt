@@ -1,0 +1,73 @@
+-- Computed examples of orders: complete orders with their ends, and each of 30 to 32 with its place.
+-- Assumes nothing.
+use mathlib.Core.Path.{_≡_, refl}
+use Prim.Native.Nat.{ℕ}
+use mathlib.Core.List.{List, [], _∷_, _++_}
+use lib.ListN.{take}
+use Rattle.notation.specs.Checked.{Checked, refused, passed}
+use Rattle.machine.specs.Ends.{Flags, End, noFlags, noStore}
+use Rattle.machine.specs.Instructions.{Store}
+use Rattle.samples.specs.Laws.Opened.{opened}
+use Rattle.samples.specs.Laws.Samples.{nest, pair, idle, samplesOpened, twoSet, firstFailed}
+use Rattle.order.specs.Laws.Opened.{ordersOpened}
+use Rattle.order.specs.Replay.{replay}
+
+-- ---- what the examples say, in short words
+
+-- of the table `nest`: job 0 acquires and releases its lock; job 1 starts, and in it job 2, which picks 2; both end,
+-- then job 0
+abbrev nested : List ℕ
+nested = 0 ∷ 0 ∷ 16 ∷ 34 ∷ 32 ∷ 32 ∷ 16 ∷ 16 ∷ 0 ∷ 0 ∷ 0 ∷ []
+
+abbrev endsWith : Store → Flags → Checked ℕ End
+endsWith store failed = passed (record { store = store; failed = failed })
+
+-- ---- the examples
+
+pub record OrderExamples : Type 0 where
+  pub complete : replay nest nested ≡ endsWith (twoSet 1 2) noFlags
+  -- job 2 starts while job 0 holds a lock whose ceiling is below job 2's base; job 0 then fails its assertion
+  pub completeUnderLock : replay nest (0 ∷ 34 ∷ 32 ∷ 32 ∷ 0 ∷ 0 ∷ 0 ∷ 0 ∷ 16 ∷ 16 ∷ 16 ∷ [])
+      ≡ endsWith (twoSet 1 2) firstFailed
+  -- job 1 comes before job 0
+  pub completeBefore : replay pair (16 ∷ 0 ∷ []) ≡ endsWith noStore noFlags
+  pub completeIdle : replay idle [] ≡ endsWith (twoSet 5 0) noFlags
+  -- "30 STEP: not a legal step": job 0 has to wait for job 1
+  pub stepWaits : replay pair (0 ∷ 16 ∷ []) ≡ refused 30 0
+  -- job 1's base is the ceiling of the lock that job 0 holds
+  pub stepCeiling : replay nest (0 ∷ 16 ∷ []) ≡ refused 30 1
+  -- job 0 is active, and job 1 was started last
+  pub stepUnder : replay nest (0 ∷ 0 ∷ 16 ∷ 0 ∷ []) ≡ refused 30 3
+  -- the Pick offers 0 to 3, an Acquire 0 alone
+  pub stepPicked : replay nest (0 ∷ 0 ∷ 36 ∷ []) ≡ refused 30 2
+  pub stepValue : replay nest (1 ∷ []) ≡ refused 30 0
+  -- a job that has ended does not start again, and there is no task 3
+  pub stepEnded : replay nest (32 ∷ 32 ∷ 32 ∷ 32 ∷ []) ≡ refused 30 3
+  pub stepNone : replay nest (48 ∷ []) ≡ refused 30 0
+  -- "31 SHORT: bytes end with jobs unfinished; place is the length."
+  pub shortEmpty : replay nest [] ≡ refused 31 0
+  pub shortLast : replay nest (take 10 nested) ≡ refused 31 10
+  -- "32 EXTRA: bytes remain after all jobs ended", checked before 30
+  pub extra : replay nest (nested ++ (0 ∷ [])) ≡ refused 32 11
+  pub extraIdle : replay idle (255 ∷ []) ≡ refused 32 0
+
+pub order-examples : OrderExamples
+unfolding opened samplesOpened ordersOpened
+order-examples =
+    record {
+      complete = refl;
+      completeUnderLock = refl;
+      completeBefore = refl;
+      completeIdle = refl;
+      stepWaits = refl;
+      stepCeiling = refl;
+      stepUnder = refl;
+      stepPicked = refl;
+      stepValue = refl;
+      stepEnded = refl;
+      stepNone = refl;
+      shortEmpty = refl;
+      shortLast = refl;
+      extra = refl;
+      extraIdle = refl;
+    }

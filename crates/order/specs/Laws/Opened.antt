@@ -1,0 +1,13 @@
+-- One name for all definitions of orders, so that a proof by computing says `unfolding ordersOpened`.
+-- Assumes nothing.
+use mathlib.Core.Option.{bind}
+use Rattle.order.specs.Orders
+use Rattle.order.specs.Replay
+use Rattle.order.specs.States
+
+unfoldable pub ordersOpened : Unit {0}
+unfolding bind States.initial States.hasEnded States.isActive States.allEnded States.presentPriority
+    States.mayStart Orders.startOf Orders.turnAmong Orders.turnOf Orders.nextOf Orders.performed Orders.stepWith
+    Orders.step Orders.run Orders.endOf Replay.legal Replay.replayFrom Replay.replay Replay.replayed
+    Replay.replayAnswer
+ordersOpened = tt

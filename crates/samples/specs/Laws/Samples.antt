@@ -1,0 +1,112 @@
+-- Small tables that the computed examples of orders, walks and plans are about.
+-- Assumes nothing.
+use mathlib.Core.Path.{_≡_, refl}
+use Prim.Native.Nat.{ℕ}
+use mathlib.Core.Bool.{true, false}
+use mathlib.Core.List.{List, [], _∷_}
+use lib.ListN.{length, replicate}
+use Rattle.notation.specs.Checked.{passed}
+use Rattle.notation.specs.Lists.{padded}
+use Rattle.taskfile.specs.declared.Instruction.{Instruction}
+use Rattle.taskfile.specs.declared.Table.{Table}
+use Rattle.taskfile.specs.declared.TaskEntry.{TaskEntry}
+use Rattle.taskfile.specs.Chains.{mostInstructions, mostLocks, mostTasks}
+use Rattle.taskfile.specs.Tables.{endInstruction, noTask}
+use Rattle.timing.specs.declared.JobRecord.{JobRecord}
+use Rattle.timing.specs.Accepted.{Accepted, timed}
+use Rattle.timing.specs.Response.{responseOf}
+use Rattle.machine.specs.Ends.{Flags}
+use Rattle.machine.specs.Instructions.{Store}
+use Rattle.samples.specs.Laws.Opened.{opened}
+
+abbrev instruction : ℕ → ℕ → ℕ → ℕ → Instruction
+instruction operation a b c = record { operation = operation; a = a; b = b; c = c }
+
+-- a task: C, P, A and its body
+abbrev task : ℕ → ℕ → ℕ → List Instruction → TaskEntry
+task execution period arrival body =
+    record {
+      execution = execution;
+      period = period;
+      arrival = arrival;
+      length = length body;
+      body = padded mostInstructions endInstruction body;
+    }
+
+-- a table: its window, the first variable's initial value, its tasks and its locks' ceilings
+abbrev table : ℕ → ℕ → List TaskEntry → List ℕ → Table
+table window first tasks ceilings =
+    record {
+      window = window;
+      store = first ∷ replicate 7 0;
+      tasks = length tasks;
+      entries = padded mostTasks noTask tasks;
+      locks = length ceilings;
+      ceilings = padded mostLocks 0 ceilings;
+    }
+
+abbrev job : ℕ → ℕ → ℕ → JobRecord
+job i arrival latest = record { task = record { 0 = i }; arrival = arrival; latest = latest }
+
+-- a store of which the first two variables may be other than 0
+abbrev pub twoSet : ℕ → ℕ → Store
+twoSet x y = x ∷ y ∷ replicate 6 0
+
+-- job 0 alone failed
+abbrev pub firstFailed : Flags
+firstFailed = true ∷ replicate 31 false
+
+-- Three tasks with a job each: job 1 may preempt job 0, and job 2 both. Lock 0 has the ceiling 1.
+-- Job 0: Acquire 0, Release 0, Load 0 from variable 0, Assert 0, End. Job 1: Set 0 to 1, Store to variable 0, End.
+-- Job 2: Pick 0 of 0 to 3, Store to variable 1, End.
+unfoldable pub nestTable : Table
+nestTable =
+    table 3 0
+    (task 1 16 0
+    (instruction 9 0 0 0 ∷ instruction 10 0 0 0 ∷ instruction 1 0 0 0 ∷ instruction 11 0 0 0 ∷ endInstruction ∷ [])
+    ∷ task 1 16 1 (instruction 3 0 1 0 ∷ instruction 2 0 0 0 ∷ endInstruction ∷ [])
+    ∷ task 1 16 2 (instruction 8 0 3 0 ∷ instruction 2 1 0 0 ∷ endInstruction ∷ []) ∷ [])
+    (1 ∷ [])
+
+unfoldable pub nest : Accepted
+nest = record { table = nestTable; responses = 3 ∷ 2 ∷ 1 ∷ []; jobs = job 0 0 3 ∷ job 1 1 3 ∷ job 2 2 3 ∷ [] }
+
+-- Two tasks with a job each, both from time 0: job 1 comes before job 0. Each body is End.
+unfoldable pub pairTable : Table
+pairTable = table 1 0 (task 1 4 0 (endInstruction ∷ []) ∷ task 1 4 0 (endInstruction ∷ []) ∷ []) []
+
+unfoldable pub pair : Accepted
+pair = record { table = pairTable; responses = 2 ∷ 1 ∷ []; jobs = job 0 0 2 ∷ job 1 0 1 ∷ [] }
+
+-- One task with one job: Pick 0 of 0 to 2, skip 1 if register 0 equals register 1, Assert 1, End. It fails unless it
+-- picks 0.
+unfoldable pub pickTable : Table
+pickTable =
+    table 1 0
+    (task 1 1 0 (instruction 8 0 2 0 ∷ instruction 7 0 1 1 ∷ instruction 11 1 0 0 ∷ endInstruction ∷ []) ∷ []) []
+
+unfoldable pub pick : Accepted
+pick = record { table = pickTable; responses = 1 ∷ []; jobs = job 0 0 1 ∷ [] }
+
+-- One task that arrives when the window ends, so no job. Variable 0 is 5 at first.
+unfoldable pub idleTable : Table
+idleTable = table 5 5 (task 1 1 5 (endInstruction ∷ []) ∷ []) []
+
+unfoldable pub idle : Accepted
+idle = record { table = idleTable; responses = 1 ∷ []; jobs = [] }
+
+-- one name for all of them
+unfoldable pub samplesOpened : Unit {0}
+unfolding nestTable nest pairTable pair pickTable pick idleTable idle
+samplesOpened = tt
+
+-- these are the accepted tables that their tables' own times and jobs make
+pub record Timed : Type 0 where
+  pub nestTimed : timed nestTable ≡ passed nest
+  pub pairTimed : timed pairTable ≡ passed pair
+  pub pickTimed : timed pickTable ≡ passed pick
+  pub idleTimed : timed idleTable ≡ passed idle
+
+pub all-timed : Timed
+unfolding opened responseOf samplesOpened
+all-timed = record { nestTimed = refl; pairTimed = refl; pickTimed = refl; idleTimed = refl }

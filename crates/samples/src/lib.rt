@@ -1,0 +1,1 @@
+// Small tables for computed examples. The definitions are in specs/.

@@ -1,0 +1,62 @@
+-- Computed examples of the walk: the moves of a state in their order, and what a walk comes to.
+-- Assumes nothing.
+use mathlib.Core.Path.{_≡_, refl}
+use Prim.Native.Nat.{ℕ}
+use mathlib.Core.List.{List, [], _∷_, map}
+use mathlib.Core.Option.{Option, none, some}
+use Rattle.notation.specs.Checked.{refused, passed}
+use Rattle.timing.specs.Accepted.{Accepted}
+use Rattle.machine.specs.Ends.{End, noStore}
+use Rattle.samples.specs.Laws.Opened.{opened}
+use Rattle.samples.specs.Laws.Samples.{nest, pair, pick, idle, samplesOpened, firstFailed}
+use Rattle.order.specs.Laws.Opened.{ordersOpened}
+use Rattle.order.specs.Orders.{run}
+use Rattle.order.specs.States.{State, initial}
+use Rattle.walk.specs.Laws.Opened.{walksOpened}
+use Rattle.walk.specs.Moves.{Move, moves}
+use Rattle.walk.specs.WalkEntry.{decided}
+use Rattle.walk.specs.Walks.{walk}
+
+-- the bytes of the moves after these steps, if they are steps
+unfoldable pub movesAt : Accepted → Option State → List ℕ
+movesAt a none = []
+movesAt a (some s) = map (λ m. m .byte) (moves a s)
+
+abbrev movesAfter : Accepted → List ℕ → List ℕ
+movesAfter a bytes = movesAt a (run a (initial a) bytes)
+
+-- job 0 failed, and the store is all 0
+abbrev firstFails : End
+firstFails = record { store = noStore; failed = firstFailed }
+
+pub record WalkExamples : Type 0 where
+  -- "the running job's step, then each start by ascending task, and Pick values ascending"
+  pub firstMoves : movesAfter nest [] ≡ 0 ∷ 16 ∷ 32 ∷ 33 ∷ 34 ∷ 35 ∷ []
+  pub running : movesAfter nest (0 ∷ 0 ∷ 16 ∷ []) ≡ 16 ∷ 32 ∷ 33 ∷ 34 ∷ 35 ∷ []
+  -- job 0 holds a lock with the ceiling 1: job 1 may not start
+  pub held : movesAfter nest (0 ∷ []) ≡ 0 ∷ 32 ∷ 33 ∷ 34 ∷ 35 ∷ []
+  -- job 0 has to wait for job 1
+  pub waits : movesAfter pair [] ≡ 16 ∷ []
+  -- the order that picks 0 holds after three moves; that which picks 1 fails after four more, and 2 is not tried
+  pub failing : walk pick
+      ≡ record { failing = some (record { bytes = 1 ∷ 0 ∷ 0 ∷ 0 ∷ []; ending = firstFails }); count = 7 }
+  -- "21 UNDECIDED: the walk's count exceeds the allowance, and only then"
+  pub allowed : decided 7 (walk pick) ≡ passed (walk pick)
+  pub undecided : decided 6 (walk pick) ≡ refused 21 0
+  pub holding : walk pair ≡ record { failing = none; count = 2 }
+  pub idling : walk idle ≡ record { failing = none; count = 0 }
+
+pub walk-examples : WalkExamples
+unfolding opened samplesOpened ordersOpened walksOpened movesAt
+walk-examples =
+    record {
+      firstMoves = refl;
+      running = refl;
+      held = refl;
+      waits = refl;
+      failing = refl;
+      allowed = refl;
+      undecided = refl;
+      holding = refl;
+      idling = refl;
+    }
