@@ -22,7 +22,14 @@ noTask = record { execution = 0; period = 0; arrival = 0; length = 0; body = pad
 
 unfoldable pub emptyTable : Table
 emptyTable =
-    record { window = 0; store = replicate 8 0; tasks = 0; entries = replicate 8 noTask; locks = 0; ceilings = replicate 8 0 }
+    record {
+      window = 0;
+      store = replicate 8 0;
+      tasks = 0;
+      entries = replicate 8 noTask;
+      locks = 0;
+      ceilings = replicate 8 0;
+    }
 
 -- "Tasks and locks are numbered from 0 in chain order."
 unfoldable pub tasksOf : Table → List TaskEntry
@@ -48,7 +55,8 @@ entryAt f c =
       body = padded mostInstructions endInstruction (map (instructionAt f) (c .body));
     }
 
--- "Kind 1, header: .. 4-7 window W, 8-15 the initial values of shared variables 0 to 7. .. Kind 3, lock: byte 2 ceiling"
+-- "Kind 1, header: .. 4-7 window W, 8-15 the initial values of shared variables 0 to 7. .. Kind 3, lock: byte 2
+-- ceiling"
 unfoldable pub tableAt : File → Chains → Table
 tableAt f c =
     record {

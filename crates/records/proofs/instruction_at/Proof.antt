@@ -1,4 +1,4 @@
--- `instruction_at` meets its contract: each of its four bytes is the definition's.
+-- `records::instruction_at` meets its contract: each of its four bytes is the definition's.
 -- Assumes nothing.
 use borrow.Author.Needs.{needs}
 use Rattle.taskfile.specs.Records.{instructionAt}
@@ -19,7 +19,12 @@ byte-at-requires-4 c κs = search needs
 
 returns : tie.Need-returns
 unfolding instructionAt
-returns c = cc
+returns c = λ i. record {
+  operation = c .before .before .before .byte-at .ensures i;
+  a = c .before .before .byte-at2 .ensures i;
+  b = c .before .byte-at3 .ensures i;
+  c = c .byte-at4 .ensures i;
+}
 
 pub instruction-at-spec : {M : Type 1} → statement M
 instruction-at-spec =

@@ -43,7 +43,8 @@ linked-length f (suc k) zero = omega arith
 linked-length f (suc k) (suc i) = omega (arith, linked-length f k (next f (suc i)))
 
 -- record n of them is where n links lead
-pub linked-at : (f : File) (k index n d : ℕ) → n < length (linked f k index) → getD (linked f k index) n d ≡ linkAfter f index n
+pub linked-at : (f : File) (k index n d : ℕ) → n < length (linked f k index)
+    → getD (linked f k index) n d ≡ linkAfter f index n
 unfolding linked linkAfter
 linked-at f zero index n d h = absurd (not-suc-le-zero h)
 linked-at f (suc k) zero n d h = absurd (not-suc-le-zero h)

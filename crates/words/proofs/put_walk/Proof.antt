@@ -1,7 +1,8 @@
 -- `words::put_walk` meets its contract: the verdict and the count stand after the words of the run.
 -- Assumes nothing.
 use mathlib.Core.Path.{_≡_, sym, _∙_}
-use lib.ListN.{length, length-map}
+use native.Mathlib.Omega.{arith}
+use lib.ListN.{length, length-map, length-set}
 use borrow.Author.Needs.{needs}
 use Rattle.words.specs.Laws.WordsLaws.{walk-stored}
 use Rattle.words.proofs.put_walk.Statement.{statement}
@@ -27,7 +28,7 @@ slice-write-answer : tie.Need-slice-write-answer
 slice-write-answer c = search needs
 
 slice-write-answer-2 : tie.Need-slice-write-answer-2
-slice-write-answer-2 c = search needs
+slice-write-answer-2 c = simp length-set (omega arith)
 
 same-length : tie.Need-same-length
 same-length c = search needs
