@@ -1,2 +1,3 @@
+pub mod EntryLaws
 pub mod ReadLaws
 pub mod StepBytes

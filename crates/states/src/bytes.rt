@@ -1,6 +1,10 @@
 // The bytes of a state, read and written.
 use machine::Local;
 use order::Frame;
+use snapshots::FRAME;
+use snapshots::HELD;
+use snapshots::STACK;
+use snapshots::STATE;
 use timing::Job;
 ghost use mathlib.Core.Path.{_≡_};
 ghost use Prim.Native.Nat.{_+_, _*_, _≤_, _<_};
@@ -8,7 +12,7 @@ ghost use lib.ListN.{length};
 ghost use Rattle.states.specs.Code.StateBytes.{bytesAt, frameIn, Written, FrameWritten};
 
 // Eight bytes of a state.
-pub fn eight_at(s: &[u8; 192], at: usize) -> [u8; 8]
+pub fn eight_at(s: &[u8; STATE], at: usize) -> [u8; 8]
     requires { ⌜ at ≤ 184 ⌝ }
     ensures { λ r. ⌜ r ≡ bytesAt (now (s .entry)) at 8 ⌝ }
 {
@@ -32,14 +36,14 @@ pub fn number_of(low: u8, high: u8) -> u16
 }
 
 // The active job at position k.
-pub fn frame_at(s: &[u8; 192], k: u8) -> Frame
+pub fn frame_at(s: &[u8; STATE], k: u8) -> Frame
     requires { ⌜ k < 8 ⌝ }
     ensures { λ f. ⌜ f ≡ frameIn (now (s .entry)) k ⌝ }
 {
-    let at = 64 + 16 * (k as usize);
+    let at = STACK + FRAME * (k as usize);
     let next = number_of(s[at + 2], s[at + 3]);
     let registers = [s[at + 4], s[at + 5], s[at + 6], s[at + 7]];
-    let held = eight_at(s, at + 8);
+    let held = eight_at(s, at + HELD);
     Frame {
         job: Job(s[at]),
         local: Local {
@@ -51,7 +55,7 @@ pub fn frame_at(s: &[u8; 192], k: u8) -> Frame
 }
 
 // Replaces eight bytes of a state.
-pub fn put_eight(s: &mut [u8; 192], at: usize, new: [u8; 8])
+pub fn put_eight(s: &mut [u8; STATE], at: usize, new: [u8; 8])
     requires { ⌜ (length (now s) ≡ 192) × (at ≤ 184) ⌝ }
     ensures { λ _. ⌜ Written (now (s .entry)) (now (s .exit)) at new ⌝ }
 {
@@ -63,11 +67,11 @@ pub fn put_eight(s: &mut [u8; 192], at: usize, new: [u8; 8])
 }
 
 // Makes job x, with this state of its own, the active job at position k.
-pub fn put_frame(s: &mut [u8; 192], k: u8, x: Job, local: Local)
+pub fn put_frame(s: &mut [u8; STATE], k: u8, x: Job, local: Local)
     requires { ⌜ (length (now s) ≡ 192) × (k < 8) ⌝ }
     ensures { λ _. ⌜ FrameWritten (now (s .entry)) (now (s .exit)) k (record { job = x; local = local }) ⌝ }
 {
-    let at = 64 + 16 * (k as usize);
+    let at = STACK + FRAME * (k as usize);
     let registers = local.registers;
     let held = local.held;
     let own = [
@@ -81,5 +85,5 @@ pub fn put_frame(s: &mut [u8; 192], k: u8, x: Job, local: Local)
         registers[3],
     ];
     put_eight(s, at, own);
-    put_eight(s, at + 8, held);
+    put_eight(s, at + HELD, held);
 }

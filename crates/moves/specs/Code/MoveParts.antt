@@ -9,7 +9,7 @@ use lib.ListN.{getD}
 use Rattle.taskfile.specs.declared.Ceilings.{Ceilings}
 use Rattle.notation.specs.Lists.{if_then_else_}
 use Rattle.order.specs.declared.Frame.{Frame}
-use Rattle.snapshots.specs.declared.Snapshot.{Snapshot}
+use Rattle.snapshots.specs.Code.Snapshots.{Snapshot}
 use Rattle.snapshots.specs.Code.SnapshotSteps.{ownerIn, ownedBy, instructionIn, topOf, turnIn, stepIn}
 use Rattle.snapshots.specs.Code.StepParts.{offeredIn}
 use Rattle.moves.specs.declared.Candidate.{Candidate}

@@ -18,8 +18,7 @@ use Rattle.machine.specs.Instructions.{values}
 use Rattle.machine.specs.Laws.ValueLaws.{pick-offers, zero-offered}
 use Rattle.snapshots.specs.declared.Due.{Due}
 use Rattle.order.specs.declared.Frame.{Frame}
-use Rattle.snapshots.specs.declared.Snapshot.{Snapshot}
-use Rattle.snapshots.specs.declared.Stepped.{Stepped}
+use Rattle.snapshots.specs.Code.Snapshots.{Snapshot, Stepped}
 use Rattle.snapshots.specs.Code.SnapshotSteps.{instructionIn, turnIn, stepWithIn, stepIn}
 use Rattle.snapshots.specs.Laws.TurnLaws.{step-none, step-due}
 use Rattle.snapshots.specs.Code.StepParts.{offeredIn}

@@ -8,8 +8,7 @@ use lib.ListN.{length, getD}
 use borrow.Author.Tests.{not-true}
 use Rattle.taskfile.specs.declared.Ceilings.{Ceilings}
 use Rattle.notation.specs.Lists.{if_then_else_}
-use Rattle.snapshots.specs.declared.Snapshot.{Snapshot}
-use Rattle.snapshots.specs.declared.Stepped.{Stepped}
+use Rattle.snapshots.specs.Code.Snapshots.{Snapshot, Stepped}
 use Rattle.snapshots.specs.Laws.ReplayLoopLaws.{Reached, replay-refused, replay-goes}
 use Rattle.snapshots.specs.Code.SnapshotSteps.{stepWithIn, dueStep, stepIn, finishedIn, replayIn}
 

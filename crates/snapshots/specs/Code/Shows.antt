@@ -12,7 +12,7 @@ use Rattle.taskfile.specs.Tables.{tasksOf, taskOf, bodyOf, ceilingsOf}
 use Rattle.timing.specs.declared.Job.{Job}
 use Rattle.timing.specs.Accepted.{Accepted}
 use Rattle.timing.specs.Relations.{IsJob, jobAt, base}
-use Rattle.snapshots.specs.declared.Snapshot.{Snapshot}
+use Rattle.snapshots.specs.Code.Snapshots.{Snapshot}
 use Rattle.order.specs.Code.Invariant.{hasBegun}
 use Rattle.snapshots.specs.Code.SnapshotSteps.{ownerIn, instructionIn, arrivalIn, latestIn, stackOf}
 use Rattle.order.specs.States.{State}

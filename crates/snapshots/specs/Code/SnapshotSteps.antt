@@ -13,15 +13,12 @@ use Rattle.taskfile.specs.declared.Instruction.{Instruction}
 use Rattle.notation.specs.Lists.{if_then_else_, all, any, upTo, member}
 use Rattle.timing.specs.declared.Job.{Job}
 use Rattle.machine.specs.declared.Effect.{Effect}
-use Rattle.machine.specs.declared.Local.{Local}
 use Rattle.machine.specs.Ends.{flagged, noFlags}
 use Rattle.machine.specs.Held.{priority}
 use Rattle.machine.specs.Instructions.{Store, fresh, values, perform}
 use Rattle.snapshots.specs.declared.Due.{Due}
 use Rattle.order.specs.declared.Frame.{Frame}
-use Rattle.snapshots.specs.declared.Replayed.{Replayed}
-use Rattle.snapshots.specs.declared.Snapshot.{Snapshot}
-use Rattle.snapshots.specs.declared.Stepped.{Stepped}
+use Rattle.snapshots.specs.Code.Snapshots.{Snapshot, Stepped, ReplayEnd}
 
 -- ---- what the lent arrays say
 
@@ -169,7 +166,7 @@ unfoldable pub finishedIn : Program → Snapshot → Bool
 finishedIn program p = eqb (p .depth) 0 && not (any (hasUpcoming program (p .upcoming)) (upTo 8))
 
 -- the bytes from `index` on
-unfoldable pub replayIn : Program → Times → Ceilings → Snapshot → ℕ → List ℕ → Replayed
+unfoldable pub replayIn : Program → Times → Ceilings → Snapshot → ℕ → List ℕ → ReplayEnd
 replayIn program times locks p index [] =
     record { number = if finishedIn program p then 0 else 31; place = if finishedIn program p then 0 else index; state = p }
 replayIn program times locks p index (byte ∷ bytes) =

@@ -6,7 +6,7 @@ use lib.Dec.{ltb}
 use Rattle.notation.specs.Lists.{member}
 use Rattle.machine.specs.Instructions.{values, perform}
 use Rattle.order.specs.declared.Frame.{Frame}
-use Rattle.snapshots.specs.declared.Snapshot.{Snapshot}
+use Rattle.snapshots.specs.Code.Snapshots.{Snapshot}
 use Rattle.snapshots.specs.Code.SnapshotSteps.{Program, instructionIn, afterIn}
 
 -- is the value v on offer to the job in the frame, of task i?

@@ -27,8 +27,7 @@ use Rattle.machine.specs.Ends.{flagged}
 use Rattle.machine.specs.Instructions.{perform, values}
 use Rattle.snapshots.specs.declared.Due.{Due}
 use Rattle.order.specs.declared.Frame.{Frame}
-use Rattle.snapshots.specs.declared.Snapshot.{Snapshot}
-use Rattle.snapshots.specs.declared.Stepped.{Stepped}
+use Rattle.snapshots.specs.Code.Snapshots.{Snapshot, Stepped}
 use Rattle.order.specs.Code.Invariant.{Running, hasBegun, Invariant}
 use Rattle.timing.specs.Laws.JobFacts.{job-task, same-task}
 use Rattle.order.specs.Laws.LengthLaws.{body-short}

@@ -8,7 +8,7 @@ use borrow.Author.Tests.{ltb-true}
 use Rattle.notation.specs.Lists.{if_then_else_}
 use Rattle.notation.specs.Laws.TestLaws.{both}
 use Rattle.order.specs.declared.Frame.{Frame}
-use Rattle.snapshots.specs.declared.Snapshot.{Snapshot}
+use Rattle.snapshots.specs.Code.Snapshots.{Snapshot}
 use Rattle.snapshots.specs.Code.SnapshotSteps.{Program, stepWithIn}
 use Rattle.snapshots.specs.Code.StepParts.{offeredIn, madeIn}
 

@@ -6,7 +6,7 @@ use native.Mathlib.Omega.{arith}
 use mathlib.Core.Path.{_≡_, refl, sym, _∙_}
 use Rattle.notation.specs.Lists.{any, from, upTo}
 use Rattle.snapshots.specs.Code.SnapshotSteps.{waitsFor, waits}
-use Rattle.snapshots.specs.Laws.StartLaws.{any-here, any-next, any-end}
+use Rattle.notation.specs.Laws.SomeLaws.{some-found, some-later, some-missing}
 use Rattle.states.specs.Code.StateBytes.{snapshotIn}
 use Rattle.starts.proofs.must_wait.Statement.{statement}
 use Rattle.starts.proofs.must_wait.Tie as tie
@@ -27,7 +27,10 @@ waits-for-requires : tie.Need-waits-for-requires Inv-loop μ-loop
 waits-for-requires c κs = (c .before .before .pre, c .loop-test .taken)
 
 returns : tie.Need-returns Inv-loop μ-loop
-returns c = sym (c .before .before .before .loop .inv .1 ∙ any-here _ _ 8 (omega arith) (sym (c .before .waits-for .ensures) ∙ c .if1 .taken))
+unfolding waits
+returns c =
+    sym (some-found _ 8 _ (c .before .before .before .loop .inv .1) (c .before .before .loop-test .taken)
+    (sym (c .before .waits-for .ensures) ∙ c .if1 .taken))
 
 add-k : tie.Need-add-k Inv-loop μ-loop
 add-k c = omega arith
@@ -36,10 +39,16 @@ loop-less : tie.Need-loop-less Inv-loop μ-loop
 loop-less c = omega arith
 
 loop-again : tie.Need-loop-again Inv-loop μ-loop
-loop-again c = (omega arith, c .before .before .before .loop .inv .1 ∙ any-next _ _ 8 (omega arith) (sym (c .before .waits-for .ensures) ∙ c .if1 .left))
+unfolding waits
+loop-again c = (
+  omega arith,
+  some-later _ 8 _ (c .before .before .before .loop .inv .1) (c .before .before .loop-test .taken)
+      (sym (c .before .waits-for .ensures) ∙ c .if1 .left),
+)
 
 returns-2 : tie.Need-returns-2 Inv-loop μ-loop
-returns-2 c = sym (c .before .loop .inv .1 ∙ any-end _ _ 8 (omega arith))
+unfolding waits
+returns-2 c = sym (some-missing _ 8 _ (c .before .loop .inv .1) (c .loop-test .left))
 
 pub must-wait-spec : {M : Type 1} → statement M
 must-wait-spec =

@@ -13,7 +13,7 @@ use lib.ListN.{length, getD}
 use lib.Dec.{eqb}
 use Rattle.notation.specs.Lists.{upTo}
 use Rattle.order.specs.declared.Frame.{Frame}
-use Rattle.snapshots.specs.declared.Snapshot.{Snapshot}
+use Rattle.snapshots.specs.Code.Snapshots.{Snapshot}
 
 -- the n bytes from a on
 unfoldable pub bytesAt : List ℕ → ℕ → ℕ → List ℕ

@@ -97,6 +97,11 @@ module _ (bytes : List ℕ) where
         getD-take depth (snapshotIn bytes .stack) i noFrame low ∙ stack-at i noFrame (omega arith)
         ∙ sym (values-at (frameIn bytes) depth i noFrame low))))
 
+-- whether a task's first job not yet begun is one of the task
+pub upcoming-owned : (program bytes : List ℕ) (i : ℕ) → i < 8 → {b : Bool} → b ≡ ownedBy program i (getD bytes (8 + i) 0)
+    → b ≡ ownedBy program i (getD (snapshotIn bytes .upcoming) i 0)
+upcoming-owned program bytes i lt e = e ∙ ap (ownedBy program i) (sym (upcoming-at bytes i 0 lt))
+
 -- ---- what a job waits for
 
 module _ (program times bytes : List ℕ) (y k : ℕ) (small : k < 8) where

@@ -1,15 +1,18 @@
--- `replay::bytes::outcome` meets its contract: the state is what `snapshot_of` ensures.
+-- `replay::bytes::outcome` meets its contract: the store and the failed jobs are what is read of the state.
 -- Assumes nothing.
 use borrow.Author.Needs.{needs}
 use Rattle.replay.specs.Laws.ReadLaws.{outcome-made}
 use Rattle.replay.proofs.bytes.outcome.Statement.{statement}
 use Rattle.replay.proofs.bytes.outcome.Tie as tie
 
-snapshot-of-requires : tie.Need-snapshot-of-requires
-snapshot-of-requires c κs = search needs
+eight-at-requires : tie.Need-eight-at-requires
+eight-at-requires c κs = search needs
+
+failed-in-requires : tie.Need-failed-in-requires
+failed-in-requires c κs = search needs
 
 returns : tie.Need-returns
-returns c = outcome-made _ _ (c .snapshot-of .ensures)
+returns c = outcome-made _ _ _ (c .before .eight-at .ensures) (c .failed-in .ensures)
 
 pub outcome-spec : {M : Type 1} → statement M
-outcome-spec = tie.close (tie.spec snapshot-of-requires returns)
+outcome-spec = tie.close (tie.spec eight-at-requires failed-in-requires returns)

@@ -1,10 +1,11 @@
 -- `replay::bytes::replay_from` meets its contract: each outcome is one case of the replay. The loop's invariant: the whole replay is the
 -- replay of the bytes left, from the state in hand. The measure is the number of bytes left.
 -- Assumes nothing.
-use mathlib.Core.Path.{refl, _∙_}
+use mathlib.Core.Path.{refl, ap, _∙_}
 use Prim.Native.Nat.{_-_}
 use native.Mathlib.Omega.{arith}
 use lib.ListN.{length}
+use Rattle.snapshots.specs.Code.ReplayParts.{replayedOf}
 use Rattle.snapshots.specs.Laws.ReplayLoopLaws.{Reached, replay-past, replay-whole, replay-short}
 use Rattle.states.specs.Code.StateBytes.{snapshotIn, IsState}
 use Rattle.replay.specs.Laws.StepBytes.{step-refused, step-goes}
@@ -30,8 +31,9 @@ returns : tie.Need-returns Inv-loop μ-loop
 returns c =
     let done = c .before .before .before in
     c .outcome .ensures
-    ∙ replay-past _ _ _ _ _ _ _ (done .before .before .before .loop .inv .1) (done .finished .ensures) (done .before .before .loop-test .taken)
-    (c .before .before .if1 .taken)
+    ∙ ap replayedOf
+    (replay-past _ _ _ _ _ _ _ (done .before .before .before .loop .inv .1) (done .finished .ensures) (done .before .before .loop-test .taken)
+    (c .before .before .if1 .taken))
 
 shared-slice-read-step : tie.Need-shared-slice-read-step Inv-loop μ-loop
 shared-slice-read-step c = omega arith
@@ -48,8 +50,9 @@ returns-2 c =
     let made = c .before .before .before in
     let done = made .before .before .before .before in
     c .outcome2 .ensures
-    ∙ step-refused _ _ _ _ _ _ _ (done .before .before .before .loop .inv .1) (done .finished .ensures) (done .before .before .loop-test .taken)
-    (made .before .before .before .if1 .left) (made .step .ensures .0) (made .step .ensures .1 .0) (c .before .before .if2 .taken)
+    ∙ ap replayedOf
+    (step-refused _ _ _ _ _ _ _ (done .before .before .before .loop .inv .1) (done .finished .ensures) (done .before .before .loop-test .taken)
+    (made .before .before .before .if1 .left) (made .step .ensures .0) (made .step .ensures .1 .0) (c .before .before .if2 .taken))
 
 add-index : tie.Need-add-index Inv-loop μ-loop
 add-index c = omega arith
@@ -76,8 +79,9 @@ returns-3 : tie.Need-returns-3 Inv-loop μ-loop
 returns-3 c =
     let done = c .before .before .before in
     c .outcome3 .ensures
-    ∙ replay-whole _ _ _ _ _ _ _ (done .before .before .before .loop .inv .1) (done .finished2 .ensures) (done .before .before .loop-test .left)
-    (c .before .before .if3 .taken)
+    ∙ ap replayedOf
+    (replay-whole _ _ _ _ _ _ _ (done .before .before .before .loop .inv .1) (done .finished2 .ensures) (done .before .before .loop-test .left)
+    (c .before .before .if3 .taken))
 
 outcome-requires-4 : tie.Need-outcome-requires-4 Inv-loop μ-loop
 outcome-requires-4 c κs = tt
@@ -86,8 +90,9 @@ returns-4 : tie.Need-returns-4 Inv-loop μ-loop
 returns-4 c =
     let done = c .before .before .before in
     c .outcome4 .ensures
-    ∙ replay-short _ _ _ _ _ _ _ (done .before .before .before .loop .inv .1) (done .finished2 .ensures) (done .before .before .loop-test .left)
-    (c .before .before .if3 .left)
+    ∙ ap replayedOf
+    (replay-short _ _ _ _ _ _ _ (done .before .before .before .loop .inv .1) (done .finished2 .ensures) (done .before .before .loop-test .left)
+    (c .before .before .if3 .left))
 
 pub replay-from-spec : {M : Type 1} → statement M
 replay-from-spec =
