@@ -1,4 +1,5 @@
 // How a run stands at a state: whether all jobs have ended, and which have failed.
+use programs::owned_by;
 use snapshots::DEPTH;
 use snapshots::FAILED;
 use snapshots::JOBS;
@@ -6,7 +7,6 @@ use snapshots::PROGRAM;
 use snapshots::STATE;
 use snapshots::TASK_LIMIT;
 use snapshots::UPCOMING;
-use states::lent::owned_by;
 use taskfile::Task;
 use timing::Job;
 ghost use mathlib.Core.Path.{_≡_};

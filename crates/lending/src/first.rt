@@ -6,7 +6,7 @@ use snapshots::STATE;
 use snapshots::STORE;
 use snapshots::UPCOMING;
 use snapshots::VARIABLES;
-use states::bytes::put_eight;
+use states::put_eight;
 use taskfile::Task;
 use timing::Job;
 ghost use mathlib.Core.Path.{_≡_};

@@ -1,5 +1,7 @@
 // The moves of a state, one after the other.
 use order::Frame;
+use programs::instruction_at;
+use programs::owned_by;
 use snapshots::DEPTH;
 use snapshots::Due;
 use snapshots::FRAME;
@@ -16,27 +18,26 @@ use snapshots::TIMES;
 use snapshots::UPCOMING;
 use snapshots::VALUES;
 use starts::no_turn;
-use states::lent::instruction_at;
-use states::lent::owned_by;
-use steps::offered;
-use steps::turn_of;
 use taskfile::Ceilings;
 use taskfile::Task;
 use timing::Job;
+use turns::offered;
+use turns::turn_of;
 ghost use mathlib.Core.Path.{_≡_};
 ghost use Prim.Native.Nat.{_≤_, _<_};
 ghost use Rattle.states.specs.Code.StateBytes.{snapshotIn, IsState};
 ghost use Rattle.moves.specs.Code.MoveParts.{NextStep, firstByte, maybeDue, topJob, valueAfter};
 
-// A move: its order byte, or 128 if there is none, the byte from which on the next move is looked for, and whose turn it is.
+// A move: its order byte, or 128 if there is none, the byte from which on the next move is looked for, and whose turn
+// it is.
 pub struct Candidate {
     pub byte: u8,
     pub next: u8,
     pub turn: Due,
 }
 
-// The byte from which on the next move is looked for after a step of task i at this byte: the next value of a Pick, or the
-// next task's first byte.
+// The byte from which on the next move is looked for after a step of task i at this byte: the next value of a Pick, or
+// the next task's first byte.
 pub fn byte_after(program: &[u8; PROGRAM], f: Frame, byte: u8) -> u8
     requires { ⌜ (byte < 128) × (f .local .next < 16) ⌝ }
     ensures { λ r. ⌜ r ≡ valueAfter (now (program .entry)) f byte ⌝ }
@@ -57,8 +58,8 @@ pub fn byte_after(program: &[u8; PROGRAM], f: Frame, byte: u8) -> u8
     byte + 1
 }
 
-// May it be task i's turn, where `top` is the active job started last, or 32? Not if that is not one of task i and task i has no
-// job left. This spares the full test for most tasks.
+// May it be task i's turn, where `top` is the active job started last, or 32? Not if that is not one of task i and
+// task i has no job left. This spares the full test for most tasks.
 pub fn may_be_due(program: &[u8; PROGRAM], s: &[u8; STATE], top: Job, i: Task) -> bool
     requires { ⌜ i .0 < 8 ⌝ }
     ensures { λ b. ⌜ b ≡ maybeDue (now (program .entry)) (snapshotIn (now (s .entry)) .upcoming) (top .0) (i .0) ⌝ }
@@ -69,8 +70,8 @@ pub fn may_be_due(program: &[u8; PROGRAM], s: &[u8; STATE], top: Job, i: Task) -
     owned_by(program, i, Job(s[UPCOMING + (i.0 as usize)]))
 }
 
-// The first byte from `byte` on of a task that is not below that of `top`, the active job started last, or 32: no task below has
-// a turn.
+// The first byte from `byte` on of a task that is not below that of `top`, the active job started last, or 32: no task
+// below has a turn.
 pub fn first_byte(program: &[u8; PROGRAM], top: Job, byte: u8) -> u8
     ensures { λ r. ⌜ r ≡ firstByte (now (program .entry)) (top .0) byte ⌝ }
 {

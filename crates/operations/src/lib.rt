@@ -28,7 +28,9 @@ use taskfile::Instruction;
 ghost use mathlib.Core.Path.{_≡_};
 ghost use Prim.Native.Nat.{_<_, _+_, _%_};
 ghost use Rattle.notation.specs.Lists.{if_then_else_};
-ghost use Rattle.machine.specs.Instructions.{end, load, store, setNumber, add, subtract, skipLess, skipEqual, pick, acquireLock, releaseLock, assert, perform, goesOn, skipping, withHeld, withRegister};
+ghost use Rattle.machine.specs.Instructions.{end, load, store, setNumber, add, subtract, skipLess, skipEqual, pick};
+ghost use Rattle.machine.specs.Instructions.{acquireLock, releaseLock, assert, perform};
+ghost use Rattle.machine.specs.Instructions.{goesOn, skipping, withHeld, withRegister};
 
 // The effect of an instruction that gives register r the value x.
 fn register_taken(l: Local, r: u8, x: u8, s: [u8; VARIABLES]) -> Effect

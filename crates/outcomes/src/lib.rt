@@ -6,7 +6,7 @@ use snapshots::STATE;
 use snapshots::STORE;
 use snapshots::UNDECIDED;
 use snapshots::VARIABLES;
-use states::bytes::eight_at;
+use states::eight_at;
 use walk::Verdict;
 use walk::WalkAnswer;
 ghost use mathlib.Core.Path.{_≡_};

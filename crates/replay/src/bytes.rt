@@ -9,7 +9,7 @@ use snapshots::STATE;
 use snapshots::STEP;
 use snapshots::STORE;
 use snapshots::TIMES;
-use states::bytes::eight_at;
+use states::eight_at;
 use steps::step;
 use taskfile::Ceilings;
 ghost use mathlib.Core.Path.{_≡_};
@@ -41,7 +41,8 @@ pub fn replay_from(
     order: &[u8],
 ) -> Replayed
     requires { ⌜ (locks .count ≤ 8) × IsState start ⌝ }
-    ensures { λ r. ⌜ r ≡ replayedOf (replayIn (now (program .entry)) (now (times .entry)) locks (snapshotIn start) 0 (now (order .entry))) ⌝ }
+    ensures { λ r. ⌜ r ≡ replayedOf (replayIn (now (program .entry)) (now (times .entry)) locks
+        (snapshotIn start) 0 (now (order .entry))) ⌝ }
 {
     let mut s = start;
     let mut index: usize = 0;

@@ -1,5 +1,5 @@
-// Orders of steps, as their code keeps them: how a state, a program and the times stand in arrays of fixed length, whose turn it is, and
-// what a replay comes to.
+// Orders of steps, as their code keeps them: how a state, a program and the times stand in arrays of fixed length,
+// whose turn it is, and what a replay comes to.
 use order::Frame;
 
 // ---- Limits and numbers of document 01.
@@ -53,7 +53,8 @@ pub const RELEASE: u8 = 10;
 
 pub const ASSERT: u8 = 11;
 
-// An order has room for so many bytes, the last of them at this place. A byte is so many times the task, and the value, at most the last.
+// An order has room for so many bytes, the last of them at this place. A byte is so many times the task, and the
+// value, at most the last.
 pub const ORDER_ROOM: usize = 512;
 
 pub const LAST_STEP: usize = 511;
@@ -75,8 +76,8 @@ pub const EXTRA: u8 = 32;
 
 // ---- A state in bytes.
 
-// How many bytes a state has. Of these, where the store stands, for each task its first job not yet begun, a flag for each failed job, the
-// number of active jobs, and the active jobs in the order in which they started.
+// How many bytes a state has. Of these, where the store stands, for each task its first job not yet begun, a flag for
+// each failed job, the number of active jobs, and the active jobs in the order in which they started.
 pub const STATE: usize = 192;
 
 pub const STORE: usize = 0;
@@ -96,7 +97,8 @@ pub const HELD: usize = 8;
 
 // ---- A table in the arrays that are lent to the steps.
 
-// How many instructions a program has in all, and how many bytes, a task's body and an instruction; and where the task of each job stands.
+// How many instructions a program has in all, and how many bytes, a task's body and an instruction; and where the task
+// of each job stands.
 pub const BODIES: usize = TASKS * INSTRUCTIONS;
 
 pub const PROGRAM: usize = 544;
@@ -128,7 +130,8 @@ pub struct Due {
     pub under: u8,
 }
 
-// What a replay comes to: 0 or the number of the fault, its step's index, and the store and the failed jobs that it left.
+// What a replay comes to: 0 or the number of the fault, its step's index, and the store and the failed jobs that it
+// left.
 pub struct Replayed {
     pub number: u8,
     pub place: u64,

@@ -2,6 +2,9 @@
 use locals::held::priority_of;
 use locals::registers::fresh_local;
 use order::Frame;
+use programs::comes_before;
+use programs::may_preempt;
+use programs::owned_by;
 use snapshots::DEPTH;
 use snapshots::Due;
 use snapshots::FRAME;
@@ -14,10 +17,7 @@ use snapshots::STATE;
 use snapshots::TASK_LIMIT;
 use snapshots::TIMES;
 use snapshots::UPCOMING;
-use states::bytes::eight_at;
-use states::lent::comes_before;
-use states::lent::may_preempt;
-use states::lent::owned_by;
+use states::eight_at;
 use taskfile::Ceilings;
 use taskfile::Task;
 use timing::Job;
@@ -36,7 +36,8 @@ pub fn waits_for(
     k: Task,
 ) -> bool
     requires { ⌜ (y .0 < 32) × (k .0 < 8) ⌝ }
-    ensures { λ b. ⌜ b ≡ waitsFor (now (program .entry)) (now (times .entry)) (snapshotIn (now (s .entry)) .upcoming) (y .0) (k .0) ⌝ }
+    ensures { λ b. ⌜ b ≡ waitsFor (now (program .entry)) (now (times .entry))
+        (snapshotIn (now (s .entry)) .upcoming) (y .0) (k .0) ⌝ }
 {
     let x = Job(s[UPCOMING + (k.0 as usize)]);
     if !owned_by(program, k, x) {
@@ -48,10 +49,12 @@ pub fn waits_for(
     comes_before(program, times, x, y)
 }
 
-// Must job y wait for a job not yet begun? The first of each task is enough: if a later one comes before y, so does that.
+// Must job y wait for a job not yet begun? The first of each task is enough: if a later one comes before y, so does
+// that.
 pub fn must_wait(program: &[u8; PROGRAM], times: &[u64; TIMES], s: &[u8; STATE], y: Job) -> bool
     requires { ⌜ y .0 < 32 ⌝ }
-    ensures { λ b. ⌜ b ≡ waits (now (program .entry)) (now (times .entry)) (snapshotIn (now (s .entry)) .upcoming) (y .0) ⌝ }
+    ensures { λ b. ⌜ b ≡ waits (now (program .entry)) (now (times .entry))
+        (snapshotIn (now (s .entry)) .upcoming) (y .0) ⌝ }
 {
     let mut k: u8 = 0;
     while k < TASK_LIMIT {
@@ -63,7 +66,8 @@ pub fn must_wait(program: &[u8; PROGRAM], times: &[u64; TIMES], s: &[u8; STATE],
     false
 }
 
-// May job y start over the active job at position k: may it preempt that, and is its base above that one's present priority?
+// May job y start over the active job at position k: may it preempt that, and is its base above that one's present
+// priority?
 pub fn goes_over(
     program: &[u8; PROGRAM],
     times: &[u64; TIMES],
@@ -73,7 +77,8 @@ pub fn goes_over(
     k: u8,
 ) -> bool
     requires { ⌜ (locks .count ≤ 8) × (y .0 < 32) × (k < 8) ⌝ }
-    ensures { λ b. ⌜ b ≡ goesOver (now (program .entry)) (now (times .entry)) locks (y .0) (frameIn (now (s .entry)) k) ⌝ }
+    ensures { λ b. ⌜ b ≡ goesOver (now (program .entry)) (now (times .entry)) locks (y .0)
+        (frameIn (now (s .entry)) k) ⌝ }
 {
     let at = STACK + FRAME * (k as usize);
     let x = Job(s[at]);
@@ -99,7 +104,8 @@ pub fn goes_over_all(
     y: Job,
 ) -> bool
     requires { ⌜ (locks .count ≤ 8) × (y .0 < 32) × IsState (now s) ⌝ }
-    ensures { λ b. ⌜ b ≡ all (goesOver (now (program .entry)) (now (times .entry)) locks (y .0)) (stackOf (snapshotIn (now (s .entry)))) ⌝ }
+    ensures { λ b. ⌜ b ≡ all (goesOver (now (program .entry)) (now (times .entry)) locks (y .0))
+        (stackOf (snapshotIn (now (s .entry)))) ⌝ }
 {
     let depth = s[DEPTH];
     let mut k: u8 = 0;
@@ -121,7 +127,8 @@ pub fn may_start(
     i: Task,
 ) -> bool
     requires { ⌜ (locks .count ≤ 8) × IsState (now s) ⌝ }
-    ensures { λ b. ⌜ b ≡ startsIn (now (program .entry)) (now (times .entry)) locks (snapshotIn (now (s .entry))) (i .0) ⌝ }
+    ensures { λ b. ⌜ b ≡ startsIn (now (program .entry)) (now (times .entry)) locks
+        (snapshotIn (now (s .entry))) (i .0) ⌝ }
 {
     if TASK_LIMIT <= i.0 {
         return false;
@@ -162,7 +169,8 @@ pub fn start_of(
     i: Task,
 ) -> Due
     requires { ⌜ (locks .count ≤ 8) × IsState (now s) ⌝ }
-    ensures { λ d. ⌜ d ≡ startIn (now (program .entry)) (now (times .entry)) locks (snapshotIn (now (s .entry))) (i .0) ⌝ }
+    ensures { λ d. ⌜ d ≡ startIn (now (program .entry)) (now (times .entry)) locks
+        (snapshotIn (now (s .entry))) (i .0) ⌝ }
 {
     if TASK_LIMIT <= i.0 {
         return no_turn();

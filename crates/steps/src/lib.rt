@@ -1,88 +1,29 @@
 // The step that an order byte asks for.
-use locals::values::on_offer;
 use machine::Effect;
 use operations::perform_instruction;
 use order::Frame;
+use programs::instruction_at;
 use snapshots::DEPTH;
-use snapshots::Due;
 use snapshots::FAILED;
-use snapshots::FRAME;
-use snapshots::POSITION_LIMIT;
 use snapshots::PROGRAM;
-use snapshots::STACK;
 use snapshots::STATE;
 use snapshots::STORE;
-use snapshots::TASK_LIMIT;
 use snapshots::TIMES;
 use snapshots::UPCOMING;
 use snapshots::VALUES;
-use starts::start_of;
-use states::bytes::frame_at;
-use states::bytes::put_eight;
-use states::bytes::put_frame;
-use states::lent::instruction_at;
-use states::lent::owned_by;
+use states::put_eight;
+use states::put_frame;
 use taskfile::Ceilings;
 use taskfile::Task;
 use timing::Job;
+use turns::offered;
+use turns::turn_of;
 ghost use mathlib.Core.Path.{_≡_};
 ghost use Prim.Native.Nat.{_/_, _%_, _≤_, _<_};
 ghost use mathlib.Core.Bool.{true};
-ghost use Rattle.snapshots.specs.Code.SnapshotSteps.{turnIn, runsIn, afterIn, stepIn};
+ghost use Rattle.snapshots.specs.Code.SnapshotSteps.{afterIn, stepIn};
 ghost use Rattle.states.specs.Code.StateBytes.{snapshotIn, IsState};
-ghost use Rattle.snapshots.specs.Code.StepParts.{offeredIn, madeIn};
-
-// Is the active job started last one of task i? Tasks are below 8, so that no other number is taken for an index.
-pub fn runs(program: &[u8; PROGRAM], s: &[u8; STATE], i: Task) -> bool
-    requires { ⌜ IsState (now s) ⌝ }
-    ensures { λ b. ⌜ b ≡ runsIn (now (program .entry)) (snapshotIn (now (s .entry))) (i .0) ⌝ }
-{
-    if TASK_LIMIT <= i.0 {
-        return false;
-    }
-    let depth = s[DEPTH];
-    if depth == 0 {
-        return false;
-    }
-    let top = (depth - 1) as usize;
-    owned_by(program, i, Job(s[STACK + FRAME * top]))
-}
-
-// The turn that a byte of task i takes: the active job started last, if it is of that task, else a start.
-pub fn turn_of(
-    program: &[u8; PROGRAM],
-    times: &[u64; TIMES],
-    locks: Ceilings,
-    s: &[u8; STATE],
-    i: Task,
-) -> Due
-    requires { ⌜ (locks .count ≤ 8) × IsState (now s) ⌝ }
-    ensures turn { λ d. ⌜ d ≡ turnIn (now (program .entry)) (now (times .entry)) locks (snapshotIn (now (s .entry))) (i .0) ⌝ }
-    ensures bounds { λ d. ⌜ (d .due ≡ true → (d .under < 8) × (d .frame .job .0 < 32)) ⌝ }
-{
-    if runs(program, s, i) {
-        let top = s[DEPTH] - 1;
-        return Due {
-            due: true,
-            frame: frame_at(s, top),
-            under: top,
-        };
-    }
-    start_of(program, times, locks, s, i)
-}
-
-// May the job in the frame, of task i, take a step with the value v?
-pub fn offered(program: &[u8; PROGRAM], f: Frame, i: Task, v: u8) -> bool
-    requires { ⌜ i .0 < 8 ⌝ }
-    ensures { λ b. ⌜ b ≡ offeredIn (now (program .entry)) f (i .0) v ⌝ }
-{
-    let local = f.local;
-    let next = local.next;
-    if POSITION_LIMIT <= next {
-        return false;
-    }
-    on_offer(instruction_at(program, i, next), v)
-}
+ghost use Rattle.snapshots.specs.Code.StepParts.{madeIn};
 
 // Makes of a state what it is after job x of task i has had an effect, with so many active jobs under it.
 pub fn put_effect(s: &mut [u8; STATE], x: Job, under: u8, i: Task, effect: Effect)
@@ -107,7 +48,8 @@ pub fn put_effect(s: &mut [u8; STATE], x: Job, under: u8, i: Task, effect: Effec
 // Makes the step of the job in the frame, of task i, with the value v.
 pub fn step_with(program: &[u8; PROGRAM], s: &mut [u8; STATE], f: Frame, under: u8, i: Task, v: u8)
     requires { ⌜ IsState (now s) × (f .job .0 < 32) × (f .local .next < 16) × (under < 8) × (i .0 < 8) ⌝ }
-    ensures made { λ _. ⌜ snapshotIn (now (s .exit)) ≡ madeIn (now (program .entry)) (snapshotIn (now (s .entry))) f under (i .0) v ⌝ }
+    ensures made { λ _. ⌜ snapshotIn (now (s .exit))
+        ≡ madeIn (now (program .entry)) (snapshotIn (now (s .entry))) f under (i .0) v ⌝ }
     ensures whole { λ _. ⌜ IsState (now (s .exit)) ⌝ }
 {
     let local = f.local;
@@ -127,8 +69,10 @@ pub fn step(
     byte: u8,
 ) -> bool
     requires { ⌜ (locks .count ≤ 8) × IsState (now s) ⌝ }
-    ensures allowed { λ b. ⌜ b ≡ stepIn (now (program .entry)) (now (times .entry)) locks (snapshotIn (now (s .entry))) byte .allowed ⌝ }
-    ensures made { λ _. ⌜ snapshotIn (now (s .exit)) ≡ stepIn (now (program .entry)) (now (times .entry)) locks (snapshotIn (now (s .entry))) byte .state ⌝ }
+    ensures allowed { λ b. ⌜ b ≡ stepIn (now (program .entry)) (now (times .entry)) locks
+        (snapshotIn (now (s .entry))) byte .allowed ⌝ }
+    ensures made { λ _. ⌜ snapshotIn (now (s .exit))
+        ≡ stepIn (now (program .entry)) (now (times .entry)) locks (snapshotIn (now (s .entry))) byte .state ⌝ }
     ensures whole { λ _. ⌜ IsState (now (s .exit)) ⌝ }
 {
     let i = Task(byte / VALUES);

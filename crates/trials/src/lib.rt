@@ -32,7 +32,8 @@ pub fn walk(
     allowance: u64,
     out: &mut [u8],
 ) -> Outcome
-    requires { ⌜ (locks .count ≤ 8) × IsState (now s) × (left ≤ 512) × (count ≤ allowance) × (512 ≤ length (now out)) ⌝ }
+    requires { ⌜ (locks .count ≤ 8) × IsState (now s) × (left ≤ 512) × (count ≤ allowance)
+        × (512 ≤ length (now out)) ⌝ }
     ensures room { λ r. ⌜ Left (512 - left) allowance (now (out .entry)) (now (out .exit)) r ⌝ }
     ensures came { λ r. ⌜ WalksAs (now (program .entry)) (now (times .entry)) locks (snapshotIn (now (s .entry)))
         left count allowance (now (out .entry)) (now (out .exit)) r ⌝ }
@@ -57,7 +58,8 @@ pub fn trial(
     allowance: u64,
     out: &mut [u8],
 ) -> Outcome
-    requires { ⌜ (locks .count ≤ 8) × IsState (now s) × (left < 512) × (count ≤ allowance) × (512 ≤ length (now out)) ⌝ }
+    requires { ⌜ (locks .count ≤ 8) × IsState (now s) × (left < 512) × (count ≤ allowance)
+        × (512 ≤ length (now out)) ⌝ }
     ensures room { λ r. ⌜ Left (511 - left) allowance (now (out .entry)) (now (out .exit)) r ⌝ }
     ensures came { λ r. ⌜ TriesAs (now (program .entry)) (now (times .entry)) locks (snapshotIn (now (s .entry)))
         left count allowance (now (out .entry)) (now (out .exit)) r ⌝ }

@@ -54,8 +54,8 @@ pub fn walk_table(t: Table, list: JobList, allowance: u64, out: &mut [u8]) -> Ou
     )
 }
 
-// The walk's entry: the file's numbers, then 20, then 21 or the verdict. The buffer's first 512 bytes hold the failing order
-// and zeros after it, or zeros alone.
+// The walk's entry: the file's numbers, then 20, then 21 or the verdict. The buffer's first 512 bytes hold the failing
+// order and zeros after it, or zeros alone.
 pub fn walk_file(file: &[u8], allowance: u64, out: &mut [u8]) -> WalkAnswer
     ensures answer { λ x. ⌜ x ≡ walkAnswer (now (file .entry)) allowance (now (out .entry)) ⌝ }
     ensures buffer { λ _. ⌜ now (out .exit) ≡ walkAfter (now (file .entry)) allowance (now (out .entry)) ⌝ }

@@ -1,4 +1,5 @@
--- What is lent of a table and its jobs: arrays that hold the table, and a state that shows the one that an order starts from.
+-- What is lent of a table and its jobs: arrays that hold the table, and a state that shows the one that an order
+-- starts from.
 -- Assumes nothing.
 use mathlib.Core.Path.{_≡_}
 use Prim.Native.Nat.{_≤_}
@@ -16,5 +17,7 @@ use Rattle.lending.specs.declared.Lent.{Lent}
 pub record LentOf (t : Table) (list : JobList) (l : Lent) : Type 0 where
   pub few : l .locks .count ≤ 8
   pub whole : IsState (l .start)
-  pub lends : (a : Accepted) → IsAccepted a → t ≡ a .table → list ≡ jobListOf (a .jobs) → Lends a (l .program) (l .times) (l .locks)
-  pub shows : (a : Accepted) → IsAccepted a → t ≡ a .table → list ≡ jobListOf (a .jobs) → Shows a (snapshotIn (l .start)) (initial a)
+  pub lends : (a : Accepted) → IsAccepted a → t ≡ a .table → list ≡ jobListOf (a .jobs)
+      → Lends a (l .program) (l .times) (l .locks)
+  pub shows : (a : Accepted) → IsAccepted a → t ≡ a .table → list ≡ jobListOf (a .jobs)
+      → Shows a (snapshotIn (l .start)) (initial a)

@@ -29,8 +29,24 @@ answerOf r =
     if r .stopped
     then refusal 21 0
     else if r .found
-    then record { number = 0; place = 0; verdict = Fails; count = r .count; length = r .length; store = r .store; failed = r .failed }
-    else record { number = 0; place = 0; verdict = Holds; count = r .count; length = 0; store = noStore; failed = noFlags }
+    then record {
+      number = 0;
+      place = 0;
+      verdict = Fails;
+      count = r .count;
+      length = r .length;
+      store = r .store;
+      failed = r .failed;
+    }
+    else record {
+      number = 0;
+      place = 0;
+      verdict = Holds;
+      count = r .count;
+      length = 0;
+      store = noStore;
+      failed = noFlags;
+    }
 
 -- how many bytes of the buffer are an order to show
 unfoldable pub shownLength : Outcome → ℕ

@@ -36,4 +36,5 @@ ReplayedAs r (passed s) = (r .number ≡ 0) × (r .place ≡ 0) × (r .store ≡
 -- a replay of a table's parts: it comes to what the order comes to, if they are an accepted table's
 abbrev pub ReplayOf : Table → JobList → List ℕ → Replayed → Type 0
 ReplayOf t list order r =
-    (a : Accepted) → IsAccepted a → t ≡ a .table → list ≡ jobListOf (a .jobs) → ReplayedAs r (replayFrom a (initial a) 0 order)
+    (a : Accepted) → IsAccepted a → t ≡ a .table → list ≡ jobListOf (a .jobs)
+    → ReplayedAs r (replayFrom a (initial a) 0 order)

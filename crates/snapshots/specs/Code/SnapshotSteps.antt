@@ -1,7 +1,7 @@
--- The step on a snapshot, as its functions yield it. The step reads an accepted table in lent arrays of numbers: the program, which is
--- four bytes for each of sixteen instructions of each of eight tasks, and from 512 on the task of each job (8 where there is no
--- job); and the times, which are the arrival of each of 32 jobs, and from 32 on each one's latest finish.
--- `SnapshotLaws` says that this is the step of `Orders`.
+-- The step on a snapshot, as its functions yield it. The step reads an accepted table in lent arrays of numbers: the
+-- program, which is four bytes for each of sixteen instructions of each of eight tasks, and from 512 on the task of
+-- each job (8 where there is no job); and the times, which are the arrival of each of 32 jobs, and from 32 on each
+-- one's latest finish. `SnapshotLaws` says that this is the step of `Orders`.
 -- Assumes nothing.
 use Prim.Native.Nat.{ℕ, zero, suc, _+_, _-_, _*_, _/_, _%_}
 use mathlib.Core.Bool.{Bool, true, false, not, _&&_, _||_}
@@ -81,7 +81,8 @@ unfoldable pub goesOver : Program → Times → Ceilings → ℕ → Frame → B
 goesOver program times locks y f =
     ltb (f .job .0) 32
     && preemptsIn program times y (f .job .0)
-    && ltb (priority (take (locks .count) (locks .ceilings)) (ownerIn program (f .job .0)) (f .local .held)) (ownerIn program y)
+    && ltb (priority (take (locks .count) (locks .ceilings)) (ownerIn program (f .job .0)) (f .local .held))
+    (ownerIn program y)
 
 unfoldable pub stackOf : Snapshot → List Frame
 stackOf p = take (p .depth) (p .stack)
@@ -106,8 +107,9 @@ startsIn program times locks p i =
 
 unfoldable pub startIn : Program → Times → Ceilings → Snapshot → ℕ → Due
 startIn program times locks p i =
+    let first : Frame = record { job = record { 0 = getD (p .upcoming) i 0 }; local = fresh } in
     if startsIn program times locks p i
-    then record { due = true; frame = record { job = record { 0 = getD (p .upcoming) i 0 }; local = fresh }; under = p .depth }
+    then record { due = true; frame = first; under = p .depth }
     else nobody
 
 -- ---- the turn and the step
@@ -168,7 +170,11 @@ finishedIn program p = eqb (p .depth) 0 && not (any (hasUpcoming program (p .upc
 -- the bytes from `index` on
 unfoldable pub replayIn : Program → Times → Ceilings → Snapshot → ℕ → List ℕ → ReplayEnd
 replayIn program times locks p index [] =
-    record { number = if finishedIn program p then 0 else 31; place = if finishedIn program p then 0 else index; state = p }
+    record {
+      number = if finishedIn program p then 0 else 31;
+      place = if finishedIn program p then 0 else index;
+      state = p;
+    }
 replayIn program times locks p index (byte ∷ bytes) =
     let stepped = stepIn program times locks p byte in
     elim (finishedIn program p) [

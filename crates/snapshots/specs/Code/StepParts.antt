@@ -15,4 +15,5 @@ offeredIn program f i v = ltb (f .local .next) 16 && member v (values (instructi
 
 -- the snapshot after its step with that value
 unfoldable pub madeIn : Program → Snapshot → Frame → ℕ → ℕ → ℕ → Snapshot
-madeIn program p f under i v = afterIn p (f .job) under i (perform (instructionIn program i (f .local .next)) v (f .local) (p .store))
+madeIn program p f under i v =
+    afterIn p (f .job) under i (perform (instructionIn program i (f .local .next)) v (f .local) (p .store))

@@ -30,12 +30,14 @@ EndsAs (some f) total at buffer r =
     × (take (at + length (f .bytes)) buffer ≡ take at buffer ++ f .bytes)
     × (r .store ≡ f .ending .store) × (r .failed ≡ f .ending .failed)
 
--- what a walk came to that had made `count` moves before and may make `allowance` in all, where the free walk comes to `walked`
+-- what a walk came to that had made `count` moves before and may make `allowance` in all, where the free walk comes to
+-- `walked`
 pub record Came (walked : Walked) (count allowance at : ℕ) (before after : List ℕ) (r : Outcome) : Type 0 where
   pub kept : take at after ≡ take at before
   pub beyond : drop 512 after ≡ drop 512 before
   pub cut : allowance < count + walked .count → (r .stopped ≡ true) × (r .found ≡ false)
-  pub whole : count + walked .count ≤ allowance → (r .stopped ≡ false) × EndsAs (walked .failing) (count + walked .count) at after r
+  pub whole : count + walked .count ≤ allowance
+      → (r .stopped ≡ false) × EndsAs (walked .failing) (count + walked .count) at after r
 
 -- what a trial leaves beside its outcome
 abbrev pub Left : ℕ → ℕ → List ℕ → List ℕ → Outcome → Type 0

@@ -16,7 +16,8 @@ use Rattle.trials.specs.Code.Trials.{Came}
 -- the walk of a table's parts: it comes to what the walk comes to, if they are an accepted table's
 abbrev pub WalkOf : Table → JobList → ℕ → List ℕ → List ℕ → Outcome → Type 0
 WalkOf t list allowance before after r =
-    (a : Accepted) → IsAccepted a → t ≡ a .table → list ≡ jobListOf (a .jobs) → Came (walk a) 0 allowance 0 before after r
+    (a : Accepted) → IsAccepted a → t ≡ a .table → list ≡ jobListOf (a .jobs)
+    → Came (walk a) 0 allowance 0 before after r
 
 -- the bytes of an order's room from one on are zero, and all others are kept
 abbrev pub clearedFrom : ℕ → List ℕ → List ℕ

@@ -1,10 +1,10 @@
--- `steps::runs` meets its contract: each return is one case of the test, and the last reads the top of the stack.
+-- `turns::runs` meets its contract: each return is one case of the test, and the last reads the top of the stack.
 -- Assumes nothing.
 use Rattle.snapshots.specs.Laws.TurnLaws.{runs-high}
 use Rattle.states.specs.Laws.StateReads.{runs-flat, runs-top}
 use borrow.Author.Needs.{needs}
-use Rattle.steps.proofs.runs.Statement.{statement}
-use Rattle.steps.proofs.runs.Tie as tie
+use Rattle.turns.proofs.runs.Statement.{statement}
+use Rattle.turns.proofs.runs.Tie as tie
 
 returns : tie.Need-returns
 returns c = runs-high _ _ _ (c .if1 .taken)

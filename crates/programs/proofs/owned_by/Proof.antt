@@ -1,12 +1,12 @@
--- `states::lent::owned_by` meets its contract: a number from 32 on is no job's, and below that the test is the definition's.
+-- `programs::owned_by` meets its contract: a number from 32 on is no job's, and below that the test is the definition's.
 -- Assumes nothing.
 use mathlib.Core.Path.{sym}
 use borrow.Author.Tests.{lt-ltb, le-ltb}
 use Rattle.notation.specs.Laws.TestLaws.{and-first, and-second}
 use Rattle.snapshots.specs.Code.SnapshotSteps.{ownerIn, ownedBy}
 use borrow.Author.Needs.{needs}
-use Rattle.states.proofs.lent.owned_by.Statement.{statement}
-use Rattle.states.proofs.lent.owned_by.Tie as tie
+use Rattle.programs.proofs.owned_by.Statement.{statement}
+use Rattle.programs.proofs.owned_by.Tie as tie
 
 returns : tie.Need-returns
 unfolding ownedBy

@@ -1,12 +1,12 @@
--- `states::lent::comes_before` meets its contract: each return is one case of the definition's test.
+-- `programs::comes_before` meets its contract: each return is one case of the definition's test.
 -- Assumes nothing.
 use mathlib.Core.Path.{sym, _∙_}
 use borrow.Author.Tests.{le-leb, lt-leb}
 use Rattle.notation.specs.Laws.TestLaws.{or-left, or-second, and-first, and-second}
 use Rattle.snapshots.specs.Code.SnapshotSteps.{ownerIn, arrivalIn, latestIn, beforeIn}
 use borrow.Author.Needs.{needs}
-use Rattle.states.proofs.lent.comes_before.Statement.{statement}
-use Rattle.states.proofs.lent.comes_before.Tie as tie
+use Rattle.programs.proofs.comes_before.Statement.{statement}
+use Rattle.programs.proofs.comes_before.Tie as tie
 
 cast-first : tie.Need-cast-first
 cast-first c = search needs

@@ -1,10 +1,10 @@
--- `states::lent::instruction_at` meets its contract: it reads the definition's four bytes.
+-- `programs::instruction_at` meets its contract: it reads the definition's four bytes.
 -- Assumes nothing.
 use mathlib.Core.Path.{refl}
 use Rattle.snapshots.specs.Code.SnapshotSteps.{instructionIn}
 use borrow.Author.Needs.{needs}
-use Rattle.states.proofs.lent.instruction_at.Statement.{statement}
-use Rattle.states.proofs.lent.instruction_at.Tie as tie
+use Rattle.programs.proofs.instruction_at.Statement.{statement}
+use Rattle.programs.proofs.instruction_at.Tie as tie
 
 cast-at : tie.Need-cast-at
 cast-at c = search needs

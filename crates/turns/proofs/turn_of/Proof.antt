@@ -1,10 +1,10 @@
--- `steps::turn_of` meets its contract: the two returns are the two cases of the turn, whose numbers are bounded by a law of it.
+-- `turns::turn_of` meets its contract: the two returns are the two cases of the turn, whose numbers are bounded by a law of it.
 -- Assumes nothing.
 use native.Mathlib.Omega.{arith}
 use Rattle.states.specs.Laws.StateReads.{runs-deep, turn-runs, turn-starts}
 use borrow.Author.Needs.{needs}
-use Rattle.steps.proofs.turn_of.Statement.{statement}
-use Rattle.steps.proofs.turn_of.Tie as tie
+use Rattle.turns.proofs.turn_of.Statement.{statement}
+use Rattle.turns.proofs.turn_of.Tie as tie
 
 runs-requires : tie.Need-runs-requires
 runs-requires c κs = search needs

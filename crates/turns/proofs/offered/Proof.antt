@@ -1,9 +1,9 @@
--- `steps::offered` meets its contract: a position past the body has no value on offer, and any other those of its instruction.
+-- `turns::offered` meets its contract: a position past the body has no value on offer, and any other those of its instruction.
 -- Assumes nothing.
 use Rattle.states.specs.Laws.StateReads.{offered-past, offered-read}
 use borrow.Author.Needs.{needs}
-use Rattle.steps.proofs.offered.Statement.{statement}
-use Rattle.steps.proofs.offered.Tie as tie
+use Rattle.turns.proofs.offered.Statement.{statement}
+use Rattle.turns.proofs.offered.Tie as tie
 
 returns : tie.Need-returns
 returns c = offered-past _ _ _ _ (c .if1 .taken)

@@ -1,4 +1,4 @@
--- `states::lent::may_preempt` meets its contract: each return is one case of the definition's test.
+-- `programs::may_preempt` meets its contract: each return is one case of the definition's test.
 -- Assumes nothing.
 use mathlib.Core.Path.{sym}
 use borrow.Author.Tests.{lt-ltb, le-ltb}
@@ -6,8 +6,8 @@ use Rattle.notation.specs.Laws.TestLaws.{and-holds, and-first, and-second}
 use Rattle.snapshots.specs.Code.SnapshotSteps.{ownerIn, arrivalIn, latestIn, preemptsIn}
 use Rattle.snapshots.specs.Laws.StartLaws.{preempts-early}
 use borrow.Author.Needs.{needs}
-use Rattle.states.proofs.lent.may_preempt.Statement.{statement}
-use Rattle.states.proofs.lent.may_preempt.Tie as tie
+use Rattle.programs.proofs.may_preempt.Statement.{statement}
+use Rattle.programs.proofs.may_preempt.Tie as tie
 
 cast-lower : tie.Need-cast-lower
 cast-lower c = search needs

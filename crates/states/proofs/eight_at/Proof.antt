@@ -1,9 +1,9 @@
--- `states::bytes::eight_at` meets its contract: it reads the definition's eight bytes.
+-- `states::eight_at` meets its contract: it reads the definition's eight bytes.
 -- Assumes nothing.
 use borrow.Author.Needs.{needs}
 use Rattle.states.specs.Laws.FrameReads.{eight-read}
-use Rattle.states.proofs.bytes.eight_at.Statement.{statement}
-use Rattle.states.proofs.bytes.eight_at.Tie as tie
+use Rattle.states.proofs.eight_at.Statement.{statement}
+use Rattle.states.proofs.eight_at.Tie as tie
 
 element-copy-out-t5 : tie.Need-element-copy-out-t5
 element-copy-out-t5 c = search needs

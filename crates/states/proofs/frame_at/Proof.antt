@@ -1,9 +1,9 @@
--- `states::bytes::frame_at` meets its contract: it reads the definition's bytes.
+-- `states::frame_at` meets its contract: it reads the definition's bytes.
 -- Assumes nothing.
 use borrow.Author.Needs.{needs}
 use Rattle.states.specs.Laws.FrameReads.{frame-read}
-use Rattle.states.proofs.bytes.frame_at.Statement.{statement}
-use Rattle.states.proofs.bytes.frame_at.Tie as tie
+use Rattle.states.proofs.frame_at.Statement.{statement}
+use Rattle.states.proofs.frame_at.Tie as tie
 
 mul-at : tie.Need-mul-at
 mul-at c = search needs

@@ -1,11 +1,11 @@
--- `states::bytes::put_frame` meets its contract: it writes the eight bytes of the job and its own state, and then its locks.
+-- `states::put_frame` meets its contract: it writes the eight bytes of the job and its own state, and then its locks.
 -- Assumes nothing.
 use mathlib.Core.Path.{_≡_, sym, _∙_}
 use lib.ListN.{length, length-map}
 use borrow.Author.Needs.{needs}
 use Rattle.states.specs.Laws.FrameWrites.{ownBytes, frame-put}
-use Rattle.states.proofs.bytes.put_frame.Statement.{statement}
-use Rattle.states.proofs.bytes.put_frame.Tie as tie
+use Rattle.states.proofs.put_frame.Statement.{statement}
+use Rattle.states.proofs.put_frame.Tie as tie
 
 registers-length : (c : tie.Start) → length (c .args .local .registers) ≡ 4
 registers-length c = sym (length-map (c .args .local .registers) _) ∙ c .good .1 .1 .1 .0 .1 .1 .1 .0 .1 .0 .1

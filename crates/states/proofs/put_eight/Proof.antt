@@ -1,4 +1,4 @@
--- `states::bytes::put_eight` meets its contract. The loop's invariant: the first k bytes are written. The measure is the number of
+-- `states::put_eight` meets its contract. The loop's invariant: the first k bytes are written. The measure is the number of
 -- bytes left.
 -- Assumes nothing.
 use Prim.Native.Nat.{_-_, _≤_}
@@ -8,8 +8,8 @@ use lib.ListN.{length, take}
 use borrow.Author.Needs.{needs}
 use Rattle.states.specs.Code.StateBytes.{Written}
 use Rattle.states.specs.Laws.StateWrites.{written-none, written-next, written-all}
-use Rattle.states.proofs.bytes.put_eight.Statement.{statement}
-use Rattle.states.proofs.bytes.put_eight.Tie as tie
+use Rattle.states.proofs.put_eight.Statement.{statement}
+use Rattle.states.proofs.put_eight.Tie as tie
 
 abbrev Inv-loop : tie.InvT-loop
 Inv-loop s₀ at new k₀ s k = (k ≤ 8) × Written s₀ s at (take k new)
