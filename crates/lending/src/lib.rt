@@ -1,11 +1,10 @@
 // What is lent to the steps of an accepted table's orders: the table in arrays of numbers, and the state that an order
 // starts from.
-pub mod arrays;
 pub mod first;
 
-use crate::arrays::program_of;
-use crate::arrays::times_of;
 use crate::first::first_state;
+use filling::program_of;
+use filling::times_of;
 use snapshots::PROGRAM;
 use snapshots::STATE;
 use snapshots::TIMES;

@@ -1,4 +1,4 @@
-// One function for each operation, and the instruction that takes its operation's.
+// One function for each operation.
 use locals::held::acquire_lock;
 use locals::held::no_locks;
 use locals::held::release_lock;
@@ -11,25 +11,14 @@ use locals::registers::with_register;
 use locals::registers::with_variable;
 use machine::Effect;
 use machine::Local;
-use snapshots::ACQUIRE;
-use snapshots::ADD;
-use snapshots::ASSERT;
-use snapshots::LOAD;
 use snapshots::LOCKS;
-use snapshots::PICK;
-use snapshots::RELEASE;
-use snapshots::SET;
-use snapshots::SKIP_IF_EQUAL;
-use snapshots::SKIP_IF_LESS;
-use snapshots::STORE_VALUE;
-use snapshots::SUBTRACT;
 use snapshots::VARIABLES;
 use taskfile::Instruction;
 ghost use mathlib.Core.Path.{_≡_};
 ghost use Prim.Native.Nat.{_<_, _+_, _%_};
 ghost use Rattle.notation.specs.Lists.{if_then_else_};
 ghost use Rattle.machine.specs.Instructions.{end, load, store, setNumber, add, subtract, skipLess, skipEqual, pick};
-ghost use Rattle.machine.specs.Instructions.{acquireLock, releaseLock, assert, perform};
+ghost use Rattle.machine.specs.Instructions.{acquireLock, releaseLock, assert};
 ghost use Rattle.machine.specs.Instructions.{goesOn, skipping, withHeld, withRegister};
 
 // The effect of an instruction that gives register r the value x.
@@ -178,27 +167,5 @@ pub fn assert_register(i: Instruction, v: u8, l: Local, s: [u8; VARIABLES]) -> E
         store: s,
         failed: register_of(l, i.a) == 0,
         ended: false,
-    }
-}
-
-// What an instruction does, where v is the Pick's choice. An operation above 11 is taken as End.
-pub fn perform_instruction(i: Instruction, v: u8, l: Local, s: [u8; VARIABLES]) -> Effect
-    requires { ⌜ l .next < 16 ⌝ }
-    ensures { λ e. ⌜ e ≡ perform i v l s ⌝ }
-{
-    let operation = i.operation;
-    match operation {
-        LOAD => load_variable(i, v, l, s),
-        STORE_VALUE => store_register(i, v, l, s),
-        SET => set_register(i, v, l, s),
-        ADD => add_register(i, v, l, s),
-        SUBTRACT => subtract_register(i, v, l, s),
-        SKIP_IF_LESS => skip_if_less(i, v, l, s),
-        SKIP_IF_EQUAL => skip_if_equal(i, v, l, s),
-        PICK => pick_value(i, v, l, s),
-        ACQUIRE => acquire_step(i, v, l, s),
-        RELEASE => release_step(i, v, l, s),
-        ASSERT => assert_register(i, v, l, s),
-        _ => end_job(i, v, l, s),
     }
 }

@@ -1,10 +1,10 @@
 // The replay's entry.
-use crate::bytes::replay_from;
 use acceptance::entries::accept_file;
 use answers::ended_run;
 use answers::refused_run;
 use lending::lend;
 use machine::RunAnswer;
+use replaying::replay_from;
 use snapshots::Replayed;
 use taskfile::Check;
 use taskfile::Table;

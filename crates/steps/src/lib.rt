@@ -1,6 +1,6 @@
 // The step that an order byte asks for.
+use instructions::perform_instruction;
 use machine::Effect;
-use operations::perform_instruction;
 use order::Frame;
 use programs::instruction_at;
 use snapshots::DEPTH;

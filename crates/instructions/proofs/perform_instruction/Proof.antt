@@ -1,12 +1,12 @@
--- `operations::perform_instruction` meets its contract: each arm's operation is the definition's of that number, and every
+-- `instructions::perform_instruction` meets its contract: each arm's operation is the definition's of that number, and every
 -- other number is End's.
 -- Assumes nothing.
 use mathlib.Core.Path.{sym, _∙_}
 use borrow.Author.Needs.{needs}
 use Rattle.machine.specs.Instructions.{operations}
 use Rattle.machine.specs.Laws.InstructionLaws.{performed, performed-end}
-use Rattle.operations.proofs.perform_instruction.Statement.{statement}
-use Rattle.operations.proofs.perform_instruction.Tie as tie
+use Rattle.instructions.proofs.perform_instruction.Statement.{statement}
+use Rattle.instructions.proofs.perform_instruction.Tie as tie
 
 load-variable-requires : tie.Need-load-variable-requires
 load-variable-requires c κs = search needs

@@ -1,4 +1,4 @@
--- `lending::arrays::program_of` meets its contract. The loop's invariant: if the program began with a table's bodies, it holds these and the tasks
+-- `filling::program_of` meets its contract. The loop's invariant: if the program began with a table's bodies, it holds these and the tasks
 -- of the jobs before x. The measure is the number of jobs left. Assumes nothing.
 use mathlib.Core.Path.{refl}
 use Prim.Native.Nat.{_-_, _≤_}
@@ -6,8 +6,8 @@ use native.Mathlib.Omega.{arith}
 use Rattle.taskfile.specs.declared.Table.{Table}
 use Rattle.snapshots.specs.Laws.LentLaws.{owners-none, owners-more, owners-all}
 use Rattle.snapshots.specs.Code.Lent.{BodiesTo, OwnersTo}
-use Rattle.lending.proofs.arrays.program_of.Statement.{statement}
-use Rattle.lending.proofs.arrays.program_of.Tie as tie
+use Rattle.filling.proofs.program_of.Statement.{statement}
+use Rattle.filling.proofs.program_of.Tie as tie
 
 abbrev Inv-loop : tie.InvT-loop
 Inv-loop list program₀ x₀ program x = ((t : Table) → BodiesTo t 128 program₀ → OwnersTo t list x program) × (x ≤ list .count)

@@ -1,4 +1,4 @@
--- `replay::bytes::replay_from` meets its contract: each outcome is one case of the replay. The loop's invariant: the whole replay is the
+-- `replaying::replay_from` meets its contract: each outcome is one case of the replay. The loop's invariant: the whole replay is the
 -- replay of the bytes left, from the state in hand. The measure is the number of bytes left.
 -- Assumes nothing.
 use mathlib.Core.Path.{refl, ap, _∙_}
@@ -8,9 +8,9 @@ use lib.ListN.{length}
 use Rattle.snapshots.specs.Code.ReplayParts.{replayedOf}
 use Rattle.snapshots.specs.Laws.ReplayLoopLaws.{Reached, replay-past, replay-whole, replay-short}
 use Rattle.states.specs.Code.StateBytes.{snapshotIn, IsState}
-use Rattle.replay.specs.Laws.StepBytes.{step-refused, step-goes}
-use Rattle.replay.proofs.bytes.replay_from.Statement.{statement}
-use Rattle.replay.proofs.bytes.replay_from.Tie as tie
+use Rattle.replaying.specs.Laws.StepBytes.{step-refused, step-goes}
+use Rattle.replaying.proofs.replay_from.Statement.{statement}
+use Rattle.replaying.proofs.replay_from.Tie as tie
 
 abbrev Inv-loop : tie.InvT-loop
 Inv-loop program times locks order s₀ index₀ s index = IsState s × Reached program times locks (snapshotIn s₀) order (snapshotIn s) index

@@ -1,9 +1,9 @@
--- `replay::bytes::outcome` meets its contract: the store and the failed jobs are what is read of the state.
+-- `replaying::outcome` meets its contract: the store and the failed jobs are what is read of the state.
 -- Assumes nothing.
 use borrow.Author.Needs.{needs}
-use Rattle.replay.specs.Laws.ReadLaws.{outcome-made}
-use Rattle.replay.proofs.bytes.outcome.Statement.{statement}
-use Rattle.replay.proofs.bytes.outcome.Tie as tie
+use Rattle.replaying.specs.Laws.ReadLaws.{outcome-made}
+use Rattle.replaying.proofs.outcome.Statement.{statement}
+use Rattle.replaying.proofs.outcome.Tie as tie
 
 eight-at-requires : tie.Need-eight-at-requires
 eight-at-requires c κs = search needs

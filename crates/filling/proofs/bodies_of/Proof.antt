@@ -1,12 +1,12 @@
--- `lending::arrays::bodies_of` meets its contract. The loop's invariant: the instructions before number n are stored. The measure is the
+-- `filling::bodies_of` meets its contract. The loop's invariant: the instructions before number n are stored. The measure is the
 -- number of instructions left. Assumes nothing.
 use mathlib.Core.Path.{refl}
 use Prim.Native.Nat.{_-_}
 use native.Mathlib.Omega.{arith}
 use Rattle.snapshots.specs.Laws.LentLaws.{bodies-none, bodies-more, bodies-all, instruction-read}
 use Rattle.snapshots.specs.Code.Lent.{BodiesTo}
-use Rattle.lending.proofs.arrays.bodies_of.Statement.{statement}
-use Rattle.lending.proofs.arrays.bodies_of.Tie as tie
+use Rattle.filling.proofs.bodies_of.Statement.{statement}
+use Rattle.filling.proofs.bodies_of.Tie as tie
 
 abbrev Inv-loop : tie.InvT-loop
 Inv-loop t program₀ n₀ program n = BodiesTo t n program

@@ -1,4 +1,4 @@
--- `starts::goes_over` meets its contract: each return is one case of the definition's test.
+-- `precedence::goes_over` meets its contract: each return is one case of the definition's test.
 -- Assumes nothing.
 use mathlib.Core.Path.{sym, _∙_}
 use borrow.Author.Tests.{not-true}
@@ -6,8 +6,8 @@ use Rattle.snapshots.specs.Laws.StartLaws.{over-no-job, over-blocked}
 use Rattle.states.specs.Code.StateBytes.{frameAt, frameIn}
 use Rattle.states.specs.Laws.StateReads.{over-priority}
 use borrow.Author.Needs.{needs}
-use Rattle.starts.proofs.goes_over.Statement.{statement}
-use Rattle.starts.proofs.goes_over.Tie as tie
+use Rattle.precedence.proofs.goes_over.Statement.{statement}
+use Rattle.precedence.proofs.goes_over.Tie as tie
 
 mul-at : tie.Need-mul-at
 mul-at c = search needs

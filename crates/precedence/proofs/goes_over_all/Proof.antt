@@ -1,4 +1,4 @@
--- `starts::goes_over_all` meets its contract. The loop's invariant: y may start over every active job if it may over those
+-- `precedence::goes_over_all` meets its contract. The loop's invariant: y may start over every active job if it may over those
 -- from k on. The measure is the number of active jobs left.
 -- Assumes nothing.
 use Prim.Native.Nat.{_≤_, _-_}
@@ -10,8 +10,8 @@ use Rattle.snapshots.specs.Code.SnapshotSteps.{goesOver, stackOf}
 use Rattle.states.specs.Code.StateBytes.{snapshotIn}
 use Rattle.states.specs.Laws.StateReads.{over-fails, over-next, over-end}
 use borrow.Author.Needs.{needs}
-use Rattle.starts.proofs.goes_over_all.Statement.{statement}
-use Rattle.starts.proofs.goes_over_all.Tie as tie
+use Rattle.precedence.proofs.goes_over_all.Statement.{statement}
+use Rattle.precedence.proofs.goes_over_all.Tie as tie
 
 abbrev Inv-loop : tie.InvT-loop
 Inv-loop program times locks s y depth k₀ k =

@@ -1,4 +1,4 @@
-// The replay of an order.
+// The replay of an order's bytes, from a state on.
 use ends::failed_in;
 use ends::finished;
 use snapshots::EXTRA;

@@ -1,4 +1,4 @@
--- `starts::must_wait` meets its contract. The loop's invariant: y must wait for a task's job if it must for one of a task
+-- `precedence::must_wait` meets its contract. The loop's invariant: y must wait for a task's job if it must for one of a task
 -- from k on. The measure is the number of tasks left.
 -- Assumes nothing.
 use Prim.Native.Nat.{_≤_, _-_}
@@ -8,8 +8,8 @@ use Rattle.notation.specs.Lists.{any, from, upTo}
 use Rattle.snapshots.specs.Code.SnapshotSteps.{waitsFor, waits}
 use Rattle.notation.specs.Laws.SomeLaws.{some-found, some-later, some-missing}
 use Rattle.states.specs.Code.StateBytes.{snapshotIn}
-use Rattle.starts.proofs.must_wait.Statement.{statement}
-use Rattle.starts.proofs.must_wait.Tie as tie
+use Rattle.precedence.proofs.must_wait.Statement.{statement}
+use Rattle.precedence.proofs.must_wait.Tie as tie
 
 abbrev Inv-loop : tie.InvT-loop
 Inv-loop program times s y k₀ k =

@@ -1,9 +1,9 @@
--- `starts::waits_for` meets its contract: each return is one case of the definition's test.
+-- `precedence::waits_for` meets its contract: each return is one case of the definition's test.
 -- Assumes nothing.
 use Rattle.states.specs.Laws.StateReads.{owned-job, waits-unowned, waits-itself, waits-other}
 use borrow.Author.Needs.{needs}
-use Rattle.starts.proofs.waits_for.Statement.{statement}
-use Rattle.starts.proofs.waits_for.Tie as tie
+use Rattle.precedence.proofs.waits_for.Statement.{statement}
+use Rattle.precedence.proofs.waits_for.Tie as tie
 
 cast-t7 : tie.Need-cast-t7
 cast-t7 c = search needs

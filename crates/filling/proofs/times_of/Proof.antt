@@ -1,12 +1,12 @@
--- `lending::arrays::times_of` meets its contract. The loop's invariant: the times of the jobs before x are stored. The measure is the
+-- `filling::times_of` meets its contract. The loop's invariant: the times of the jobs before x are stored. The measure is the
 -- number of jobs left. Assumes nothing.
 use mathlib.Core.Path.{refl}
 use Prim.Native.Nat.{_-_}
 use native.Mathlib.Omega.{arith}
 use Rattle.snapshots.specs.Laws.LentLaws.{times-none, times-more, times-all}
 use Rattle.snapshots.specs.Code.Lent.{TimesTo}
-use Rattle.lending.proofs.arrays.times_of.Statement.{statement}
-use Rattle.lending.proofs.arrays.times_of.Tie as tie
+use Rattle.filling.proofs.times_of.Statement.{statement}
+use Rattle.filling.proofs.times_of.Tie as tie
 
 abbrev Inv-loop : tie.InvT-loop
 Inv-loop list times₀ x₀ times x = TimesTo list x times
