@@ -57,12 +57,12 @@ pub fn failed_in(s: &[u8; STATE]) -> [bool; JOBS]
 pub fn some_failed(s: &[u8; STATE]) -> bool
     ensures { λ b. ⌜ b ≡ any (λ flag. flag) (snapshotIn (now (s .entry)) .failed) ⌝ }
 {
-    let mut x: usize = 0;
-    while x < JOBS {
-        if s[FAILED + x] != 0 {
+    let mut k: usize = 0;
+    while k < JOBS {
+        if s[FAILED + k] != 0 {
             return true;
         }
-        x += 1;
+        k += 1;
     }
     false
 }
