@@ -3,4 +3,3 @@ pub mod ReplayParts
 pub mod Shows
 pub mod SnapshotSteps
 pub mod Snapshots
-pub mod StepParts

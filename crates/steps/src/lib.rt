@@ -21,9 +21,8 @@ use turns::turn_of;
 ghost use mathlib.Core.Path.{_≡_};
 ghost use Prim.Native.Nat.{_/_, _%_, _≤_, _<_};
 ghost use mathlib.Core.Bool.{true};
-ghost use Rattle.snapshots.specs.Code.SnapshotSteps.{afterIn, stepIn};
+ghost use Rattle.snapshots.specs.Code.SnapshotSteps.{afterIn, stepIn, madeIn};
 ghost use Rattle.states.specs.Code.StateBytes.{snapshotIn, IsState};
-ghost use Rattle.snapshots.specs.Code.StepParts.{madeIn};
 
 // Makes of a state what it is after job x of task i has had an effect, with so many active jobs under it.
 pub fn put_effect(s: &mut [u8; STATE], x: Job, under: u8, i: Task, effect: Effect)

@@ -20,8 +20,7 @@ use timing::Job;
 ghost use mathlib.Core.Path.{_≡_};
 ghost use Prim.Native.Nat.{_≤_, _<_};
 ghost use mathlib.Core.Bool.{true};
-ghost use Rattle.snapshots.specs.Code.SnapshotSteps.{turnIn, runsIn};
-ghost use Rattle.snapshots.specs.Code.StepParts.{offeredIn};
+ghost use Rattle.snapshots.specs.Code.SnapshotSteps.{turnIn, runsIn, offeredIn};
 ghost use Rattle.states.specs.Code.StateBytes.{snapshotIn, IsState};
 
 // Is the active job started last one of task i? Tasks are below 8, so that no other number is taken for an index.

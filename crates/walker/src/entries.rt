@@ -2,6 +2,7 @@
 use acceptance::entries::accept_file;
 use lending::lend;
 use outcomes::Outcome;
+use outcomes::clear_from;
 use outcomes::outcome_answer;
 use outcomes::refused_walk;
 use outcomes::shown_length;
@@ -17,19 +18,7 @@ ghost use Prim.Native.Nat.{_≤_};
 ghost use lib.ListN.{length};
 ghost use Rattle.taskfile.specs.Code.JudgingParts.{Shaped};
 ghost use Rattle.walk.specs.WalkEntry.{walkAnswer, walkAfter};
-ghost use Rattle.walker.specs.Code.WalkParts.{clearedFrom, WalkOf};
-
-// Zeros from a byte of the buffer on, up to the room of an order.
-pub fn clear_from(from: usize, out: &mut [u8])
-    requires { ⌜ (from ≤ 512) × (512 ≤ length (now out)) ⌝ }
-    ensures { λ _. ⌜ now (out .exit) ≡ clearedFrom from (now (out .entry)) ⌝ }
-{
-    let mut i = from;
-    while i < ORDER_ROOM {
-        out[i] = 0;
-        i += 1;
-    }
-}
+ghost use Rattle.walker.specs.Code.WalkParts.{WalkOf};
 
 // The walk of a table's jobs. The bytes of an order found stand at the front of the buffer.
 pub fn walk_table(t: Table, list: JobList, allowance: u64, out: &mut [u8]) -> Outcome

@@ -10,8 +10,7 @@ use Rattle.taskfile.specs.declared.Ceilings.{Ceilings}
 use Rattle.notation.specs.Lists.{if_then_else_}
 use Rattle.order.specs.declared.Frame.{Frame}
 use Rattle.snapshots.specs.Code.Snapshots.{Snapshot}
-use Rattle.snapshots.specs.Code.SnapshotSteps.{ownerIn, ownedBy, instructionIn, topOf, turnIn, stepIn}
-use Rattle.snapshots.specs.Code.StepParts.{offeredIn}
+use Rattle.snapshots.specs.Code.SnapshotSteps.{ownerIn, ownedBy, instructionIn, topOf, turnIn, stepIn, offeredIn}
 use Rattle.moves.specs.declared.Candidate.{Candidate}
 
 -- no byte from `first` up to `last` is a step

@@ -143,12 +143,20 @@ afterIn p x under i effect =
       stack = if effect .ended then p .stack else set (p .stack) under (record { job = x; local = effect .local });
     }
 
--- the step of the job in the frame, with the value v, if that value is on offer
+-- is the value v on offer to the job in the frame, of task i?
+unfoldable pub offeredIn : Program → Frame → ℕ → ℕ → Bool
+offeredIn program f i v = ltb (f .local .next) 16 && member v (values (instructionIn program i (f .local .next)))
+
+-- the snapshot after its step with that value
+unfoldable pub madeIn : Program → Snapshot → Frame → ℕ → ℕ → ℕ → Snapshot
+madeIn program p f under i v =
+    afterIn p (f .job) under i (perform (instructionIn program i (f .local .next)) v (f .local) (p .store))
+
+-- the step, if the value is on offer
 unfoldable pub stepWithIn : Program → Snapshot → Frame → ℕ → ℕ → ℕ → Stepped
 stepWithIn program p f under i v =
-    let instruction = instructionIn program i (f .local .next) in
-    if ltb (f .local .next) 16 && member v (values instruction)
-    then record { allowed = true; state = afterIn p (f .job) under i (perform instruction v (f .local) (p .store)) }
+    if offeredIn program f i v
+    then record { allowed = true; state = madeIn program p f under i v }
     else record { allowed = false; state = p }
 
 unfoldable pub dueStep : Program → Snapshot → ℕ → ℕ → Due → Stepped

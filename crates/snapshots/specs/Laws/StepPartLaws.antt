@@ -9,8 +9,7 @@ use Rattle.notation.specs.Lists.{if_then_else_}
 use Rattle.notation.specs.Laws.TestLaws.{both}
 use Rattle.order.specs.declared.Frame.{Frame}
 use Rattle.snapshots.specs.Code.Snapshots.{Snapshot}
-use Rattle.snapshots.specs.Code.SnapshotSteps.{Program, stepWithIn}
-use Rattle.snapshots.specs.Code.StepParts.{offeredIn, madeIn}
+use Rattle.snapshots.specs.Code.SnapshotSteps.{Program, stepWithIn, offeredIn, madeIn}
 
 -- a job that has a value on offer is inside its body
 pub offered-inside : (program : Program) (f : Frame) (i v : ℕ) → offeredIn program f i v ≡ true → f .local .next < 16
@@ -20,10 +19,10 @@ offered-inside program f i v h = ltb-true (f .local .next) 16 (both (ltb (f .loc
 -- these are what the step does
 pub with-offered : (program : Program) (p : Snapshot) (f : Frame) (under i v : ℕ) → offeredIn program f i v ≡ true
     → stepWithIn program p f under i v ≡ record { allowed = true; state = madeIn program p f under i v }
-unfolding offeredIn madeIn stepWithIn if_then_else_
+unfolding stepWithIn if_then_else_
 with-offered program p f under i v e = rw e refl
 
 pub with-refused : (program : Program) (p : Snapshot) (f : Frame) (under i v : ℕ) → offeredIn program f i v ≡ false
     → stepWithIn program p f under i v ≡ record { allowed = false; state = p }
-unfolding offeredIn madeIn stepWithIn if_then_else_
+unfolding stepWithIn if_then_else_
 with-refused program p f under i v e = rw e refl

@@ -11,10 +11,9 @@ use Rattle.taskfile.specs.declared.Ceilings.{Ceilings}
 use Rattle.notation.specs.Lists.{if_then_else_, any}
 use Rattle.snapshots.specs.Code.Snapshots.{Snapshot, Stepped}
 use Rattle.order.specs.Orders.{step}
-use Rattle.snapshots.specs.Code.SnapshotSteps.{finishedIn, stepIn}
+use Rattle.snapshots.specs.Code.SnapshotSteps.{finishedIn, stepIn, madeIn}
 use Rattle.snapshots.specs.Laws.TurnLaws.{due-bounds, step-due}
 use Rattle.snapshots.specs.Laws.StepPartLaws.{offered-inside, with-offered}
-use Rattle.snapshots.specs.Code.StepParts.{madeIn}
 use Rattle.moves.specs.declared.Candidate.{Candidate}
 use Rattle.outcomes.specs.declared.Outcome.{Outcome}
 use Rattle.trials.specs.Laws.TrialLaws.{path-kept}

@@ -1,9 +1,8 @@
 -- The walk of a table's parts, as its functions yield it.
 -- Assumes nothing.
 use mathlib.Core.Path.{_≡_}
-use Prim.Native.Nat.{ℕ, _-_}
-use mathlib.Core.List.{List, _++_}
-use lib.ListN.{take, drop, replicate}
+use Prim.Native.Nat.{ℕ}
+use mathlib.Core.List.{List}
 use Rattle.timing.specs.Accepted.{Accepted}
 use Rattle.timing.specs.Code.IsAccepted.{IsAccepted}
 use Rattle.walk.specs.Walks.{walk}
@@ -18,7 +17,3 @@ abbrev pub WalkOf : Table → JobList → ℕ → List ℕ → List ℕ → Outc
 WalkOf t list allowance before after r =
     (a : Accepted) → IsAccepted a → t ≡ a .table → list ≡ jobListOf (a .jobs)
     → Came (walk a) 0 allowance 0 before after r
-
--- the bytes of an order's room from one on are zero, and all others are kept
-abbrev pub clearedFrom : ℕ → List ℕ → List ℕ
-clearedFrom n buffer = take n buffer ++ (replicate (512 - n) 0 ++ drop 512 buffer)

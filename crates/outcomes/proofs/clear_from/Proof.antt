@@ -1,10 +1,10 @@
--- `walker::entries::clear_from` meets its contract. The loop's invariant: the bytes up to i are cleared. The measure is the number of bytes
+-- `outcomes::clear_from` meets its contract. The loop's invariant: the bytes up to i are cleared. The measure is the number of bytes
 -- left. Assumes nothing.
 use Prim.Native.Nat.{_-_}
 use native.Mathlib.Omega.{arith}
 use Rattle.notation.specs.Laws.ClearLaws.{Cleared, cleared-none, cleared-length, cleared-more, cleared-all}
-use Rattle.walker.proofs.entries.clear_from.Statement.{statement}
-use Rattle.walker.proofs.entries.clear_from.Tie as tie
+use Rattle.outcomes.proofs.clear_from.Statement.{statement}
+use Rattle.outcomes.proofs.clear_from.Tie as tie
 
 abbrev Inv-loop : tie.InvT-loop
 Inv-loop from out₀ i₀ out i = Cleared from out₀ i out
