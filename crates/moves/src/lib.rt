@@ -28,8 +28,7 @@ ghost use Prim.Native.Nat.{_≤_, _<_};
 ghost use Rattle.states.specs.Code.StateBytes.{snapshotIn, IsState};
 ghost use Rattle.moves.specs.Code.MoveParts.{NextStep, firstByte, maybeDue, topJob, valueAfter};
 
-// A move: its order byte, or 128 if there is none, the byte from which on the next move is looked for, and whose turn
-// it is.
+// A move: its order byte, or `NO_MOVE`, the byte from which on the next move is looked for, and whose turn it is.
 pub struct Candidate {
     pub byte: u8,
     pub next: u8,
@@ -58,8 +57,8 @@ pub fn byte_after(program: &[u8; PROGRAM], f: Frame, byte: u8) -> u8
     byte + 1
 }
 
-// May it be task i's turn, where `top` is the active job started last, or 32? Not if that is not one of task i and
-// task i has no job left. This spares the full test for most tasks.
+// May it be task i's turn, where `top` is the active job started last, or `NO_JOB`? Not if that is not one of task i
+// and task i has no job left. This spares the full test for most tasks.
 pub fn may_be_due(program: &[u8; PROGRAM], s: &[u8; STATE], top: Job, i: Task) -> bool
     requires { ⌜ i .0 < 8 ⌝ }
     ensures { λ b. ⌜ b ≡ maybeDue (now (program .entry)) (snapshotIn (now (s .entry)) .upcoming) (top .0) (i .0) ⌝ }
@@ -70,8 +69,8 @@ pub fn may_be_due(program: &[u8; PROGRAM], s: &[u8; STATE], top: Job, i: Task) -
     owned_by(program, i, Job(s[UPCOMING + (i.0 as usize)]))
 }
 
-// The first byte from `byte` on of a task that is not below that of `top`, the active job started last, or 32: no task
-// below has a turn.
+// The first byte from `byte` on of a task that is not below that of `top`, the active job started last, or `NO_JOB`:
+// no task below has a turn.
 pub fn first_byte(program: &[u8; PROGRAM], top: Job, byte: u8) -> u8
     ensures { λ r. ⌜ r ≡ firstByte (now (program .entry)) (top .0) byte ⌝ }
 {
@@ -89,7 +88,7 @@ pub fn first_byte(program: &[u8; PROGRAM], top: Job, byte: u8) -> u8
     byte
 }
 
-// The first byte from `byte` on that is a step, or 128, where `top` is the active job started last, or 32.
+// The first byte from `byte` on that is a step, or `NO_MOVE`, where `top` is the active job started last, or `NO_JOB`.
 pub fn next_move(
     program: &[u8; PROGRAM],
     times: &[u64; TIMES],
@@ -126,7 +125,7 @@ pub fn next_move(
     }
 }
 
-// The active job started last, or 32.
+// The active job started last, or `NO_JOB`.
 pub fn top_job(s: &[u8; STATE]) -> Job
     requires { ⌜ IsState (now s) ⌝ }
     ensures { λ x. ⌜ x .0 ≡ topJob (snapshotIn (now (s .entry))) ⌝ }

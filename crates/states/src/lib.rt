@@ -35,7 +35,7 @@ pub fn number_of(low: u8, high: u8) -> u16
     (low as u16) + 256 * (high as u16)
 }
 
-// The active job at position k.
+// The active job at position k: its number, a byte that is not used, its next position, its registers, its held locks.
 pub fn frame_at(s: &[u8; STATE], k: u8) -> Frame
     requires { ⌜ k < 8 ⌝ }
     ensures { λ f. ⌜ f ≡ frameIn (now (s .entry)) k ⌝ }

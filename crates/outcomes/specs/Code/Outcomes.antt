@@ -12,12 +12,15 @@ use Rattle.walk.specs.declared.WalkAnswer.{WalkAnswer}
 use Rattle.walk.specs.WalkEntry.{refusal}
 use Rattle.outcomes.specs.declared.Outcome.{Outcome}
 
+-- no order failed
 unfoldable pub heldAt : ℕ → Outcome
 heldAt count = record { found = false; stopped = false; count = count; length = 0; store = noStore; failed = noFlags }
 
+-- the allowance did not suffice
 unfoldable pub stoppedAt : ℕ → Outcome
 stoppedAt count = record { found = false; stopped = true; count = count; length = 0; store = noStore; failed = noFlags }
 
+-- a complete order, which fails if a job has
 unfoldable pub endedAt : Snapshot → ℕ → ℕ → Outcome
 endedAt p count at =
     if any (λ flag. flag) (p .failed)
