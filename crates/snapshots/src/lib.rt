@@ -4,124 +4,161 @@ use order::Frame;
 
 // ---- Limits and numbers of document 01.
 
-// The most tasks, locks, instructions of a body and jobs, and how many shared variables and registers there are.
+// Tasks of a table, at most.
 pub const TASKS: usize = 8;
 
+// Locks of a table, at most.
 pub const LOCKS: usize = 8;
 
+// Instructions of a body, at most.
 pub const INSTRUCTIONS: usize = 16;
 
+// Jobs of a table, at most.
 pub const JOBS: usize = 32;
 
+// Shared variables.
 pub const VARIABLES: usize = 8;
 
+// Registers of a job.
 pub const REGISTERS: usize = 4;
 
-// The numbers of tasks, locks, positions in a body, jobs, variables and registers are below these.
+// A task's number is below this.
 pub const TASK_LIMIT: u8 = TASKS as u8;
 
+// A lock's number is below this.
 pub const LOCK_LIMIT: u8 = LOCKS as u8;
 
+// A position in a body is below this.
 pub const POSITION_LIMIT: u16 = INSTRUCTIONS as u16;
 
+// A job's number is below this.
 pub const JOB_LIMIT: u8 = JOBS as u8;
 
+// A variable's number is below this.
 pub const VARIABLE_LIMIT: u8 = VARIABLES as u8;
 
+// A register's number is below this.
 pub const REGISTER_LIMIT: u8 = REGISTERS as u8;
 
-// The operations. 0 is End.
+// Operation Load.
 pub const LOAD: u8 = 1;
 
+// Operation Store.
 pub const STORE_VALUE: u8 = 2;
 
+// Operation Set.
 pub const SET: u8 = 3;
 
+// Operation Add.
 pub const ADD: u8 = 4;
 
+// Operation Subtract.
 pub const SUBTRACT: u8 = 5;
 
+// Operation Skip if less.
 pub const SKIP_IF_LESS: u8 = 6;
 
+// Operation Skip if equal.
 pub const SKIP_IF_EQUAL: u8 = 7;
 
+// Operation Pick.
 pub const PICK: u8 = 8;
 
+// Operation Acquire.
 pub const ACQUIRE: u8 = 9;
 
+// Operation Release.
 pub const RELEASE: u8 = 10;
 
+// Operation Assert.
 pub const ASSERT: u8 = 11;
 
-// An order has room for so many bytes, the last of them at this place. A byte is so many times the task, and the
-// value, at most the last.
+// Bytes of an order, at most: the room that a buffer has for one.
 pub const ORDER_ROOM: usize = 512;
 
-pub const LAST_STEP: usize = 511;
+// The place of the last byte in that room.
+pub const LAST_STEP: usize = ORDER_ROOM - 1;
 
+// An order byte is so many times the task, and the value.
 pub const VALUES: u8 = 16;
 
-pub const LAST_VALUE: u8 = 15;
+// The highest value.
+pub const LAST_VALUE: u8 = VALUES - 1;
 
-// What the caller or the author of an order is refused by.
+// Refused: a buffer too short.
 pub const ROOM: u8 = 20;
 
+// Refused: more moves than the allowance.
 pub const UNDECIDED: u8 = 21;
 
+// Refused: not a legal step.
 pub const STEP: u8 = 30;
 
+// Refused: an order that ends with jobs unfinished.
 pub const SHORT: u8 = 31;
 
+// Refused: bytes after all jobs ended.
 pub const EXTRA: u8 = 32;
 
 // ---- A state in bytes.
 
-// How many bytes a state has. Of these, where the store stands, for each task its first job not yet begun, a flag for
-// each failed job, the number of active jobs, and the active jobs in the order in which they started.
-pub const STATE: usize = 192;
-
+// Where the store stands.
 pub const STORE: usize = 0;
 
-pub const UPCOMING: usize = 8;
+// Where the first job not yet begun of each task stands.
+pub const UPCOMING: usize = STORE + VARIABLES;
 
-pub const FAILED: usize = 16;
+// Where the flag of each job stands, 1 if it has failed.
+pub const FAILED: usize = UPCOMING + TASKS;
 
-pub const DEPTH: usize = 48;
+// Where the number of active jobs stands.
+pub const DEPTH: usize = FAILED + JOBS;
 
+// Where the active jobs stand, in the order in which they started.
 pub const STACK: usize = 64;
 
-// How many bytes an active job has, and where in them its held locks stand.
+// Bytes of an active job.
 pub const FRAME: usize = 16;
 
+// Where the held locks stand among them.
 pub const HELD: usize = 8;
+
+// Bytes of a state.
+pub const STATE: usize = STACK + FRAME * TASKS;
 
 // ---- A table in the arrays that are lent to the steps.
 
-// How many instructions a program has in all, and how many bytes, a task's body and an instruction; and where the task
-// of each job stands.
+// Instructions of a program.
 pub const BODIES: usize = TASKS * INSTRUCTIONS;
 
-pub const PROGRAM: usize = 544;
-
-pub const BODY: usize = 64;
-
+// Bytes of an instruction.
 pub const INSTRUCTION: usize = 4;
 
-pub const OWNERS: usize = 512;
+// Bytes of a task's body.
+pub const BODY: usize = INSTRUCTION * INSTRUCTIONS;
 
-// How many times there are, the arrival of each job first; and where the latest finishes stand.
-pub const TIMES: usize = 64;
+// Where the task of each job stands in a program.
+pub const OWNERS: usize = BODY * TASKS;
 
-pub const LATEST: usize = 32;
+// Bytes of a program.
+pub const PROGRAM: usize = OWNERS + JOBS;
+
+// Where the latest finish of each job stands among the times, after the arrivals.
+pub const LATEST: usize = JOBS;
+
+// How many times there are.
+pub const TIMES: usize = LATEST + JOBS;
 
 // ---- What stands for nothing.
 
-// No task's number, no job's number, and no move's byte: each the first number past the last.
+// No task's number.
 pub const NO_TASK: u8 = TASK_LIMIT;
 
+// No job's number.
 pub const NO_JOB: u8 = JOB_LIMIT;
 
-pub const NO_MOVE: u8 = 128;
+// No move's byte.
+pub const NO_MOVE: u8 = VALUES * TASK_LIMIT;
 
 // Whose turn a byte of a task is, if anyone's: the job that steps, and how many active jobs are under it.
 pub struct Due {
