@@ -1,5 +1,7 @@
 // What an entry that runs jobs answers.
 use machine::RunAnswer;
+use snapshots::JOBS;
+use snapshots::VARIABLES;
 ghost use mathlib.Core.Path.{_≡_};
 ghost use Rattle.notation.specs.Checked.{refused, passed};
 ghost use Rattle.machine.specs.Buffers.{runAnswer, unwritten};
@@ -11,14 +13,14 @@ pub fn refused_run(number: u8, place: u32) -> RunAnswer
     RunAnswer {
         number: number,
         place: place,
-        store: [0; 8],
-        failed: [false; 32],
+        store: [0; VARIABLES],
+        failed: [false; JOBS],
         length: 0,
     }
 }
 
 // An end, with nothing written.
-pub fn ended_run(store: [u8; 8], failed: [bool; 32]) -> RunAnswer
+pub fn ended_run(store: [u8; VARIABLES], failed: [bool; JOBS]) -> RunAnswer
     ensures { λ r. ⌜ r ≡ runAnswer (unwritten (passed (record { store = store; failed = failed }))) ⌝ }
 {
     RunAnswer {

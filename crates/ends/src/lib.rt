@@ -1,5 +1,12 @@
 // How a run stands at a state: whether all jobs have ended, and which have failed.
-use states::lent::owned_by;
+use programs::owned_by;
+use snapshots::DEPTH;
+use snapshots::FAILED;
+use snapshots::JOBS;
+use snapshots::PROGRAM;
+use snapshots::STATE;
+use snapshots::TASK_LIMIT;
+use snapshots::UPCOMING;
 use taskfile::Task;
 use timing::Job;
 ghost use mathlib.Core.Path.{_≡_};
@@ -9,12 +16,12 @@ ghost use Rattle.snapshots.specs.Code.SnapshotSteps.{hasUpcoming, finishedIn};
 ghost use Rattle.states.specs.Code.StateBytes.{snapshotIn};
 
 // Has some task a job not yet begun?
-pub fn some_upcoming(program: &[u8; 544], s: &[u8; 192]) -> bool
+pub fn some_upcoming(program: &[u8; PROGRAM], s: &[u8; STATE]) -> bool
     ensures { λ b. ⌜ b ≡ any (hasUpcoming (now (program .entry)) (snapshotIn (now (s .entry)) .upcoming)) (upTo 8) ⌝ }
 {
     let mut k: u8 = 0;
-    while k < 8 {
-        let x = Job(s[8 + (k as usize)]);
+    while k < TASK_LIMIT {
+        let x = Job(s[UPCOMING + (k as usize)]);
         if owned_by(program, Task(k), x) {
             return true;
         }
@@ -24,38 +31,38 @@ pub fn some_upcoming(program: &[u8; 544], s: &[u8; 192]) -> bool
 }
 
 // Have all jobs ended?
-pub fn finished(program: &[u8; 544], s: &[u8; 192]) -> bool
+pub fn finished(program: &[u8; PROGRAM], s: &[u8; STATE]) -> bool
     ensures { λ b. ⌜ b ≡ finishedIn (now (program .entry)) (snapshotIn (now (s .entry))) ⌝ }
 {
-    if s[48] != 0 {
+    if s[DEPTH] != 0 {
         return false;
     }
     !some_upcoming(program, s)
 }
 
 // The flags of the failed jobs.
-pub fn failed_in(s: &[u8; 192]) -> [bool; 32]
+pub fn failed_in(s: &[u8; STATE]) -> [bool; JOBS]
     ensures { λ r. ⌜ r ≡ snapshotIn (now (s .entry)) .failed ⌝ }
 {
-    let mut failed = [false; 32];
+    let mut failed = [false; JOBS];
     let mut x: usize = 0;
-    while x < 32 {
-        failed[x] = s[16 + x] != 0;
+    while x < JOBS {
+        failed[x] = s[FAILED + x] != 0;
         x += 1;
     }
     failed
 }
 
 // Has a job failed?
-pub fn some_failed(s: &[u8; 192]) -> bool
+pub fn some_failed(s: &[u8; STATE]) -> bool
     ensures { λ b. ⌜ b ≡ any (λ flag. flag) (snapshotIn (now (s .entry)) .failed) ⌝ }
 {
-    let mut x: usize = 0;
-    while x < 32 {
-        if s[16 + x] != 0 {
+    let mut k: usize = 0;
+    while k < JOBS {
+        if s[FAILED + k] != 0 {
             return true;
         }
-        x += 1;
+        k += 1;
     }
     false
 }

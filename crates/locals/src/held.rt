@@ -1,18 +1,20 @@
 // A job's held locks, one number for each lock. No other file looks at the numbers.
+use snapshots::LOCK_LIMIT;
+use snapshots::LOCKS;
 ghost use mathlib.Core.Path.{_≡_};
 ghost use Prim.Native.Nat.{_≤_, _<_};
 ghost use lib.ListN.{take};
 ghost use Rattle.machine.specs.Held.{noLocks, holds, acquire, release, priority};
 
 // No lock.
-pub fn no_locks() -> [u8; 8]
+pub fn no_locks() -> [u8; LOCKS]
     ensures { λ r. ⌜ r ≡ noLocks ⌝ }
 {
-    [0; 8]
+    [0; LOCKS]
 }
 
 // Is the lock held?
-pub fn holds_lock(held: [u8; 8], lock: u8) -> bool
+pub fn holds_lock(held: [u8; LOCKS], lock: u8) -> bool
     requires { ⌜ lock < 8 ⌝ }
     ensures { λ r. ⌜ r ≡ holds held lock ⌝ }
 {
@@ -20,29 +22,29 @@ pub fn holds_lock(held: [u8; 8], lock: u8) -> bool
 }
 
 // The held locks and this one. A number that is no lock's changes nothing.
-pub fn acquire_lock(held: [u8; 8], lock: u8) -> [u8; 8]
+pub fn acquire_lock(held: [u8; LOCKS], lock: u8) -> [u8; LOCKS]
     ensures { λ r. ⌜ r ≡ acquire held lock ⌝ }
 {
     let mut more = held;
-    if lock < 8 {
+    if lock < LOCK_LIMIT {
         more[lock as usize] = 1;
     }
     more
 }
 
 // The held locks without this one.
-pub fn release_lock(held: [u8; 8], lock: u8) -> [u8; 8]
+pub fn release_lock(held: [u8; LOCKS], lock: u8) -> [u8; LOCKS]
     ensures { λ r. ⌜ r ≡ release held lock ⌝ }
 {
     let mut kept = held;
-    if lock < 8 {
+    if lock < LOCK_LIMIT {
         kept[lock as usize] = 0;
     }
     kept
 }
 
 // A job's priority: the largest of its base and the ceilings it holds, where the first `locks` ceilings are locks'.
-pub fn priority_of(ceilings: [u8; 8], locks: u8, base: u8, held: [u8; 8]) -> u8
+pub fn priority_of(ceilings: [u8; LOCKS], locks: u8, base: u8, held: [u8; LOCKS]) -> u8
     requires { ⌜ locks ≤ 8 ⌝ }
     ensures { λ r. ⌜ r ≡ priority (take locks ceilings) base held ⌝ }
 {

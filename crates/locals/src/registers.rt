@@ -2,6 +2,11 @@
 use crate::held::no_locks;
 use machine::Effect;
 use machine::Local;
+use snapshots::LOCKS;
+use snapshots::REGISTER_LIMIT;
+use snapshots::REGISTERS;
+use snapshots::VARIABLE_LIMIT;
+use snapshots::VARIABLES;
 ghost use mathlib.Core.Path.{_≡_};
 ghost use Prim.Native.Nat.{_<_};
 ghost use lib.ListN.{getD, set};
@@ -13,25 +18,29 @@ pub fn fresh_local() -> Local
 {
     Local {
         next: 0,
-        registers: [0; 4],
+        registers: [0; REGISTERS],
         held: no_locks(),
     }
 }
 
 // The value of one of four registers, passed as an array since its length is then known. A number that is
 // no register's has 0.
-fn value_of(registers: [u8; 4], r: u8) -> u8
+fn value_of(registers: [u8; REGISTERS], r: u8) -> u8
     ensures { λ x. ⌜ x ≡ getD registers r 0 ⌝ }
 {
-    if r < 4 { registers[r as usize] } else { 0 }
+    if r < REGISTER_LIMIT {
+        registers[r as usize]
+    } else {
+        0
+    }
 }
 
 // The four registers with one changed. A number that is no register's changes nothing.
-fn with_value(registers: [u8; 4], r: u8, x: u8) -> [u8; 4]
+fn with_value(registers: [u8; REGISTERS], r: u8, x: u8) -> [u8; REGISTERS]
     ensures { λ after. ⌜ after ≡ set registers r x ⌝ }
 {
     let mut after = registers;
-    if r < 4 {
+    if r < REGISTER_LIMIT {
         after[r as usize] = x;
     }
     after
@@ -59,7 +68,7 @@ pub fn with_register(l: Local, r: u8, x: u8) -> Local
 }
 
 // The same state with other held locks.
-pub fn with_held(l: Local, held: [u8; 8]) -> Local
+pub fn with_held(l: Local, held: [u8; LOCKS]) -> Local
     ensures { λ m. ⌜ m ≡ withHeld held l ⌝ }
 {
     let registers = l.registers;
@@ -81,25 +90,29 @@ pub fn skipping_some(l: Local, n: u8) -> Local
 }
 
 // The value of a shared variable. A number that is no variable's has 0.
-pub fn variable_of(store: [u8; 8], v: u8) -> u8
+pub fn variable_of(store: [u8; VARIABLES], v: u8) -> u8
     ensures { λ x. ⌜ x ≡ getD store v 0 ⌝ }
 {
-    if v < 8 { store[v as usize] } else { 0 }
+    if v < VARIABLE_LIMIT {
+        store[v as usize]
+    } else {
+        0
+    }
 }
 
 // The store with a variable changed. A number that is no variable's changes nothing.
-pub fn with_variable(store: [u8; 8], v: u8, x: u8) -> [u8; 8]
+pub fn with_variable(store: [u8; VARIABLES], v: u8, x: u8) -> [u8; VARIABLES]
     ensures { λ r. ⌜ r ≡ set store v x ⌝ }
 {
     let mut after = store;
-    if v < 8 {
+    if v < VARIABLE_LIMIT {
         after[v as usize] = x;
     }
     after
 }
 
 // The effect of an instruction after which the job goes on and no assertion has failed.
-pub fn going_on(l: Local, store: [u8; 8]) -> Effect
+pub fn going_on(l: Local, store: [u8; VARIABLES]) -> Effect
     ensures { λ e. ⌜ e ≡ goesOn l store ⌝ }
 {
     Effect {

@@ -1,4 +1,5 @@
 // The values on offer at an instruction.
+use snapshots::PICK;
 use taskfile::Instruction;
 ghost use mathlib.Core.Path.{_≡_};
 ghost use Rattle.notation.specs.Lists.{member};
@@ -8,5 +9,9 @@ ghost use Rattle.machine.specs.Instructions.{values};
 pub fn on_offer(i: Instruction, v: u8) -> bool
     ensures { λ r. ⌜ r ≡ member v (values i) ⌝ }
 {
-    if i.operation == 8 { v <= i.b } else { v == 0 }
+    if i.operation == PICK {
+        v <= i.b
+    } else {
+        v == 0
+    }
 }

@@ -1,4 +1,4 @@
-// One function for each operation, and the instruction that takes its operation's.
+// One function for each operation.
 use locals::held::acquire_lock;
 use locals::held::no_locks;
 use locals::held::release_lock;
@@ -11,14 +11,18 @@ use locals::registers::with_register;
 use locals::registers::with_variable;
 use machine::Effect;
 use machine::Local;
+use snapshots::LOCKS;
+use snapshots::VARIABLES;
 use taskfile::Instruction;
 ghost use mathlib.Core.Path.{_≡_};
 ghost use Prim.Native.Nat.{_<_, _+_, _%_};
 ghost use Rattle.notation.specs.Lists.{if_then_else_};
-ghost use Rattle.machine.specs.Instructions.{end, load, store, setNumber, add, subtract, skipLess, skipEqual, pick, acquireLock, releaseLock, assert, perform, goesOn, skipping, withHeld, withRegister};
+ghost use Rattle.machine.specs.Instructions.{end, load, store, setNumber, add, subtract, skipLess, skipEqual, pick};
+ghost use Rattle.machine.specs.Instructions.{acquireLock, releaseLock, assert};
+ghost use Rattle.machine.specs.Instructions.{goesOn, skipping, withHeld, withRegister};
 
 // The effect of an instruction that gives register r the value x.
-fn register_taken(l: Local, r: u8, x: u8, s: [u8; 8]) -> Effect
+fn register_taken(l: Local, r: u8, x: u8, s: [u8; VARIABLES]) -> Effect
     requires { ⌜ l .next < 16 ⌝ }
     ensures { λ e. ⌜ e ≡ goesOn (skipping 0 (withRegister r x l)) s ⌝ }
 {
@@ -26,7 +30,7 @@ fn register_taken(l: Local, r: u8, x: u8, s: [u8; 8]) -> Effect
 }
 
 // The effect of an instruction after which the job holds these locks.
-fn locks_taken(l: Local, held: [u8; 8], s: [u8; 8]) -> Effect
+fn locks_taken(l: Local, held: [u8; LOCKS], s: [u8; VARIABLES]) -> Effect
     requires { ⌜ l .next < 16 ⌝ }
     ensures { λ e. ⌜ e ≡ goesOn (skipping 0 (withHeld held l)) s ⌝ }
 {
@@ -34,7 +38,7 @@ fn locks_taken(l: Local, held: [u8; 8], s: [u8; 8]) -> Effect
 }
 
 // The effect of an instruction that skips n others if the test holds.
-fn skip_when(test: bool, n: u8, l: Local, s: [u8; 8]) -> Effect
+fn skip_when(test: bool, n: u8, l: Local, s: [u8; VARIABLES]) -> Effect
     requires { ⌜ l .next < 16 ⌝ }
     ensures { λ e. ⌜ e ≡ goesOn (skipping (if test then n else 0) l) s ⌝ }
 {
@@ -50,7 +54,7 @@ fn sum_of(x: u8, y: u8) -> u8
 }
 
 // 0 End.
-pub fn end_job(i: Instruction, v: u8, l: Local, s: [u8; 8]) -> Effect
+pub fn end_job(i: Instruction, v: u8, l: Local, s: [u8; VARIABLES]) -> Effect
     requires { ⌜ l .next < 16 ⌝ }
     ensures { λ e. ⌜ e ≡ end i v l s ⌝ }
 {
@@ -65,7 +69,7 @@ pub fn end_job(i: Instruction, v: u8, l: Local, s: [u8; 8]) -> Effect
 }
 
 // 1 Load a from variable b.
-pub fn load_variable(i: Instruction, v: u8, l: Local, s: [u8; 8]) -> Effect
+pub fn load_variable(i: Instruction, v: u8, l: Local, s: [u8; VARIABLES]) -> Effect
     requires { ⌜ l .next < 16 ⌝ }
     ensures { λ e. ⌜ e ≡ load i v l s ⌝ }
 {
@@ -73,7 +77,7 @@ pub fn load_variable(i: Instruction, v: u8, l: Local, s: [u8; 8]) -> Effect
 }
 
 // 2 Store to variable a from register b.
-pub fn store_register(i: Instruction, v: u8, l: Local, s: [u8; 8]) -> Effect
+pub fn store_register(i: Instruction, v: u8, l: Local, s: [u8; VARIABLES]) -> Effect
     requires { ⌜ l .next < 16 ⌝ }
     ensures { λ e. ⌜ e ≡ store i v l s ⌝ }
 {
@@ -84,7 +88,7 @@ pub fn store_register(i: Instruction, v: u8, l: Local, s: [u8; 8]) -> Effect
 }
 
 // 3 Set register a to the number b.
-pub fn set_register(i: Instruction, v: u8, l: Local, s: [u8; 8]) -> Effect
+pub fn set_register(i: Instruction, v: u8, l: Local, s: [u8; VARIABLES]) -> Effect
     requires { ⌜ l .next < 16 ⌝ }
     ensures { λ e. ⌜ e ≡ setNumber i v l s ⌝ }
 {
@@ -92,7 +96,7 @@ pub fn set_register(i: Instruction, v: u8, l: Local, s: [u8; 8]) -> Effect
 }
 
 // 4 Add register b to register a.
-pub fn add_register(i: Instruction, v: u8, l: Local, s: [u8; 8]) -> Effect
+pub fn add_register(i: Instruction, v: u8, l: Local, s: [u8; VARIABLES]) -> Effect
     requires { ⌜ l .next < 16 ⌝ }
     ensures { λ e. ⌜ e ≡ add i v l s ⌝ }
 {
@@ -101,7 +105,7 @@ pub fn add_register(i: Instruction, v: u8, l: Local, s: [u8; 8]) -> Effect
 }
 
 // 5 Subtract register b from register a.
-pub fn subtract_register(i: Instruction, v: u8, l: Local, s: [u8; 8]) -> Effect
+pub fn subtract_register(i: Instruction, v: u8, l: Local, s: [u8; VARIABLES]) -> Effect
     requires { ⌜ l .next < 16 ⌝ }
     ensures { λ e. ⌜ e ≡ subtract i v l s ⌝ }
 {
@@ -110,7 +114,7 @@ pub fn subtract_register(i: Instruction, v: u8, l: Local, s: [u8; 8]) -> Effect
 }
 
 // 6 Skip c instructions if register a is less than register b.
-pub fn skip_if_less(i: Instruction, v: u8, l: Local, s: [u8; 8]) -> Effect
+pub fn skip_if_less(i: Instruction, v: u8, l: Local, s: [u8; VARIABLES]) -> Effect
     requires { ⌜ l .next < 16 ⌝ }
     ensures { λ e. ⌜ e ≡ skipLess i v l s ⌝ }
 {
@@ -119,7 +123,7 @@ pub fn skip_if_less(i: Instruction, v: u8, l: Local, s: [u8; 8]) -> Effect
 }
 
 // 7 The same if equal.
-pub fn skip_if_equal(i: Instruction, v: u8, l: Local, s: [u8; 8]) -> Effect
+pub fn skip_if_equal(i: Instruction, v: u8, l: Local, s: [u8; VARIABLES]) -> Effect
     requires { ⌜ l .next < 16 ⌝ }
     ensures { λ e. ⌜ e ≡ skipEqual i v l s ⌝ }
 {
@@ -128,7 +132,7 @@ pub fn skip_if_equal(i: Instruction, v: u8, l: Local, s: [u8; 8]) -> Effect
 }
 
 // 8 Pick: register a takes the value chosen.
-pub fn pick_value(i: Instruction, v: u8, l: Local, s: [u8; 8]) -> Effect
+pub fn pick_value(i: Instruction, v: u8, l: Local, s: [u8; VARIABLES]) -> Effect
     requires { ⌜ l .next < 16 ⌝ }
     ensures { λ e. ⌜ e ≡ pick i v l s ⌝ }
 {
@@ -136,7 +140,7 @@ pub fn pick_value(i: Instruction, v: u8, l: Local, s: [u8; 8]) -> Effect
 }
 
 // 9 Acquire lock a.
-pub fn acquire_step(i: Instruction, v: u8, l: Local, s: [u8; 8]) -> Effect
+pub fn acquire_step(i: Instruction, v: u8, l: Local, s: [u8; VARIABLES]) -> Effect
     requires { ⌜ l .next < 16 ⌝ }
     ensures { λ e. ⌜ e ≡ acquireLock i v l s ⌝ }
 {
@@ -145,7 +149,7 @@ pub fn acquire_step(i: Instruction, v: u8, l: Local, s: [u8; 8]) -> Effect
 }
 
 // 10 Release lock a.
-pub fn release_step(i: Instruction, v: u8, l: Local, s: [u8; 8]) -> Effect
+pub fn release_step(i: Instruction, v: u8, l: Local, s: [u8; VARIABLES]) -> Effect
     requires { ⌜ l .next < 16 ⌝ }
     ensures { λ e. ⌜ e ≡ releaseLock i v l s ⌝ }
 {
@@ -154,7 +158,7 @@ pub fn release_step(i: Instruction, v: u8, l: Local, s: [u8; 8]) -> Effect
 }
 
 // 11 Assert: fails if register a is 0.
-pub fn assert_register(i: Instruction, v: u8, l: Local, s: [u8; 8]) -> Effect
+pub fn assert_register(i: Instruction, v: u8, l: Local, s: [u8; VARIABLES]) -> Effect
     requires { ⌜ l .next < 16 ⌝ }
     ensures { λ e. ⌜ e ≡ assert i v l s ⌝ }
 {
@@ -163,27 +167,5 @@ pub fn assert_register(i: Instruction, v: u8, l: Local, s: [u8; 8]) -> Effect
         store: s,
         failed: register_of(l, i.a) == 0,
         ended: false,
-    }
-}
-
-// What an instruction does, where v is the Pick's choice. An operation above 11 is taken as End.
-pub fn perform_instruction(i: Instruction, v: u8, l: Local, s: [u8; 8]) -> Effect
-    requires { ⌜ l .next < 16 ⌝ }
-    ensures { λ e. ⌜ e ≡ perform i v l s ⌝ }
-{
-    let operation = i.operation;
-    match operation {
-        1 => load_variable(i, v, l, s),
-        2 => store_register(i, v, l, s),
-        3 => set_register(i, v, l, s),
-        4 => add_register(i, v, l, s),
-        5 => subtract_register(i, v, l, s),
-        6 => skip_if_less(i, v, l, s),
-        7 => skip_if_equal(i, v, l, s),
-        8 => pick_value(i, v, l, s),
-        9 => acquire_step(i, v, l, s),
-        10 => release_step(i, v, l, s),
-        11 => assert_register(i, v, l, s),
-        _ => end_job(i, v, l, s),
     }
 }

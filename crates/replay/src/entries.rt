@@ -1,14 +1,11 @@
 // The replay's entry.
-use crate::bytes::replay_from;
 use acceptance::entries::accept_file;
 use answers::ended_run;
 use answers::refused_run;
-use lending::arrays::program_of;
-use lending::arrays::times_of;
-use lending::first::first_state;
+use lending::lend;
 use machine::RunAnswer;
+use replaying::replay_from;
 use snapshots::Replayed;
-use taskfile::Ceilings;
 use taskfile::Check;
 use taskfile::Table;
 use timing::JobList;
@@ -23,15 +20,11 @@ pub fn replay_table(t: Table, list: JobList, order: &[u8]) -> Replayed
     requires { ⌜ Shaped t × (list .count ≤ 32) ⌝ }
     ensures { λ r. ⌜ ReplayOf t list (now (order .entry)) r ⌝ }
 {
-    let program = program_of(t, list);
-    let times = times_of(list);
-    let ceilings = t.ceilings;
-    let locks = Ceilings {
-        count: t.locks,
-        ceilings: ceilings,
-    };
-    let store = t.store;
-    let start = first_state(&program, store);
+    let l = lend(t, list);
+    let program = l.program;
+    let times = l.times;
+    let locks = l.locks;
+    let start = l.start;
     replay_from(&program, &times, locks, start, order)
 }
 
@@ -48,8 +41,7 @@ pub fn replay(file: &[u8], order: &[u8]) -> RunAnswer
     if r.number != 0 {
         return refused_run(r.number, r.place as u32);
     }
-    let end = r.state;
-    let store = end.store;
-    let failed = end.failed;
+    let store = r.store;
+    let failed = r.failed;
     ended_run(store, failed)
 }

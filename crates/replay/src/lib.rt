@@ -1,3 +1,2 @@
-// The replay of an order: an accepted table in the arrays that the steps read, the bytes of an order, and the entry.
-pub mod bytes;
+// The replay of an order of a file: the entry.
 pub mod entries;

@@ -2,4 +2,4 @@ pub mod Lent
 pub mod ReplayParts
 pub mod Shows
 pub mod SnapshotSteps
-pub mod StepParts
+pub mod Snapshots

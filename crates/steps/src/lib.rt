@@ -1,101 +1,54 @@
 // The step that an order byte asks for.
-use locals::values::on_offer;
+use instructions::perform_instruction;
 use machine::Effect;
-use operations::perform_instruction;
 use order::Frame;
-use snapshots::Due;
-use starts::start_of;
-use states::bytes::frame_at;
-use states::bytes::put_eight;
-use states::bytes::put_frame;
-use states::lent::instruction_at;
-use states::lent::owned_by;
+use programs::instruction_at;
+use snapshots::DEPTH;
+use snapshots::FAILED;
+use snapshots::PROGRAM;
+use snapshots::STATE;
+use snapshots::STORE;
+use snapshots::TIMES;
+use snapshots::UPCOMING;
+use snapshots::VALUES;
+use states::put_eight;
+use states::put_frame;
 use taskfile::Ceilings;
 use taskfile::Task;
 use timing::Job;
+use turns::offered;
+use turns::turn_of;
 ghost use mathlib.Core.Path.{_≡_};
 ghost use Prim.Native.Nat.{_/_, _%_, _≤_, _<_};
 ghost use mathlib.Core.Bool.{true};
-ghost use Rattle.snapshots.specs.Code.SnapshotSteps.{turnIn, runsIn, afterIn, stepIn};
+ghost use Rattle.snapshots.specs.Code.SnapshotSteps.{afterIn, stepIn, madeIn};
 ghost use Rattle.states.specs.Code.StateBytes.{snapshotIn, IsState};
-ghost use Rattle.snapshots.specs.Code.StepParts.{offeredIn, madeIn};
-
-// Is the active job started last one of task i? Tasks are below 8, so that no other number is taken for an index.
-pub fn runs(program: &[u8; 544], s: &[u8; 192], i: Task) -> bool
-    requires { ⌜ IsState (now s) ⌝ }
-    ensures { λ b. ⌜ b ≡ runsIn (now (program .entry)) (snapshotIn (now (s .entry))) (i .0) ⌝ }
-{
-    if 8 <= i.0 {
-        return false;
-    }
-    let depth = s[48];
-    if depth == 0 {
-        return false;
-    }
-    let top = (depth - 1) as usize;
-    owned_by(program, i, Job(s[64 + 16 * top]))
-}
-
-// The turn that a byte of task i takes: the active job started last, if it is of that task, else a start.
-pub fn turn_of(
-    program: &[u8; 544],
-    times: &[u64; 64],
-    locks: Ceilings,
-    s: &[u8; 192],
-    i: Task,
-) -> Due
-    requires { ⌜ (locks .count ≤ 8) × IsState (now s) ⌝ }
-    ensures turn { λ d. ⌜ d ≡ turnIn (now (program .entry)) (now (times .entry)) locks (snapshotIn (now (s .entry))) (i .0) ⌝ }
-    ensures bounds { λ d. ⌜ (d .due ≡ true → (d .under < 8) × (d .frame .job .0 < 32)) ⌝ }
-{
-    if runs(program, s, i) {
-        let top = s[48] - 1;
-        return Due {
-            due: true,
-            frame: frame_at(s, top),
-            under: top,
-        };
-    }
-    start_of(program, times, locks, s, i)
-}
-
-// May the job in the frame, of task i, take a step with the value v?
-pub fn offered(program: &[u8; 544], f: Frame, i: Task, v: u8) -> bool
-    requires { ⌜ i .0 < 8 ⌝ }
-    ensures { λ b. ⌜ b ≡ offeredIn (now (program .entry)) f (i .0) v ⌝ }
-{
-    let local = f.local;
-    let next = local.next;
-    if 16 <= next {
-        return false;
-    }
-    on_offer(instruction_at(program, i, next), v)
-}
 
 // Makes of a state what it is after job x of task i has had an effect, with so many active jobs under it.
-pub fn put_effect(s: &mut [u8; 192], x: Job, under: u8, i: Task, effect: Effect)
+pub fn put_effect(s: &mut [u8; STATE], x: Job, under: u8, i: Task, effect: Effect)
     requires { ⌜ IsState (now s) × (x .0 < 32) × (under < 8) × (i .0 < 8) ⌝ }
     ensures made { λ _. ⌜ snapshotIn (now (s .exit)) ≡ afterIn (snapshotIn (now (s .entry))) x under (i .0) effect ⌝ }
     ensures whole { λ _. ⌜ IsState (now (s .exit)) ⌝ }
 {
     let store = effect.store;
-    put_eight(s, 0, store);
-    s[8 + (i.0 as usize)] = x.0 + 1;
+    put_eight(s, STORE, store);
+    s[UPCOMING + (i.0 as usize)] = x.0 + 1;
     if effect.failed {
-        s[16 + (x.0 as usize)] = 1;
+        s[FAILED + (x.0 as usize)] = 1;
     }
     if effect.ended {
-        s[48] = under;
+        s[DEPTH] = under;
         return;
     }
-    s[48] = under + 1;
+    s[DEPTH] = under + 1;
     put_frame(s, under, x, effect.local);
 }
 
 // Makes the step of the job in the frame, of task i, with the value v.
-pub fn step_with(program: &[u8; 544], s: &mut [u8; 192], f: Frame, under: u8, i: Task, v: u8)
+pub fn step_with(program: &[u8; PROGRAM], s: &mut [u8; STATE], f: Frame, under: u8, i: Task, v: u8)
     requires { ⌜ IsState (now s) × (f .job .0 < 32) × (f .local .next < 16) × (under < 8) × (i .0 < 8) ⌝ }
-    ensures made { λ _. ⌜ snapshotIn (now (s .exit)) ≡ madeIn (now (program .entry)) (snapshotIn (now (s .entry))) f under (i .0) v ⌝ }
+    ensures made { λ _. ⌜ snapshotIn (now (s .exit))
+        ≡ madeIn (now (program .entry)) (snapshotIn (now (s .entry))) f under (i .0) v ⌝ }
     ensures whole { λ _. ⌜ IsState (now (s .exit)) ⌝ }
 {
     let local = f.local;
@@ -108,26 +61,28 @@ pub fn step_with(program: &[u8; 544], s: &mut [u8; 192], f: Frame, under: u8, i:
 
 // The step that a byte asks for, 16 times the task and the value, if it is allowed; else nothing changes.
 pub fn step(
-    program: &[u8; 544],
-    times: &[u64; 64],
+    program: &[u8; PROGRAM],
+    times: &[u64; TIMES],
     locks: Ceilings,
-    s: &mut [u8; 192],
+    s: &mut [u8; STATE],
     byte: u8,
 ) -> bool
     requires { ⌜ (locks .count ≤ 8) × IsState (now s) ⌝ }
-    ensures allowed { λ b. ⌜ b ≡ stepIn (now (program .entry)) (now (times .entry)) locks (snapshotIn (now (s .entry))) byte .allowed ⌝ }
-    ensures made { λ _. ⌜ snapshotIn (now (s .exit)) ≡ stepIn (now (program .entry)) (now (times .entry)) locks (snapshotIn (now (s .entry))) byte .state ⌝ }
+    ensures allowed { λ b. ⌜ b ≡ stepIn (now (program .entry)) (now (times .entry)) locks
+        (snapshotIn (now (s .entry))) byte .allowed ⌝ }
+    ensures made { λ _. ⌜ snapshotIn (now (s .exit))
+        ≡ stepIn (now (program .entry)) (now (times .entry)) locks (snapshotIn (now (s .entry))) byte .state ⌝ }
     ensures whole { λ _. ⌜ IsState (now (s .exit)) ⌝ }
 {
-    let i = Task(byte / 16);
+    let i = Task(byte / VALUES);
     let d = turn_of(program, times, locks, s, i);
     if !d.due {
         return false;
     }
     let f = d.frame;
-    if !offered(program, f, i, byte % 16) {
+    if !offered(program, f, i, byte % VALUES) {
         return false;
     }
-    step_with(program, s, f, d.under, i, byte % 16);
+    step_with(program, s, f, d.under, i, byte % VALUES);
     true
 }

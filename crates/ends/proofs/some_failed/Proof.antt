@@ -1,4 +1,4 @@
--- `ends::some_failed` meets its contract. The loop's invariant: some flag is raised if one from x on is. The measure is the number of
+-- `ends::some_failed` meets its contract. The loop's invariant: some flag is raised if one from k on is. The measure is the number of
 -- flags left.
 -- Assumes nothing.
 use Prim.Native.Nat.{_≤_, _-_}
@@ -8,10 +8,10 @@ use Rattle.ends.proofs.some_failed.Statement.{statement}
 use Rattle.ends.proofs.some_failed.Tie as tie
 
 abbrev Inv-loop : tie.InvT-loop
-Inv-loop s x₀ x = (x ≤ 32) × FlagsFrom s x
+Inv-loop s k₀ k = (k ≤ 32) × FlagsFrom s k
 
 abbrev μ-loop : tie.MeasureT-loop
-μ-loop s x₀ x = 32 - x
+μ-loop s k₀ k = 32 - k
 
 loop-holds : tie.Need-loop-holds Inv-loop μ-loop
 loop-holds c = (omega arith, flags-all _)
@@ -27,8 +27,8 @@ returns c =
     let head = c .before .before in
     raised-found _ _ (head .before .loop .inv .1) (head .loop-test .taken) (c .if1 .taken)
 
-add-x : tie.Need-add-x Inv-loop μ-loop
-add-x c = omega arith
+add-k : tie.Need-add-k Inv-loop μ-loop
+add-k c = omega arith
 
 loop-less : tie.Need-loop-less Inv-loop μ-loop
 loop-less c = omega arith
@@ -39,7 +39,7 @@ loop-again c =
     (omega arith, raised-later _ _ (head .before .loop .inv .1) (head .loop-test .taken) (c .if1 .left))
 
 returns-2 : tie.Need-returns-2 Inv-loop μ-loop
-returns-2 c = raised-missing _ (c .before .loop .x) (c .before .loop .inv .1) (c .loop-test .left)
+returns-2 c = raised-missing _ (c .before .loop .k) (c .before .loop .inv .1) (c .loop-test .left)
 
 pub some-failed-spec : {M : Type 1} → statement M
 some-failed-spec =
@@ -51,7 +51,7 @@ some-failed-spec =
     add-if1
     element-copy-out-if1
     returns
-    add-x
+    add-k
     loop-less
     loop-again
     returns-2)

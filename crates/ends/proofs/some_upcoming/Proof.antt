@@ -1,14 +1,14 @@
 -- `ends::some_upcoming` meets its contract. The loop's invariant: some task has such a job if one from k on has. The measure is the
 -- number of tasks left.
 -- Assumes nothing.
-use mathlib.Core.Path.{_≡_, refl}
+use mathlib.Core.Path.{_≡_, refl, sym, _∙_}
 use Prim.Native.Nat.{_≤_, _-_}
 use native.Mathlib.Omega.{arith}
 use Rattle.notation.specs.Lists.{any, from, upTo}
-use Rattle.snapshots.specs.Laws.ReplayLoopLaws.{any-found, any-later, any-missing}
+use Rattle.notation.specs.Laws.SomeLaws.{some-found, some-later, some-missing}
 use Rattle.snapshots.specs.Code.SnapshotSteps.{hasUpcoming}
 use Rattle.states.specs.Code.StateBytes.{snapshotIn}
-use Rattle.ends.specs.Laws.FlagsRead.{upcoming-at}
+use Rattle.states.specs.Laws.StateReads.{upcoming-owned}
 use Rattle.ends.proofs.some_upcoming.Statement.{statement}
 use Rattle.ends.proofs.some_upcoming.Tie as tie
 
@@ -37,9 +37,10 @@ owned-by-requires : tie.Need-owned-by-requires Inv-loop μ-loop
 owned-by-requires c κs = tt
 
 returns : tie.Need-returns Inv-loop μ-loop
+unfolding hasUpcoming
 returns c =
     let lt = c .before .before .before .loop-test .taken in
-    any-found _ _ (c .before .before .before .before .loop .inv .1) lt (upcoming-at _ _ _ lt (c .before .owned-by .ensures)) (c .if1 .taken)
+    sym (some-found _ 8 _ (c .before .before .before .before .loop .inv .1) lt (sym (upcoming-owned _ _ _ lt (c .before .owned-by .ensures)) ∙ c .if1 .taken))
 
 add-k : tie.Need-add-k Inv-loop μ-loop
 add-k c = omega arith
@@ -48,12 +49,13 @@ loop-less : tie.Need-loop-less Inv-loop μ-loop
 loop-less c = omega arith
 
 loop-again : tie.Need-loop-again Inv-loop μ-loop
+unfolding hasUpcoming
 loop-again c =
     let lt = c .before .before .before .loop-test .taken in
-    (omega arith, any-later _ _ (c .before .before .before .before .loop .inv .1) lt (upcoming-at _ _ _ lt (c .before .owned-by .ensures)) (c .if1 .left))
+    (omega arith, some-later _ 8 _ (c .before .before .before .before .loop .inv .1) lt (sym (upcoming-owned _ _ _ lt (c .before .owned-by .ensures)) ∙ c .if1 .left))
 
 returns-2 : tie.Need-returns-2 Inv-loop μ-loop
-returns-2 c = any-missing _ _ (c .before .loop .inv .1) (c .loop-test .left)
+returns-2 c = sym (some-missing _ 8 _ (c .before .loop .inv .1) (c .loop-test .left))
 
 pub some-upcoming-spec : {M : Type 1} → statement M
 some-upcoming-spec =

@@ -1,6 +1,5 @@
--- What is read of a state's bytes, one by one, is what their snapshot holds: who is to come, and the flags.
+-- The flags that are read of a state's bytes, one by one, are what their snapshot holds.
 -- Assumes nothing.
-use Rattle.states.specs.Laws.StateReads as reads
 use mathlib.Core.Path.{_≡_, sym, ap, _∙_}
 use Prim.Native.Nat.{ℕ, _+_, _≤_, _<_}
 use native.Mathlib.Decide.{decLt}
@@ -10,19 +9,8 @@ use mathlib.Core.List.{List}
 use lib.ListN.{length, getD, set, replicate, length-set, length-replicate}
 use lib.Dec.{eqb}
 use lib.Seq.{getD-set-same, getD-set-other}
-use Rattle.snapshots.specs.Code.SnapshotSteps.{ownedBy, hasUpcoming}
 use Rattle.states.specs.Code.StateBytes.{flagIn, snapshotIn}
 use Rattle.notation.specs.Laws.TabulateLaws.{values-are}
-
--- ---- who is to come
-
--- a task has a job not yet begun if its byte says so
-pub upcoming-at : (program bytes : List ℕ) (k : ℕ) → k < 8 → {b : Bool} → b ≡ ownedBy program k (getD bytes (8 + k) 0)
-    → b ≡ hasUpcoming program (snapshotIn bytes .upcoming) k
-unfolding hasUpcoming
-upcoming-at program bytes k lt e = e ∙ ap (ownedBy program k) (sym (reads.upcoming-at bytes k 0 lt))
-
--- ---- the flags
 
 -- the flags of the jobs before x are read
 pub record FlagsTo (bytes : List ℕ) (x : ℕ) (flags : List Bool) : Type 0 where

@@ -2,7 +2,7 @@
 -- Assumes nothing.
 use borrow.Author.Needs.{needs}
 use Rattle.moves.specs.Laws.DueLaws.{due-runs, due-upcoming}
-use Rattle.moves.specs.Laws.StateLaws.{upcoming-owned}
+use Rattle.states.specs.Laws.StateReads.{upcoming-owned}
 use Rattle.moves.proofs.may_be_due.Statement.{statement}
 use Rattle.moves.proofs.may_be_due.Tie as tie
 

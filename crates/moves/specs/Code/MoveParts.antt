@@ -9,16 +9,17 @@ use lib.ListN.{getD}
 use Rattle.taskfile.specs.declared.Ceilings.{Ceilings}
 use Rattle.notation.specs.Lists.{if_then_else_}
 use Rattle.order.specs.declared.Frame.{Frame}
-use Rattle.snapshots.specs.declared.Snapshot.{Snapshot}
-use Rattle.snapshots.specs.Code.SnapshotSteps.{ownerIn, ownedBy, instructionIn, topOf, turnIn, stepIn}
-use Rattle.snapshots.specs.Code.StepParts.{offeredIn}
+use Rattle.snapshots.specs.Code.Snapshots.{Snapshot}
+use Rattle.snapshots.specs.Code.SnapshotSteps.{ownerIn, ownedBy, instructionIn, topOf, turnIn, stepIn, offeredIn}
 use Rattle.moves.specs.declared.Candidate.{Candidate}
 
 -- no byte from `first` up to `last` is a step
 abbrev pub NoStep : List ℕ → List ℕ → Ceilings → Snapshot → ℕ → ℕ → Type 0
-NoStep program times locks p first last = (k : ℕ) → first ≤ k → k < last → stepIn program times locks p k .allowed ≡ false
+NoStep program times locks p first last =
+    (k : ℕ) → first ≤ k → k < last → stepIn program times locks p k .allowed ≡ false
 
--- the first byte from `byte` on that is a step, if one below 128 is, whose turn that is, and from where on the next may be
+-- the first byte from `byte` on that is a step, if one below 128 is, whose turn that is, and from where on the next
+-- may be
 pub record NextStep (program times : List ℕ) (locks : Ceilings) (p : Snapshot) (byte : ℕ) (m : Candidate) : Type 0 where
   pub none-before : NoStep program times locks p byte (m .byte)
   pub ahead : byte ≤ m .byte

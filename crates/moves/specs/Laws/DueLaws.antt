@@ -15,7 +15,7 @@ use Rattle.taskfile.specs.declared.Ceilings.{Ceilings}
 use Rattle.notation.specs.Lists.{if_then_else_, all}
 use Rattle.notation.specs.Laws.QuantifierLaws.{all-at}
 use Rattle.notation.specs.Laws.TestLaws.{both, or-left, or-right, or-second, decided, not-both}
-use Rattle.snapshots.specs.declared.Snapshot.{Snapshot}
+use Rattle.snapshots.specs.Code.Snapshots.{Snapshot}
 use Rattle.snapshots.specs.Code.SnapshotSteps.{ownerIn, arrivalIn, latestIn, preemptsIn, ownedBy, waits, goesOver, stackOf, nobody, startsIn, startIn, beyond, topOf, runsIn, turnIn}
 use Rattle.moves.specs.Code.MoveParts.{topJob, maybeDue}
 

@@ -12,8 +12,7 @@ use borrow.Author.Tests.{ltb-true, lt-ltb, le-ltb}
 use Rattle.taskfile.specs.declared.Ceilings.{Ceilings}
 use Rattle.notation.specs.Lists.{if_then_else_}
 use Rattle.notation.specs.Laws.TestLaws.{both, decided}
-use Rattle.snapshots.specs.declared.Snapshot.{Snapshot}
-use Rattle.snapshots.specs.declared.Stepped.{Stepped}
+use Rattle.snapshots.specs.Code.Snapshots.{Snapshot, Stepped}
 use Rattle.snapshots.specs.Code.SnapshotSteps.{ownerIn, stepIn}
 use Rattle.snapshots.specs.Laws.TurnLaws.{step-none}
 use Rattle.moves.specs.Laws.DueLaws.{low-due}

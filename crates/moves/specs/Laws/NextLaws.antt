@@ -18,11 +18,9 @@ use Rattle.machine.specs.Instructions.{values}
 use Rattle.machine.specs.Laws.ValueLaws.{pick-offers, zero-offered}
 use Rattle.snapshots.specs.declared.Due.{Due}
 use Rattle.order.specs.declared.Frame.{Frame}
-use Rattle.snapshots.specs.declared.Snapshot.{Snapshot}
-use Rattle.snapshots.specs.declared.Stepped.{Stepped}
-use Rattle.snapshots.specs.Code.SnapshotSteps.{instructionIn, turnIn, stepWithIn, stepIn}
+use Rattle.snapshots.specs.Code.Snapshots.{Snapshot, Stepped}
+use Rattle.snapshots.specs.Code.SnapshotSteps.{instructionIn, turnIn, stepWithIn, stepIn, offeredIn}
 use Rattle.snapshots.specs.Laws.TurnLaws.{step-none, step-due}
-use Rattle.snapshots.specs.Code.StepParts.{offeredIn}
 use Rattle.moves.specs.Code.MoveParts.{NoStep, NextStep, valueAfter}
 
 -- ---- the values on offer
@@ -46,8 +44,8 @@ chosen false r s h k = k
 module _ (program : List ℕ) (f : Frame) (i : ℕ) where
   -- a step is allowed exactly if its value is on offer
   with-allowed : (p : Snapshot) (under v : ℕ) → stepWithIn program p f under i v .allowed ≡ offeredIn program f i v
-  unfolding stepWithIn offeredIn
-  with-allowed p under v = chosen (ltb (f .local .next) 16 && member v (values (instructionIn program i (f .local .next)))) _ _ refl refl
+  unfolding stepWithIn
+  with-allowed p under v = chosen (offeredIn program f i v) _ _ refl refl
 
   -- where a value is not on offer, none above it is
   none-offered : (v w : ℕ) → v ≤ w → offeredIn program f i v ≡ false → offeredIn program f i w ≡ false

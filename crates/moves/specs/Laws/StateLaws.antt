@@ -1,24 +1,15 @@
--- Laws of what the search for moves reads of a state's bytes: a task's first job not yet begun, and the active job started last.
+-- Laws of what the search for moves reads of a state's bytes: the active job started last.
 -- Assumes nothing.
 use mathlib.Core.Path.{_≡_, sym, ap, _∙_}
-use Prim.Native.Nat.{ℕ, _+_, _-_, _*_, _≤_, _<_}
+use Prim.Native.Nat.{ℕ, _+_, _-_, _*_, _≤_}
 use native.Mathlib.Omega.{arith}
-use mathlib.Core.Bool.{Bool}
 use mathlib.Core.List.{List}
 use lib.ListN.{getD}
 use Rattle.order.specs.declared.Frame.{Frame}
-use Rattle.snapshots.specs.Code.SnapshotSteps.{ownedBy}
 use Rattle.states.specs.Code.StateBytes.{snapshotIn, IsState}
-use Rattle.states.specs.Laws.StateReads.{upcoming-at, frame-job, top-is}
+use Rattle.states.specs.Laws.StateReads.{frame-job, top-is}
 use Rattle.moves.specs.Laws.DueLaws.{top-none, top-some}
 use Rattle.moves.specs.Code.MoveParts.{topJob}
-
--- ---- the parts
-
--- whether a task's first job not yet begun is one of the task
-pub upcoming-owned : (program bytes : List ℕ) (i : ℕ) → i < 8 → {b : Bool} → b ≡ ownedBy program i (getD bytes (8 + i) 0)
-    → b ≡ ownedBy program i (getD (snapshotIn bytes .upcoming) i 0)
-upcoming-owned program bytes i lt e = e ∙ ap (ownedBy program i) (sym (upcoming-at bytes i 0 lt))
 
 -- at most eight are active
 pub few-deep : {bytes : List ℕ} → IsState bytes → snapshotIn bytes .depth ≤ 8

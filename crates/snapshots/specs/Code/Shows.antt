@@ -12,14 +12,15 @@ use Rattle.taskfile.specs.Tables.{tasksOf, taskOf, bodyOf, ceilingsOf}
 use Rattle.timing.specs.declared.Job.{Job}
 use Rattle.timing.specs.Accepted.{Accepted}
 use Rattle.timing.specs.Relations.{IsJob, jobAt, base}
-use Rattle.snapshots.specs.declared.Snapshot.{Snapshot}
+use Rattle.snapshots.specs.Code.Snapshots.{Snapshot}
 use Rattle.order.specs.Code.Invariant.{hasBegun}
 use Rattle.snapshots.specs.Code.SnapshotSteps.{ownerIn, instructionIn, arrivalIn, latestIn, stackOf}
 use Rattle.order.specs.States.{State}
 
 -- ---- what is lent, and what is shown
 
--- the lent arrays hold an accepted table: each job's task, arrival and latest finish, each instruction, and the ceilings
+-- the lent arrays hold an accepted table: each job's task, arrival and latest finish, each instruction, and the
+-- ceilings
 pub record Lends (a : Accepted) (program times : List ℕ) (locks : Ceilings) : Type 0 where
   pub owner : (x : Job) → IsJob a x → ownerIn program (x .0) ≡ base a x
   pub noOwner : (x : ℕ) → length (a .jobs) ≤ x → x < 32 → ownerIn program x ≡ 8
@@ -29,8 +30,8 @@ pub record Lends (a : Accepted) (program times : List ℕ) (locks : Ceilings) : 
       → instructionIn program (i .0) p ≡ instructionOf (a .table) i p
   pub ceilings : take (locks .count) (locks .ceilings) ≡ ceilingsOf (a .table)
 
--- the snapshot shows the state: a job has begun if its number is below its task's first job not yet begun, and the jobs of lower tasks
--- have lower numbers than that
+-- the snapshot shows the state: a job has begun if its number is below its task's first job not yet begun, and the
+-- jobs of lower tasks have lower numbers than that
 pub record Shows (a : Accepted) (p : Snapshot) (s : State) : Type 0 where
   pub store : p .store ≡ s .store
   pub failed : p .failed ≡ s .failed

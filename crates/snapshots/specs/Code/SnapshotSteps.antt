@@ -1,7 +1,7 @@
--- The step on a snapshot, as its functions yield it. The step reads an accepted table in lent arrays of numbers: the program, which is
--- four bytes for each of sixteen instructions of each of eight tasks, and from 512 on the task of each job (8 where there is no
--- job); and the times, which are the arrival of each of 32 jobs, and from 32 on each one's latest finish.
--- `SnapshotLaws` says that this is the step of `Orders`.
+-- The step on a snapshot, as its functions yield it. The step reads an accepted table in lent arrays of numbers: the
+-- program, which is four bytes for each of sixteen instructions of each of eight tasks, and from 512 on the task of
+-- each job (8 where there is no job); and the times, which are the arrival of each of 32 jobs, and from 32 on each
+-- one's latest finish. `SnapshotLaws` says that this is the step of `Orders`.
 -- Assumes nothing.
 use Prim.Native.Nat.{ℕ, zero, suc, _+_, _-_, _*_, _/_, _%_}
 use mathlib.Core.Bool.{Bool, true, false, not, _&&_, _||_}
@@ -13,15 +13,12 @@ use Rattle.taskfile.specs.declared.Instruction.{Instruction}
 use Rattle.notation.specs.Lists.{if_then_else_, all, any, upTo, member}
 use Rattle.timing.specs.declared.Job.{Job}
 use Rattle.machine.specs.declared.Effect.{Effect}
-use Rattle.machine.specs.declared.Local.{Local}
 use Rattle.machine.specs.Ends.{flagged, noFlags}
 use Rattle.machine.specs.Held.{priority}
 use Rattle.machine.specs.Instructions.{Store, fresh, values, perform}
 use Rattle.snapshots.specs.declared.Due.{Due}
 use Rattle.order.specs.declared.Frame.{Frame}
-use Rattle.snapshots.specs.declared.Replayed.{Replayed}
-use Rattle.snapshots.specs.declared.Snapshot.{Snapshot}
-use Rattle.snapshots.specs.declared.Stepped.{Stepped}
+use Rattle.snapshots.specs.Code.Snapshots.{Snapshot, Stepped, ReplayEnd}
 
 -- ---- what the lent arrays say
 
@@ -84,7 +81,8 @@ unfoldable pub goesOver : Program → Times → Ceilings → ℕ → Frame → B
 goesOver program times locks y f =
     ltb (f .job .0) 32
     && preemptsIn program times y (f .job .0)
-    && ltb (priority (take (locks .count) (locks .ceilings)) (ownerIn program (f .job .0)) (f .local .held)) (ownerIn program y)
+    && ltb (priority (take (locks .count) (locks .ceilings)) (ownerIn program (f .job .0)) (f .local .held))
+    (ownerIn program y)
 
 unfoldable pub stackOf : Snapshot → List Frame
 stackOf p = take (p .depth) (p .stack)
@@ -109,8 +107,9 @@ startsIn program times locks p i =
 
 unfoldable pub startIn : Program → Times → Ceilings → Snapshot → ℕ → Due
 startIn program times locks p i =
+    let first : Frame = record { job = record { 0 = getD (p .upcoming) i 0 }; local = fresh } in
     if startsIn program times locks p i
-    then record { due = true; frame = record { job = record { 0 = getD (p .upcoming) i 0 }; local = fresh }; under = p .depth }
+    then record { due = true; frame = first; under = p .depth }
     else nobody
 
 -- ---- the turn and the step
@@ -144,12 +143,20 @@ afterIn p x under i effect =
       stack = if effect .ended then p .stack else set (p .stack) under (record { job = x; local = effect .local });
     }
 
--- the step of the job in the frame, with the value v, if that value is on offer
+-- is the value v on offer to the job in the frame, of task i?
+unfoldable pub offeredIn : Program → Frame → ℕ → ℕ → Bool
+offeredIn program f i v = ltb (f .local .next) 16 && member v (values (instructionIn program i (f .local .next)))
+
+-- the snapshot after its step with that value
+unfoldable pub madeIn : Program → Snapshot → Frame → ℕ → ℕ → ℕ → Snapshot
+madeIn program p f under i v =
+    afterIn p (f .job) under i (perform (instructionIn program i (f .local .next)) v (f .local) (p .store))
+
+-- the step, if the value is on offer
 unfoldable pub stepWithIn : Program → Snapshot → Frame → ℕ → ℕ → ℕ → Stepped
 stepWithIn program p f under i v =
-    let instruction = instructionIn program i (f .local .next) in
-    if ltb (f .local .next) 16 && member v (values instruction)
-    then record { allowed = true; state = afterIn p (f .job) under i (perform instruction v (f .local) (p .store)) }
+    if offeredIn program f i v
+    then record { allowed = true; state = madeIn program p f under i v }
     else record { allowed = false; state = p }
 
 unfoldable pub dueStep : Program → Snapshot → ℕ → ℕ → Due → Stepped
@@ -169,9 +176,13 @@ unfoldable pub finishedIn : Program → Snapshot → Bool
 finishedIn program p = eqb (p .depth) 0 && not (any (hasUpcoming program (p .upcoming)) (upTo 8))
 
 -- the bytes from `index` on
-unfoldable pub replayIn : Program → Times → Ceilings → Snapshot → ℕ → List ℕ → Replayed
+unfoldable pub replayIn : Program → Times → Ceilings → Snapshot → ℕ → List ℕ → ReplayEnd
 replayIn program times locks p index [] =
-    record { number = if finishedIn program p then 0 else 31; place = if finishedIn program p then 0 else index; state = p }
+    record {
+      number = if finishedIn program p then 0 else 31;
+      place = if finishedIn program p then 0 else index;
+      state = p;
+    }
 replayIn program times locks p index (byte ∷ bytes) =
     let stepped = stepIn program times locks p byte in
     elim (finishedIn program p) [

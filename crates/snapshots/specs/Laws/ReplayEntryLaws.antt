@@ -1,48 +1,30 @@
 -- The replay's entry: what it answers, by what the file and the order's bytes come to.
 -- Assumes nothing.
-use mathlib.Core.Path.{_≡_, refl, sym, ap, subst, _∙_}
-use Prim.Native.Nat.{ℕ, _^_, _≤_, _<_}
+use mathlib.Core.Path.{_≡_, refl, sym, ap, _∙_}
+use Prim.Native.Nat.{ℕ, _^_, _<_}
 use native.Mathlib.Omega.{arith}
 use mathlib.Core.List.{List}
 use Rattle.taskfile.specs.declared.Check.the-variants.{Passed, Refused}
-use Rattle.taskfile.specs.declared.Table.{Table}
 use Rattle.notation.specs.Checked.{Checked, refused, passed}
 use Rattle.taskfile.specs.Laws.CheckSteps.{bind-refused, bind-goes}
-use Rattle.taskfile.specs.Code.JudgingParts.{Shaped}
 use Rattle.taskfile.specs.Records.{File}
 use Rattle.timing.specs.declared.AcceptAnswer.{AcceptAnswer}
-use Rattle.timing.specs.declared.JobList.{JobList}
 use Rattle.timing.specs.Accepted.{Accepted, accept}
 use Rattle.timing.specs.Laws.AcceptedLaws.{accepted}
 use Rattle.timing.specs.Code.IsAccepted.{IsAccepted}
 use Rattle.timing.specs.Laws.AcceptLaws.{accepted-refused, accepted-passed}
 use Rattle.timing.specs.Code.AcceptParts.{AcceptedParts, AcceptedAs}
-use Rattle.timing.specs.Code.JobParts.{jobListOf}
 use Rattle.machine.specs.Ends.{End}
 use Rattle.machine.specs.Buffers.{runAnswer, unwritten}
 use Rattle.snapshots.specs.declared.Replayed.{Replayed}
-use Rattle.snapshots.specs.declared.Snapshot.{Snapshot}
 use Rattle.timing.specs.Laws.JobFacts.{jobs-few}
 use Rattle.order.specs.Laws.LengthLaws.{left-most}
-use Rattle.snapshots.specs.Laws.LentLaws.{lent}
-use Rattle.snapshots.specs.Code.Lent.{OwnersTo, TimesTo}
 use Rattle.order.specs.Orders.{endOf}
 use Rattle.order.specs.Replay.{replayFrom, replay, replayed, replayAnswer}
-use Rattle.snapshots.specs.Laws.ReplayLaws.{first-shown, replay-agreed, replay-fault}
+use Rattle.snapshots.specs.Laws.ReplayLaws.{replay-fault}
 use Rattle.snapshots.specs.Code.ReplayParts.{ReplayedAs, ReplayOf}
-use Rattle.snapshots.specs.Code.SnapshotSteps.{replayIn, firstSnapshot}
 use Rattle.order.specs.States.{State, initial}
 use Rattle.order.specs.Laws.StepLaws.{initial-invariant}
-
-pub replay-lent : {t : Table} {list : JobList} {program times : List ℕ} (order : List ℕ) {start : Snapshot} {r : Replayed}
-    → OwnersTo t list (list .count) program → TimesTo list 32 times → start ≡ firstSnapshot program (t .store)
-    → r ≡ replayIn program times (record { count = t .locks; ceilings = t .ceilings }) start 0 order → ReplayOf t list order r
-replay-lent {t} {list} {program} {times} order {start} {r} owners held first made a ok table listed =
-    let is = made ∙ ap (λ (p : Snapshot). replayIn program times (record { count = t .locks; ceilings = t .ceilings }) p 0 order) first in
-    let lends = lent ok listed (subst (λ (u : Table). OwnersTo u list (list .count) program) table owners) held in
-    subst (λ (q : Replayed). ReplayedAs a q (replayFrom a (initial a) 0 order))
-    (sym (is ∙ ap (λ (u : Table). replayIn program times (record { count = u .locks; ceilings = u .ceilings }) (firstSnapshot program (u .store)) 0 order) table))
-    (replay-agreed ok lends order (initial-invariant a) (first-shown ok lends) 0)
 
 module _ (f : File) (x : AcceptAnswer) (says : AcceptedAs x (accept f)) where
   -- a file that is refused
@@ -60,16 +42,8 @@ module _ (f : File) (x : AcceptAnswer) (says : AcceptedAs x (accept f)) where
     ok : IsAccepted a
     ok = accepted f (found .1)
 
-    -- its parts can be replayed
-    pub answers-parts : Shaped (x .table) × (x .list .count ≤ 32)
-    unfolding jobListOf
-    answers-parts = (
-      subst Shaped (sym (found .2 .table)) (ok .isMade .shaped),
-      omega (arith, jobs-few (ok .isTimed), ap (λ (l : JobList). l .count) (found .2 .list)),
-    )
-
     module _ (order : List ℕ) (r : Replayed) (made : ReplayOf (x .table) (x .list) order r) where
-      same : ReplayedAs a r (replayFrom a (initial a) 0 order)
+      same : ReplayedAs r (replayFrom a (initial a) 0 order)
       same = made a ok (found .2 .table) (found .2 .list)
 
       -- the answer is that of the order's replay
@@ -78,7 +52,7 @@ module _ (f : File) (x : AcceptAnswer) (says : AcceptedAs x (accept f)) where
       replay-answer e = sym (ap (λ (c : Checked ℕ End). runAnswer (unwritten c)) (bind-goes _ (found .1) ∙ e))
 
       -- what a fault of the order comes to
-      outcome-fault : (c : Checked ℕ State) → replayFrom a (initial a) 0 order ≡ c → ReplayedAs a r c → (r .number ≡ 0 → ⊥)
+      outcome-fault : (c : Checked ℕ State) → replayFrom a (initial a) 0 order ≡ c → ReplayedAs r c → (r .number ≡ 0 → ⊥)
           → (r .place < 2 ^ 32) × (runAnswer (refused (r .number) (r .place)) ≡ replayAnswer f order)
       unfolding replay unwritten
       outcome-fault (refused n p) e h faulty =
@@ -98,15 +72,14 @@ module _ (f : File) (x : AcceptAnswer) (says : AcceptedAs x (accept f)) where
       answers-fault faulty = outcome-fault (replayFrom a (initial a) 0 order) refl same faulty .1
 
       -- what a complete order comes to
-      outcome-ended : (c : Checked ℕ State) → replayFrom a (initial a) 0 order ≡ c → ReplayedAs a r c → r .number ≡ 0
-          → runAnswer (unwritten (passed (record { store = r .state .store; failed = r .state .failed }))) ≡ replayAnswer f order
+      outcome-ended : (c : Checked ℕ State) → replayFrom a (initial a) 0 order ≡ c → ReplayedAs r c → r .number ≡ 0
+          → runAnswer (unwritten (passed (record { store = r .store; failed = r .failed }))) ≡ replayAnswer f order
       unfolding replay endOf
       outcome-ended (refused n p) e h clean = let fault = replay-fault ok order (initial-invariant a) 0 e in absurd (omega (arith, fault .numbered, h .0))
       outcome-ended (passed s) e h clean =
-          let shows = h .2 in
-          ap (λ (c : Checked ℕ End). runAnswer (unwritten c)) (λ i. passed (record { store = shows .store i; failed = shows .failed i }))
+          ap (λ (c : Checked ℕ End). runAnswer (unwritten c)) (λ i. passed (record { store = h .2 i; failed = h .3 i }))
           ∙ replay-answer (bind-goes _ e)
 
       pub answers-ended : r .number ≡ 0
-          → runAnswer (unwritten (passed (record { store = r .state .store; failed = r .state .failed }))) ≡ replayAnswer f order
+          → runAnswer (unwritten (passed (record { store = r .store; failed = r .failed }))) ≡ replayAnswer f order
       answers-ended clean = outcome-ended (replayFrom a (initial a) 0 order) refl same clean

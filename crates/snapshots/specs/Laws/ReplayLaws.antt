@@ -21,7 +21,7 @@ use Rattle.timing.specs.declared.Job.{Job}
 use Rattle.timing.specs.Accepted.{Accepted}
 use Rattle.timing.specs.Relations.{IsJob, base}
 use Rattle.machine.specs.Ends.{noFlags}
-use Rattle.snapshots.specs.declared.Snapshot.{Snapshot}
+use Rattle.snapshots.specs.Code.Snapshots.{Snapshot, ReplayEnd}
 use Rattle.order.specs.Code.Invariant.{hasBegun, Invariant}
 use Rattle.timing.specs.Laws.JobFacts.{jobs-few}
 use Rattle.order.specs.Laws.LengthLaws.{left, step-left}
@@ -35,7 +35,7 @@ use Rattle.snapshots.specs.Code.SnapshotSteps.{ownerIn, stackOf, stepIn,
 use Rattle.timing.specs.Code.IsAccepted.{IsAccepted}
 use Rattle.order.specs.States.{State, initial, hasEnded, isActive, allEnded}
 use Rattle.order.specs.Laws.StepLaws.{step-keeps, no-flag}
-use Rattle.snapshots.specs.Code.ReplayParts.{ReplayedAs}
+use Rattle.snapshots.specs.Code.ReplayParts.{EndsAs, replayedOf, ReplayedAs}
 
 -- ---- one byte
 
@@ -152,7 +152,7 @@ module _ {a : Accepted} (ok : IsAccepted a) {program times : List ℕ} {locks : 
   -- ---- the replay
 
   replay-end : {p : Snapshot} {s : State} → Invariant a s → Shows a p s → (index : ℕ)
-      → ReplayedAs a (replayIn program times locks p index []) (replayFrom a s index [])
+      → EndsAs a (replayIn program times locks p index []) (replayFrom a s index [])
   unfolding replayIn replayFrom if_then_else_
   replay-end {p} {s} inv shows index =
       let same = finished-agreed ok lends inv shows in
@@ -164,8 +164,8 @@ module _ {a : Accepted} (ok : IsAccepted a) {program times : List ℕ} {locks : 
   -- one byte keeps the two together
   replay-step : {p : Snapshot} {s : State} → Invariant a s → Shows a p s → (index byte : ℕ) (bytes : List ℕ)
       → ((after : State) → Invariant a after → Shows a (stepIn program times locks p byte .state) after
-      → ReplayedAs a (replayIn program times locks (stepIn program times locks p byte .state) (suc index) bytes) (replayFrom a after (suc index) bytes))
-      → ReplayedAs a (replayIn program times locks p index (byte ∷ bytes)) (replayFrom a s index (byte ∷ bytes))
+      → EndsAs a (replayIn program times locks (stepIn program times locks p byte .state) (suc index) bytes) (replayFrom a after (suc index) bytes))
+      → EndsAs a (replayIn program times locks p index (byte ∷ bytes)) (replayFrom a s index (byte ∷ bytes))
   replay-step {p} {s} inv shows index byte bytes onward =
       let same = finished-agreed ok lends inv shows in
       let agreed = step-agreed ok lends inv shows byte in
@@ -183,10 +183,16 @@ module _ {a : Accepted} (ok : IsAccepted a) {program times : List ℕ} {locks : 
       ]
 
   pub replay-agreed : (bytes : List ℕ) {p : Snapshot} {s : State} → Invariant a s → Shows a p s → (index : ℕ)
-      → ReplayedAs a (replayIn program times locks p index bytes) (replayFrom a s index bytes)
+      → EndsAs a (replayIn program times locks p index bytes) (replayFrom a s index bytes)
   replay-agreed [] inv shows index = replay-end inv shows index
   replay-agreed (byte ∷ bytes) inv shows index =
       replay-step inv shows index byte bytes (λ after kept shown. replay-agreed bytes kept shown (suc index))
+
+-- what is kept of an outcome
+pub replay-kept : (a : Accepted) (e : ReplayEnd) (c : Checked ℕ State) → EndsAs a e c → ReplayedAs (replayedOf e) c
+unfolding replayedOf
+replay-kept a e (refused number place) ends = ends
+replay-kept a e (passed s) ends = (ends .0, ends .1, ends .2 .store, ends .2 .failed)
 
 -- ---- what a replay refuses
 

@@ -11,10 +11,9 @@ use lib.Dec.{eqb}
 use lib.Seq.{drop-cons}
 use borrow.Author.Tests.{eq-eqb, ne-eqb, not-true, not-false}
 use Rattle.taskfile.specs.declared.Ceilings.{Ceilings}
-use Rattle.notation.specs.Lists.{if_then_else_, any, from, upTo}
-use Rattle.notation.specs.Laws.TestLaws.{and-first, and-second, or-left, or-second}
-use Rattle.snapshots.specs.declared.Snapshot.{Snapshot}
-use Rattle.snapshots.specs.declared.Stepped.{Stepped}
+use Rattle.notation.specs.Lists.{if_then_else_, any, upTo}
+use Rattle.notation.specs.Laws.TestLaws.{and-first, and-second}
+use Rattle.snapshots.specs.Code.Snapshots.{Snapshot, Stepped}
 use Rattle.snapshots.specs.Laws.ReplayLaws.{replay-extra, replay-illegal, replay-on, first-on, first-stops}
 use Rattle.snapshots.specs.Code.SnapshotSteps.{ownerIn, stepIn, hasUpcoming, finishedIn, replayIn, firstFrom}
 
@@ -38,27 +37,6 @@ module _ (program : List ℕ) (k x : ℕ) (on : firstFrom program k 0 32 ≡ fir
   pub first-missing : 32 ≤ x → x ≡ firstFrom program k 0 32
   unfolding firstFrom
   first-missing le = let none : 32 - x ≡ 0 = omega arith in sym (on ∙ ap (firstFrom program k x) none)
-
--- ---- a test of some of eight numbers
-
-module _ (test : ℕ → Bool) (k : ℕ) (on : any test (upTo 8) ≡ any test (from k (8 - k))) where
-  any-onward : k < 8 → any test (upTo 8) ≡ any test (from k (suc (7 - k)))
-  any-onward lt = on ∙ ap (λ (n : ℕ). any test (from k n)) (omega arith)
-
-  pub any-found : k < 8 → {b : Bool} → b ≡ test k → b ≡ true → true ≡ any test (upTo 8)
-  unfolding any from
-  any-found lt e h = sym (any-onward lt ∙ or-left (test k) _ (sym e ∙ h))
-
-  pub any-later : k < 8 → {b : Bool} → b ≡ test k → b ≡ false → any test (upTo 8) ≡ any test (from (k + 1) (8 - (k + 1)))
-  unfolding any from
-  any-later lt e h =
-      let fewer : 7 - k ≡ 8 - (k + 1) = omega arith in
-      any-onward lt ∙ or-second (test k) _ (sym e ∙ h) ∙ ap (λ (n : ℕ). any test (from n (7 - k))) (sym (add-one k))
-      ∙ ap (λ (n : ℕ). any test (from (k + 1) n)) fewer
-
-  pub any-missing : 8 ≤ k → false ≡ any test (upTo 8)
-  unfolding any from
-  any-missing le = let none : 8 - k ≡ 0 = omega arith in sym (on ∙ ap (λ (n : ℕ). any test (from k n)) none)
 
 -- ---- the end of an order
 

@@ -16,7 +16,7 @@ use Rattle.timing.specs.declared.Job.{Job}
 use Rattle.timing.specs.Accepted.{Accepted}
 use Rattle.timing.specs.Relations.{IsJob, base, before, mayPreempt}
 use Rattle.order.specs.declared.Frame.{Frame}
-use Rattle.snapshots.specs.declared.Snapshot.{Snapshot}
+use Rattle.snapshots.specs.Code.Snapshots.{Snapshot}
 use Rattle.order.specs.Code.Invariant.{hasBegun, Invariant}
 use Rattle.timing.specs.Laws.JobFacts.{jobs-few}
 use Rattle.snapshots.specs.Code.SnapshotSteps.{beforeIn, preemptsIn, ownedBy, goesOver}

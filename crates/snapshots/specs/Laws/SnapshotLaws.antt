@@ -27,8 +27,7 @@ use Rattle.machine.specs.Ends.{flagged}
 use Rattle.machine.specs.Instructions.{perform, values}
 use Rattle.snapshots.specs.declared.Due.{Due}
 use Rattle.order.specs.declared.Frame.{Frame}
-use Rattle.snapshots.specs.declared.Snapshot.{Snapshot}
-use Rattle.snapshots.specs.declared.Stepped.{Stepped}
+use Rattle.snapshots.specs.Code.Snapshots.{Snapshot, Stepped}
 use Rattle.order.specs.Code.Invariant.{Running, hasBegun, Invariant}
 use Rattle.timing.specs.Laws.JobFacts.{job-task, same-task}
 use Rattle.order.specs.Laws.LengthLaws.{body-short}
@@ -38,7 +37,7 @@ use Rattle.timing.specs.Laws.JobNumberLaws.{all-jobs, jobs-all}
 use Rattle.snapshots.specs.Laws.ShowLaws.{owned-job, job-owned, first-unbegun, first-waits}
 use Rattle.timing.specs.Laws.BaseLaws.{base-rises, base-small}
 use Rattle.snapshots.specs.Code.Shows.{Lends, Shows}
-use Rattle.snapshots.specs.Code.SnapshotSteps.{instructionIn, ownedBy, stackOf, topOf, turnIn, afterIn, stepWithIn, dueStep, stepIn, hasUpcoming, finishedIn}
+use Rattle.snapshots.specs.Code.SnapshotSteps.{instructionIn, ownedBy, stackOf, topOf, turnIn, afterIn, offeredIn, madeIn, stepWithIn, dueStep, stepIn, hasUpcoming, finishedIn}
 use Rattle.timing.specs.Code.IsAccepted.{IsAccepted}
 use Rattle.order.specs.States.{State, hasEnded, isActive, allEnded}
 use Rattle.order.specs.Laws.StepLaws.{GoodTurn, good-turn, afterEffect, performed-is, begun-before, begun-stays, begun-here, active-ended, active-goes}
@@ -195,7 +194,7 @@ module _ {a : Accepted} (ok : IsAccepted a) {program times : List ℕ} {locks : 
         ≡ (if offered
         then record { allowed = true; state = afterIn p (turn .frame .job) under (byte / 16) (perform (nextOf a (turn .frame)) (byte % 16) (turn .frame .local) (s .store)) }
         else record { allowed = false; state = p })
-    unfolding stepWithIn
+    unfolding stepWithIn offeredIn madeIn
     with-of =
         let lent = instruction-lent (good .0) (byte / 16) (good .1) under below room in
         rw (lent .1, lt-ltb (turn .frame .local .next) 16 (lent .0), shows .store) refl

@@ -24,7 +24,7 @@ use Rattle.timing.specs.Laws.RelationLaws.{before-says, before-or-preempted, be
 use Rattle.timing.specs.Relations.{IsJob, base, before, mayPreempt, jobNumbers}
 use Rattle.machine.specs.Instructions.{fresh}
 use Rattle.order.specs.declared.Frame.{Frame}
-use Rattle.snapshots.specs.declared.Snapshot.{Snapshot}
+use Rattle.snapshots.specs.Code.Snapshots.{Snapshot}
 use Rattle.order.specs.Code.Invariant.{Over, Running, hasBegun, Invariant}
 use Rattle.timing.specs.Laws.JobFacts.{jobs-few, same-task}
 use Rattle.order.specs.Orders.{startOf}

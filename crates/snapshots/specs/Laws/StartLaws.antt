@@ -1,7 +1,7 @@
--- Laws of the tests that decide a start: each test's answer from one of its parts, and, for the loops, that a test of the numbers
--- from k on, or of the elements of a list's front from k on, goes by its answer at k.
+-- Laws of the tests that decide a start: each test's answer from one of its parts, and, for the loops, that a test of the
+-- elements of a list's front from k on goes by its answer at k.
 -- Assumes nothing.
-use Prim.Native.Nat.{ℕ, suc, _+_, _-_, _≤_, _<_}
+use Prim.Native.Nat.{ℕ, _+_, _≤_, _<_}
 use native.Mathlib.Numerals.{add-one}
 use native.Mathlib.Omega.{arith}
 use mathlib.Core.Path.{_≡_, refl, sym, ap, _∙_}
@@ -12,36 +12,15 @@ use lib.Dec.{ltb, eqb}
 use lib.ListN.{length, getD, take, drop, length-take, drop-of-length-le}
 use lib.Seq.{drop-cons, getD-take, length-take-le}
 use Rattle.taskfile.specs.declared.Ceilings.{Ceilings}
-use Rattle.notation.specs.Lists.{if_then_else_, all, any, from}
-use Rattle.notation.specs.Laws.TestLaws.{both, or-left, or-second, and-holds, and-first, and-second, and-last}
+use Rattle.notation.specs.Lists.{if_then_else_, all}
+use Rattle.notation.specs.Laws.TestLaws.{both, and-holds, and-first, and-second, and-last}
 use Rattle.machine.specs.Held.{priority}
 use Rattle.machine.specs.Instructions.{fresh}
 use Rattle.order.specs.declared.Frame.{Frame}
-use Rattle.snapshots.specs.declared.Snapshot.{Snapshot}
+use Rattle.snapshots.specs.Code.Snapshots.{Snapshot}
 use Rattle.snapshots.specs.Code.SnapshotSteps.{Program, Times, ownerIn, arrivalIn, beforeIn, preemptsIn, ownedBy, waitsFor, waits, goesOver, stackOf, nobody, startsIn, startIn}
 
 -- ---- the loops
-
-module _ (test : ℕ → Bool) (k n : ℕ) where
-  more-from : k < n → from k (n - k) ≡ k ∷ from (k + 1) (n - (k + 1))
-  unfolding from
-  more-from h =
-      let e : n - k ≡ suc (n - (k + 1)) = omega arith in
-      rw (e, add-one) refl
-
-  pub any-here : k < n → test k ≡ true → any test (from k (n - k)) ≡ true
-  unfolding any
-  any-here h holds = rw (more-from h) (or-left (test k) _ holds)
-
-  pub any-next : k < n → test k ≡ false → any test (from k (n - k)) ≡ any test (from (k + 1) (n - (k + 1)))
-  unfolding any
-  any-next h fails = rw (more-from h) (or-second (test k) _ fails)
-
-  pub any-end : n ≤ k → any test (from k (n - k)) ≡ false
-  unfolding any from
-  any-end h =
-      let e : n - k ≡ 0 = omega arith in
-      rw e refl
 
 module _ {A : Type 0} (test : A → Bool) (d : A) (l : List A) (k n : ℕ) where
   more-front : k < n → n ≤ length l → drop k (take n l) ≡ getD l k d ∷ drop (k + 1) (take n l)

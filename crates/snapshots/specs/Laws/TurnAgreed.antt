@@ -22,7 +22,7 @@ use Rattle.timing.specs.Accepted.{Accepted}
 use Rattle.timing.specs.Relations.{IsJob, base}
 use Rattle.machine.specs.Instructions.{fresh}
 use Rattle.snapshots.specs.declared.Due.{Due}
-use Rattle.snapshots.specs.declared.Snapshot.{Snapshot}
+use Rattle.snapshots.specs.Code.Snapshots.{Snapshot}
 use Rattle.order.specs.Code.Invariant.{Running, Invariant}
 use Rattle.timing.specs.Laws.JobFacts.{jobs-few}
 use Rattle.order.specs.Orders.{Turn, startOf, turnAmong, turnOf}

@@ -15,8 +15,7 @@ use Rattle.notation.specs.Lists.{if_then_else_}
 use Rattle.notation.specs.Laws.TestLaws.{both, and-holds, and-first, and-second, and-last, decided}
 use Rattle.machine.specs.Instructions.{fresh}
 use Rattle.snapshots.specs.declared.Due.{Due}
-use Rattle.snapshots.specs.declared.Snapshot.{Snapshot}
-use Rattle.snapshots.specs.declared.Stepped.{Stepped}
+use Rattle.snapshots.specs.Code.Snapshots.{Snapshot, Stepped}
 use Rattle.snapshots.specs.Code.SnapshotSteps.{ownedBy, waits, nobody, startsIn, startIn, topOf, runsIn, turnIn, stepWithIn, dueStep, stepIn}
 
 -- ---- who runs

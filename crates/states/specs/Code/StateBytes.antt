@@ -1,8 +1,8 @@
--- A state of an order in one array of 192 bytes, which is lent to the functions that read it and copied once a move. Bytes 0 to 7 are the store;
--- from 8 on stands for each task the number of its first job not yet begun, from 16 on a flag for each of 32 jobs, 1 if it has failed; byte 48 is the number of
--- active jobs; and from 64 on stand 16 bytes for each of them: its number, a byte that is not used, its next position in two bytes,
--- the low one first, its four registers, and a byte for each lock. Bytes 49 to 63 are not used.
--- `snapshotIn` is the snapshot that such bytes hold.
+-- A state of an order in one array of 192 bytes, which is lent to the functions that read it and copied once a move.
+-- Bytes 0 to 7 are the store; from 8 on stands for each task the number of its first job not yet begun, from 16 on a
+-- flag for each of 32 jobs, 1 if it has failed; byte 48 is the number of active jobs; and from 64 on stand 16 bytes
+-- for each of them: its number, a byte that is not used, its next position in two bytes, the low one first, its four
+-- registers, and a byte for each lock. Bytes 49 to 63 are not used. `snapshotIn` is the snapshot that such bytes hold.
 -- Assumes nothing.
 use mathlib.Core.Path.{_≡_}
 use Prim.Native.Nat.{ℕ, _+_, _*_, _≤_, _<_}
@@ -13,7 +13,7 @@ use lib.ListN.{length, getD}
 use lib.Dec.{eqb}
 use Rattle.notation.specs.Lists.{upTo}
 use Rattle.order.specs.declared.Frame.{Frame}
-use Rattle.snapshots.specs.declared.Snapshot.{Snapshot}
+use Rattle.snapshots.specs.Code.Snapshots.{Snapshot}
 
 -- the n bytes from a on
 unfoldable pub bytesAt : List ℕ → ℕ → ℕ → List ℕ

@@ -5,25 +5,23 @@ use mathlib.Core.Path.{_≡_, refl, sym, ap, _∙_}
 use Prim.Native.Nat.{ℕ, _+_, _-_, _*_, _≤_, _<_}
 use native.Mathlib.Omega.{arith}
 use mathlib.Core.Bool.{Bool, true, false, not}
-use mathlib.Core.List.{List, map}
+use mathlib.Core.List.{List}
 use lib.ListN.{length, getD, take, drop}
-use lib.Seq.{ext-getD, length-take-le, getD-take}
 use lib.Dec.{ltb}
 use borrow.Author.Tests.{lt-ltb, le-ltb, not-true, not-false}
 use Rattle.taskfile.specs.declared.Ceilings.{Ceilings}
 use Rattle.taskfile.specs.declared.Instruction.{Instruction}
-use Rattle.notation.specs.Lists.{all, upTo, member}
+use Rattle.notation.specs.Lists.{all, member}
 use Rattle.notation.specs.Laws.TestLaws.{and-first, and-second}
 use Rattle.machine.specs.declared.Local.{Local}
 use Rattle.machine.specs.Held.{priority}
 use Rattle.machine.specs.Instructions.{fresh, values}
 use Rattle.snapshots.specs.declared.Due.{Due}
 use Rattle.order.specs.declared.Frame.{Frame}
-use Rattle.snapshots.specs.Code.SnapshotSteps.{ownerIn, instructionIn, beforeIn, preemptsIn, ownedBy, waitsFor, waits, goesOver, stackOf, nobody, noFrame, beyond, startsIn, startIn, topOf, runsIn, turnIn}
+use Rattle.snapshots.specs.Code.SnapshotSteps.{ownerIn, instructionIn, beforeIn, preemptsIn, ownedBy, waitsFor, waits, goesOver, stackOf, nobody, noFrame, beyond, startsIn, startIn, topOf, runsIn, turnIn, offeredIn}
 use Rattle.snapshots.specs.Laws.StartLaws as start
 use Rattle.snapshots.specs.Laws.TurnLaws as turn
-use Rattle.states.specs.Code.StateBytes.{bytesAt, frameAt, frameIn, flagIn, snapshotIn, IsState}
-use Rattle.snapshots.specs.Code.StepParts.{offeredIn}
+use Rattle.states.specs.Code.StateBytes.{bytesAt, frameAt, frameIn, snapshotIn, IsState}
 use Rattle.notation.specs.Laws.TabulateLaws.{values-length, values-at}
 
 -- ---- the parts of a snapshot
@@ -37,33 +35,13 @@ module _ (bytes : List ℕ) where
   unfolding bytesAt
   bytesAt-at a n k d lt = values-at (λ k. getD bytes (a + k) 0) n k d lt
 
-  pub store-length : length (snapshotIn bytes .store) ≡ 8
-  unfolding snapshotIn
-  store-length = bytesAt-length 0 8
-
-  pub upcoming-length : length (snapshotIn bytes .upcoming) ≡ 8
-  unfolding snapshotIn
-  upcoming-length = bytesAt-length 8 8
-
-  pub failed-length : length (snapshotIn bytes .failed) ≡ 32
-  unfolding snapshotIn
-  failed-length = values-length (flagIn bytes) 32
-
   pub stack-length : length (snapshotIn bytes .stack) ≡ 8
   unfolding snapshotIn
   stack-length = values-length (frameIn bytes) 8
 
-  pub store-at : (k d : ℕ) → k < 8 → getD (snapshotIn bytes .store) k d ≡ getD bytes k 0
-  unfolding snapshotIn
-  store-at k d lt = bytesAt-at 0 8 k d lt ∙ ap (λ (n : ℕ). getD bytes n 0) (omega arith)
-
   pub upcoming-at : (k d : ℕ) → k < 8 → getD (snapshotIn bytes .upcoming) k d ≡ getD bytes (8 + k) 0
   unfolding snapshotIn
   upcoming-at k d lt = bytesAt-at 8 8 k d lt
-
-  pub failed-at : (k : ℕ) (d : Bool) → k < 32 → getD (snapshotIn bytes .failed) k d ≡ flagIn bytes k
-  unfolding snapshotIn
-  failed-at k d lt = values-at (flagIn bytes) 32 k d lt
 
   pub stack-at : (k : ℕ) (d : Frame) → k < 8 → getD (snapshotIn bytes .stack) k d ≡ frameIn bytes k
   unfolding snapshotIn
@@ -84,18 +62,10 @@ module _ (bytes : List ℕ) where
     unfolding topOf
     top-is deep = rw depth-is (stack-at (getD bytes 48 0 - 1) beyond (omega arith))
 
-    -- the active jobs, in the order of their starts
-    pub stack-is : stackOf (snapshotIn bytes) ≡ map (frameIn bytes) (upTo (getD bytes 48 0))
-    unfolding stackOf
-    stack-is =
-        let depth = getD bytes 48 0 in
-        let front : length (take depth (snapshotIn bytes .stack)) ≡ depth = length-take-le depth (snapshotIn bytes .stack) (rw stack-length few) in
-        rw depth-is (ext-getD noFrame (take depth (snapshotIn bytes .stack)) (map (frameIn bytes) (upTo depth))
-        (front ∙ sym (values-length (frameIn bytes) depth))
-        (λ i lt.
-        (let low : i < depth = rw front at lt in
-        getD-take depth (snapshotIn bytes .stack) i noFrame low ∙ stack-at i noFrame (omega arith)
-        ∙ sym (values-at (frameIn bytes) depth i noFrame low))))
+-- whether a task's first job not yet begun is one of the task
+pub upcoming-owned : (program bytes : List ℕ) (i : ℕ) → i < 8 → {b : Bool} → b ≡ ownedBy program i (getD bytes (8 + i) 0)
+    → b ≡ ownedBy program i (getD (snapshotIn bytes .upcoming) i 0)
+upcoming-owned program bytes i lt e = e ∙ ap (ownedBy program i) (sym (upcoming-at bytes i 0 lt))
 
 -- ---- what a job waits for
 

@@ -5,25 +5,11 @@ use mathlib.Core.Logic.{inl, inr}
 use Prim.Native.Nat.{ℕ, _+_, _≤_, _<_}
 use native.Mathlib.Decide.{ℕ-discrete}
 use native.Mathlib.Omega.{arith}
-use mathlib.Core.List.{List, [], _∷_}
+use mathlib.Core.List.{List}
 use lib.ListN.{length, getD, set, take, length-set}
 use lib.Seq.{getD-set-same, getD-set-other, getD-take, length-take-le, take-all}
 use Rattle.states.specs.Code.StateBytes.{bytesAt, Written}
 use Rattle.notation.specs.Laws.TabulateLaws.{values-of, same-values, set-values}
-
--- ---- one byte written
-
-pub written-one : (l : List ℕ) (a v : ℕ) → a < length l → Written l (set l a v) a (v ∷ [])
-written-one l a v lt = record {
-  same = length-set l a v;
-  inside = λ k only.
-      (let first : k ≡ 0 = omega arith in
-      ap (λ (j : ℕ). getD (set l a v) (a + j) 0) first
-      ∙ ap (λ (j : ℕ). getD (set l a v) j 0) (omega arith)
-      ∙ getD-set-same l a v 0 lt
-      ∙ ap (λ (j : ℕ). getD (v ∷ []) j 0) (sym first));
-  outside = λ k away. getD-set-other l a k v 0 (λ same. elim away [ inl low ↦ omega arith | inr high ↦ omega arith ]);
-}
 
 -- the first k bytes of `new` written, and then the next
 pub written-next : (before now : List ℕ) (at : ℕ) (new : List ℕ) (k : ℕ) → Written before now at (take k new)

@@ -1,9 +1,8 @@
 -- `steps::step` meets its contract: where the turn is due and the value on offer its job steps, and else nothing changes.
 -- Assumes nothing.
-use mathlib.Core.Path.{sym, _∙_}
 use borrow.Author.Tests.{not-false}
 use borrow.Author.Needs.{needs}
-use Rattle.snapshots.specs.Laws.StepPartLaws.{offered-inside}
+use Rattle.snapshots.specs.Laws.StepPartLaws.{offered-found}
 use Rattle.steps.specs.Laws.StepCases.{task-small, step-nobody, step-refused, step-made}
 use Rattle.steps.proofs.step.Statement.{statement}
 use Rattle.steps.proofs.step.Tie as tie
@@ -34,7 +33,7 @@ step-with-requires c κs =
     let turned = due .before .before in
     let start = turned .before .before in
     let bounds = turned .turn-of .ensures .1 (not-false _ (due .if1 .left)) in
-    let inside = offered-inside _ _ _ _ (sym (offer .offered .ensures) ∙ not-false _ (c .before .if2 .left)) in
+    let inside = offered-found _ _ _ _ (offer .offered .ensures) (c .before .if2 .left) in
     let task = task-small _ _ _ _ _ (turned .turn-of .ensures .0) (start .pre .1) (due .if1 .left) in
     (start .pre .1, bounds .1, inside, bounds .0, task)
 

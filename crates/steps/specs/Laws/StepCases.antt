@@ -12,13 +12,11 @@ use Rattle.machine.specs.declared.Effect.{Effect}
 use Rattle.machine.specs.Instructions.{perform}
 use Rattle.snapshots.specs.declared.Due.{Due}
 use Rattle.order.specs.declared.Frame.{Frame}
-use Rattle.snapshots.specs.declared.Snapshot.{Snapshot}
-use Rattle.snapshots.specs.declared.Stepped.{Stepped}
-use Rattle.snapshots.specs.Code.SnapshotSteps.{instructionIn, turnIn, afterIn, stepIn}
+use Rattle.snapshots.specs.Code.Snapshots.{Snapshot, Stepped}
+use Rattle.snapshots.specs.Code.SnapshotSteps.{instructionIn, turnIn, afterIn, stepIn, offeredIn, madeIn}
 use Rattle.snapshots.specs.Laws.TurnLaws.{due-task, step-none, step-due}
 use Rattle.states.specs.Code.StateBytes.{bytesAt, snapshotIn, IsState}
 use Rattle.snapshots.specs.Laws.StepPartLaws.{with-offered, with-refused}
-use Rattle.snapshots.specs.Code.StepParts.{offeredIn, madeIn}
 use Rattle.states.specs.Laws.FrameReads.{eight-read}
 
 -- what an instruction makes of the store read byte by byte

@@ -15,7 +15,6 @@ use Rattle.taskfile.specs.declared.Check.the-variants.{Passed, Refused}
 use Rattle.taskfile.specs.declared.Table.{Table}
 use Rattle.notation.specs.Checked.{Checked, refused, passed}
 use Rattle.taskfile.specs.Laws.CheckSteps.{require-fails, bind-refused, bind-goes}
-use Rattle.taskfile.specs.Code.JudgingParts.{Shaped}
 use Rattle.notation.specs.Lists.{if_then_else_, padded}
 use Rattle.notation.specs.Laws.PaddedLaws.{padded-cons, padded-nil}
 use Rattle.taskfile.specs.Records.{File}
@@ -26,59 +25,28 @@ use Rattle.timing.specs.Laws.AcceptedLaws.{accepted}
 use Rattle.timing.specs.Code.IsAccepted.{IsAccepted}
 use Rattle.timing.specs.Laws.AcceptLaws.{accepted-refused, accepted-passed}
 use Rattle.timing.specs.Code.AcceptParts.{AcceptedParts, AcceptedAs}
-use Rattle.timing.specs.Laws.JobFacts.{jobs-few}
-use Rattle.timing.specs.Code.JobParts.{jobListOf}
 use Rattle.machine.specs.Ends.{noStore, noFlags}
 use Rattle.machine.specs.Buffers.{orderRoom, filled}
-use Rattle.snapshots.specs.declared.Snapshot.{Snapshot}
-use Rattle.snapshots.specs.Laws.LentLaws.{lent}
-use Rattle.snapshots.specs.Code.Lent.{OwnersTo, TimesTo}
-use Rattle.snapshots.specs.Laws.ReplayLaws.{first-shown}
-use Rattle.snapshots.specs.Code.Shows.{Shows}
-use Rattle.snapshots.specs.Code.SnapshotSteps.{firstSnapshot}
 use Rattle.order.specs.States.{initial}
 use Rattle.order.specs.Laws.StepLaws.{initial-invariant}
-use Rattle.walker.specs.declared.Outcome.{Outcome}
-use Rattle.walk.specs.declared.Verdict.the-variants.{Holds, Fails}
+use Rattle.outcomes.specs.declared.Outcome.{Outcome}
 use Rattle.walk.specs.WalkEntry.{admitted, decided, refusal, verdictOf, decidedAnswer, shown, decidedBytes, walkAnswerOf, walkAfterOf, walkAnswer, walkAfter}
-use Rattle.walker.specs.Code.WalkParts.{Came, EndsAs, WalksAs, answerOf, WalkOf, shownLength}
+use Rattle.outcomes.specs.Code.Outcomes.{answerOf, shownLength}
+use Rattle.trials.specs.Code.Trials.{Came, EndsAs, WalksAs}
+use Rattle.walker.specs.Code.WalkParts.{WalkOf}
+use Rattle.states.specs.Code.StateBytes.{snapshotIn}
+use Rattle.lending.specs.declared.Lent.{Lent}
+use Rattle.lending.specs.Code.Lending.{LentOf}
+use Rattle.outcomes.specs.Laws.OutcomeLaws.{answer-stopped, answer-found, answer-held, length-found, length-none}
 use Rattle.walk.specs.Laws.FailingLaws.{walk-short}
 use Rattle.walk.specs.Laws.ShownLaws.{decided-within, decided-over, answer-room, after-room}
 use Rattle.walk.specs.Walks.{Found, Walked, walk}
 
-pub walk-lent : {t : Table} {list : JobList} {program times : List ℕ} {start : Snapshot} {allowance : ℕ} {before after : List ℕ} {r : Outcome}
-    → OwnersTo t list (list .count) program → TimesTo list 32 times → start ≡ firstSnapshot program (t .store)
-    → WalksAs program times (record { count = t .locks; ceilings = t .ceilings }) start 512 0 allowance before after r → WalkOf t list allowance before after r
+pub walk-lent : {t : Table} {list : JobList} {l : Lent} {allowance : ℕ} {before after : List ℕ} {r : Outcome} → LentOf t list l
+    → WalksAs (l .program) (l .times) (l .locks) (snapshotIn (l .start)) 512 0 allowance before after r → WalkOf t list allowance before after r
 unfolding walk
-walk-lent {t} {list} {program} {times} {start} {allowance} {before} {after} {r} owners held first walks a ok table listed =
-    let lends = lent ok listed (subst (λ (u : Table). OwnersTo u list (list .count) program) table owners) held in
-    let begins = subst (λ (u : Table). start ≡ firstSnapshot program (u .store)) table first in
-    subst (λ (u : Table). WalksAs program times (record { count = u .locks; ceilings = u .ceilings }) start 512 0 allowance before after r) table walks
-    a (initial a) ok lends (initial-invariant a) (subst (λ (p : Snapshot). Shows a p (initial a)) (sym begins) (first-shown ok lends))
-
--- ---- the three answers
-
-pub answer-stopped : (r : Outcome) → r .stopped ≡ true → refusal 21 0 ≡ answerOf r
-unfolding answerOf if_then_else_
-answer-stopped r e = rw e refl
-
-pub answer-found : (r : Outcome) → r .stopped ≡ false → r .found ≡ true
-    → record { number = 0; place = 0; verdict = Fails; count = r .count; length = r .length; store = r .store; failed = r .failed } ≡ answerOf r
-unfolding answerOf if_then_else_
-answer-found r e f = rw (e, f) refl
-
-pub answer-held : (r : Outcome) → r .stopped ≡ false → r .found ≡ false
-    → record { number = 0; place = 0; verdict = Holds; count = r .count; length = 0; store = replicate 8 0; failed = replicate 32 false } ≡ answerOf r
-unfolding answerOf if_then_else_ noStore noFlags
-answer-held r e f = rw (e, f) refl
-
-pub length-found : (r : Outcome) → r .found ≡ true → r .length ≡ shownLength r
-unfolding shownLength if_then_else_
-length-found r e = rw e refl
-
-pub length-none : (r : Outcome) → r .found ≡ false → 0 ≡ shownLength r
-unfolding shownLength if_then_else_
-length-none r e = rw e refl
+walk-lent lent walks a ok table listed =
+    walks a (initial a) ok (lent .lends a ok table listed) (initial-invariant a) (lent .shows a ok table listed)
 
 -- ---- the buffer
 
@@ -181,14 +149,6 @@ module _ (f : File) (allowance : ℕ) (buffer : List ℕ) (x : AcceptAnswer) (sa
 
     ok : IsAccepted (found .0)
     ok = accepted f (found .1)
-
-    -- its parts can be walked
-    pub entry-parts : Shaped (x .table) × (x .list .count ≤ 32)
-    unfolding jobListOf
-    entry-parts = (
-      subst Shaped (sym (found .2 .table)) (ok .isMade .shaped),
-      omega (arith, jobs-few (ok .isTimed), ap (λ (l : JobList). l .count) (found .2 .list)),
-    )
 
     -- a buffer that is too short is left as it was
     admitted-short : length buffer < 512 → admitted f buffer ≡ refused 20 0

@@ -2,7 +2,8 @@
 -- Assumes nothing.
 use mathlib.Core.Path.{_∙_}
 use native.Mathlib.Omega.{arith}
-use Rattle.snapshots.specs.Laws.ReplayEntryLaws.{answers-refused, answers-parts, answers-place, answers-fault, answers-ended}
+use Rattle.snapshots.specs.Laws.ReplayEntryLaws.{answers-refused, answers-place, answers-fault, answers-ended}
+use Rattle.lending.specs.Laws.LendLaws.{parts-lent}
 use borrow.Author.Needs.{needs}
 use Rattle.replay.proofs.entries.replay.Statement.{statement}
 use Rattle.replay.proofs.entries.replay.Tie as tie
@@ -28,7 +29,7 @@ enum-told : tie.Need-enum-told
 enum-told c = search needs
 
 replay-table-requires : tie.Need-replay-table-requires
-replay-table-requires c κs = answers-parts _ _ (c .before .before .accept-file .ensures) (c .enum-told .given .1)
+replay-table-requires c κs = parts-lent _ _ (c .before .before .accept-file .ensures) (c .enum-told .given .1)
 
 cast-refused-run-2 : tie.Need-cast-refused-run-2
 cast-refused-run-2 c =
@@ -49,7 +50,7 @@ ended-run-requires c κs = search needs
 
 returns-3 : tie.Need-returns-3
 returns-3 c =
-    let end = c .before .before .before .before in
+    let end = c .before .before .before in
     let run = end .before .before in
     c .ended-run .ensures
     ∙ answers-ended _ _ (run .before .before .before .accept-file .ensures) (run .before .enum-told .given .1) _ _ (run .replay-table .ensures) (end .if1 .left)

@@ -2,8 +2,8 @@
 -- order that it shows. Assumes nothing.
 use mathlib.Core.Path.{_∙_}
 use native.Mathlib.Omega.{arith}
-use mathlib.Core.List.{[]}
-use Rattle.walker.specs.Laws.WalkEntryLaws.{entry-refused, entry-parts, entry-no-room, entry-short, entry-length, entry-answer, entry-after}
+use Rattle.walker.specs.Laws.WalkEntryLaws.{entry-refused, entry-no-room, entry-short, entry-length, entry-answer, entry-after}
+use Rattle.lending.specs.Laws.LendLaws.{parts-lent}
 use borrow.Author.Needs.{needs}
 use Rattle.walker.proofs.entries.walk_file.Statement.{statement}
 use Rattle.walker.proofs.entries.walk_file.Tie as tie
@@ -38,7 +38,7 @@ returns-2 c =
 
 walk-table-requires : tie.Need-walk-table-requires
 walk-table-requires c κs =
-    let parts = entry-parts _ 0 [] _ (c .before .before .before .before .accept-file .ensures) (c .before .before .enum-told .given .1) in
+    let parts = parts-lent _ _ (c .before .before .before .before .accept-file .ensures) (c .before .before .enum-told .given .1) in
     (parts .0, parts .1, c .before .if1 .left)
 
 shown-length-requires : tie.Need-shown-length-requires

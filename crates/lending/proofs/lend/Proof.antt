@@ -1,0 +1,24 @@
+-- `lending::lend` meets its contract: the filled arrays hold the table, and the first state shows where its orders start.
+-- Assumes nothing.
+use borrow.Author.Needs.{needs}
+use Rattle.lending.specs.Laws.LendLaws.{lent-of}
+use Rattle.lending.proofs.lend.Statement.{statement}
+use Rattle.lending.proofs.lend.Tie as tie
+
+program-of-requires : tie.Need-program-of-requires
+program-of-requires c κs = search needs
+
+times-of-requires : tie.Need-times-of-requires
+times-of-requires c κs = search needs
+
+first-state-requires : tie.Need-first-state-requires
+first-state-requires c κs = search needs
+
+returns : tie.Need-returns
+returns c =
+    let filled = c .before .before .before .before in
+    lent-of _ (filled .before .before .pre .0) (filled .before .program-of .ensures) (filled .times-of .ensures) (c .first-state .ensures .0)
+    (c .first-state .ensures .1)
+
+pub lend-spec : {M : Type 1} → statement M
+lend-spec = tie.close (tie.spec program-of-requires times-of-requires first-state-requires returns)

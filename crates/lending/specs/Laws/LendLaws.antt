@@ -1,0 +1,55 @@
+-- What is lent of a table's parts is as the contract says, and the parts of an accepted file can be lent.
+-- Assumes nothing.
+use mathlib.Core.Path.{_≡_, sym, ap, subst, _∙_}
+use Prim.Native.Nat.{ℕ, _≤_}
+use native.Mathlib.Omega.{arith}
+use mathlib.Core.List.{List}
+use Rattle.taskfile.specs.declared.Check.the-variants.{Passed}
+use Rattle.taskfile.specs.declared.Table.{Table}
+use Rattle.taskfile.specs.Code.JudgingParts.{Shaped}
+use Rattle.taskfile.specs.Records.{File}
+use Rattle.timing.specs.declared.AcceptAnswer.{AcceptAnswer}
+use Rattle.timing.specs.declared.JobList.{JobList}
+use Rattle.timing.specs.Accepted.{Accepted, accept}
+use Rattle.timing.specs.Code.AcceptParts.{AcceptedAs}
+use Rattle.timing.specs.Code.IsAccepted.{IsAccepted}
+use Rattle.timing.specs.Code.JobParts.{jobListOf}
+use Rattle.timing.specs.Laws.AcceptedLaws.{accepted}
+use Rattle.timing.specs.Laws.AcceptLaws.{accepted-passed}
+use Rattle.timing.specs.Laws.JobFacts.{jobs-few}
+use Rattle.order.specs.States.{initial}
+use Rattle.snapshots.specs.Code.Lent.{OwnersTo, TimesTo}
+use Rattle.snapshots.specs.Code.Shows.{Lends, Shows}
+use Rattle.snapshots.specs.Code.Snapshots.{Snapshot}
+use Rattle.snapshots.specs.Code.SnapshotSteps.{firstSnapshot}
+use Rattle.snapshots.specs.Laws.LentLaws.{lent}
+use Rattle.snapshots.specs.Laws.ReplayLaws.{first-shown}
+use Rattle.states.specs.Code.StateBytes.{snapshotIn, IsState}
+use Rattle.lending.specs.Code.Lending.{LentOf}
+
+module _ {t : Table} {list : JobList} {program times : List ℕ} (start : List ℕ) (shaped : Shaped t) (owners : OwnersTo t list (list .count) program)
+    (held : TimesTo list 32 times) (first : snapshotIn start ≡ firstSnapshot program (t .store)) where
+  holds : (a : Accepted) → IsAccepted a → t ≡ a .table → list ≡ jobListOf (a .jobs)
+      → Lends a program times (record { count = t .locks; ceilings = t .ceilings })
+  holds a ok table listed =
+      subst (λ (u : Table). Lends a program times (record { count = u .locks; ceilings = u .ceilings })) (sym table)
+      (lent ok listed (subst (λ (u : Table). OwnersTo u list (list .count) program) table owners) held)
+
+  begins : (a : Accepted) → IsAccepted a → t ≡ a .table → list ≡ jobListOf (a .jobs) → Shows a (snapshotIn start) (initial a)
+  begins a ok table listed =
+      subst (λ (p : Snapshot). Shows a p (initial a)) (sym (first ∙ ap (λ (u : Table). firstSnapshot program (u .store)) table))
+      (first-shown ok (holds a ok table listed))
+
+  pub lent-of : IsState start
+      → LentOf t list (record { program = program; times = times; locks = record { count = t .locks; ceilings = t .ceilings }; start = start })
+  lent-of whole = record { few = shaped .locksWithin; whole = whole; lends = holds; shows = begins }
+
+-- the table and the jobs of a file that passed can be lent
+pub parts-lent : (f : File) (x : AcceptAnswer) → AcceptedAs x (accept f) → x .check ≡ Passed → Shaped (x .table) × (x .list .count ≤ 32)
+unfolding jobListOf
+parts-lent f x says passes =
+    let found = accepted-passed x (accept f) says passes in
+    let ok = accepted f (found .1) in (
+      subst Shaped (sym (found .2 .table)) (ok .isMade .shaped),
+      omega (arith, jobs-few (ok .isTimed), ap (λ (l : JobList). l .count) (found .2 .list)),
+    )

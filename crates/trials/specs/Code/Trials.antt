@@ -1,0 +1,56 @@
+-- The walk and the trial on snapshots, as their functions yield them: what each came to within its allowance.
+-- Assumes nothing.
+use mathlib.Core.Path.{_≡_}
+use Prim.Native.Nat.{ℕ, _+_, _-_, _≤_, _<_}
+use mathlib.Core.Bool.{true, false}
+use mathlib.Core.List.{List, _++_}
+use mathlib.Core.Option.{Option, none, some}
+use lib.ListN.{length, take, drop}
+use Rattle.taskfile.specs.declared.Ceilings.{Ceilings}
+use Rattle.timing.specs.Accepted.{Accepted}
+use Rattle.timing.specs.Code.IsAccepted.{IsAccepted}
+use Rattle.snapshots.specs.Code.Snapshots.{Snapshot}
+use Rattle.order.specs.Code.Invariant.{Invariant}
+use Rattle.snapshots.specs.Code.Shows.{Lends, Shows}
+use Rattle.order.specs.States.{State}
+use Rattle.walk.specs.Moves.{moves}
+use Rattle.walk.specs.Walks.{Found, Walked, trial, walkFrom}
+use Rattle.outcomes.specs.declared.Outcome.{Outcome}
+
+-- the buffer so far: the path to the state, and what stands beyond the room of an order
+pub record Path (at : ℕ) (before now : List ℕ) : Type 0 where
+  pub kept : take at now ≡ take at before
+  pub beyond : drop 512 now ≡ drop 512 before
+
+-- how the walk ended that made `total` moves in all, on a path of `at` bytes
+abbrev pub EndsAs : Option Found → ℕ → ℕ → List ℕ → Outcome → Type 0
+EndsAs none total at buffer r = (r .found ≡ false) × (r .count ≡ total)
+EndsAs (some f) total at buffer r =
+    (r .found ≡ true) × (r .count ≡ total) × (r .length ≡ at + length (f .bytes))
+    × (take (at + length (f .bytes)) buffer ≡ take at buffer ++ f .bytes)
+    × (r .store ≡ f .ending .store) × (r .failed ≡ f .ending .failed)
+
+-- what a walk came to that had made `count` moves before and may make `allowance` in all, where the free walk comes to
+-- `walked`
+pub record Came (walked : Walked) (count allowance at : ℕ) (before after : List ℕ) (r : Outcome) : Type 0 where
+  pub kept : take at after ≡ take at before
+  pub beyond : drop 512 after ≡ drop 512 before
+  pub cut : allowance < count + walked .count → (r .stopped ≡ true) × (r .found ≡ false)
+  pub whole : count + walked .count ≤ allowance
+      → (r .stopped ≡ false) × EndsAs (walked .failing) (count + walked .count) at after r
+
+-- what a trial leaves beside its outcome
+abbrev pub Left : ℕ → ℕ → List ℕ → List ℕ → Outcome → Type 0
+Left at allowance before after r = (length after ≡ length before) × (r .count ≤ allowance) × Path at before after
+
+-- ---- what the walk and the trial come to, for every table and state that the arrays and the snapshot hold
+
+abbrev pub WalksAs : List ℕ → List ℕ → Ceilings → Snapshot → ℕ → ℕ → ℕ → List ℕ → List ℕ → Outcome → Type 0
+WalksAs program times locks p left count allowance before after r =
+    (a : Accepted) (s : State) → IsAccepted a → Lends a program times locks → Invariant a s → Shows a p s
+    → Came (walkFrom a left s) count allowance (512 - left) before after r
+
+abbrev pub TriesAs : List ℕ → List ℕ → Ceilings → Snapshot → ℕ → ℕ → ℕ → List ℕ → List ℕ → Outcome → Type 0
+TriesAs program times locks p left count allowance before after r =
+    (a : Accepted) (s : State) → IsAccepted a → Lends a program times locks → Invariant a s → Shows a p s
+    → Came (trial (walkFrom a left) (moves a s)) count allowance (511 - left) before after r

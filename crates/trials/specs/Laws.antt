@@ -1,0 +1,4 @@
+pub mod AnswerLaws
+pub mod TrialLaws
+pub mod TryingLaws
+pub mod WalkStateLaws

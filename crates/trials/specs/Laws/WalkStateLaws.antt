@@ -1,0 +1,90 @@
+-- The walk at one snapshot: a complete order fails if a job has, nothing is found where no steps are left, and else the moves are tried.
+-- Assumes nothing.
+use mathlib.Core.Path.{_≡_, refl, sym, ap, subst, _∙_}
+use mathlib.Core.Logic.{inl, inr}
+use Prim.Native.Nat.{ℕ, suc, _+_, _-_, _≤_}
+use native.Mathlib.Omega.{arith}
+use mathlib.Core.Bool.{true, false}
+use mathlib.Core.List.{List, [], _++_, append-nil}
+use mathlib.Core.Option.{Option, none, some}
+use lib.ListN.{length, take}
+use Rattle.taskfile.specs.declared.Ceilings.{Ceilings}
+use Rattle.notation.specs.Lists.{if_then_else_, any}
+use Rattle.notation.specs.Laws.TestLaws.{decided}
+use Rattle.snapshots.specs.Code.Snapshots.{Snapshot}
+use Rattle.order.specs.Orders.{endOf}
+use Rattle.snapshots.specs.Laws.SnapshotLaws.{finished-agreed}
+use Rattle.snapshots.specs.Code.SnapshotSteps.{finishedIn}
+use Rattle.order.specs.States.{State}
+use Rattle.walk.specs.Laws.CaseLaws.{walk-end, walk-cut, walk-on}
+use Rattle.outcomes.specs.declared.Outcome.{Outcome}
+use Rattle.walk.specs.Moves.{moves}
+use Rattle.outcomes.specs.Code.Outcomes.{heldAt, endedAt}
+use Rattle.trials.specs.Code.Trials.{EndsAs, Came, WalksAs, TriesAs}
+use Rattle.walk.specs.Walks.{Found, Walked, fails, trial, atEnd, walkFrom}
+
+-- nothing found, and nothing changed
+came-held : (count allowance at : ℕ) (buffer : List ℕ) → count ≤ allowance → (walked : Walked) → walked .failing ≡ none → walked .count ≡ 0
+    → Came walked count allowance at buffer buffer (heldAt count)
+unfolding heldAt
+came-held count allowance at buffer le walked nothing zero-moves =
+    record {
+      kept = refl;
+      beyond = refl;
+      cut = λ over. absurd (omega arith);
+      whole = λ within. (refl, subst (λ (o : Option Found). EndsAs o (count + walked .count) at buffer (heldAt count)) (sym nothing) (refl, omega arith));
+    }
+
+-- a complete order fails if a job has
+ended-came : (p : Snapshot) (s : State) → p .store ≡ s .store → p .failed ≡ s .failed → (count allowance at : ℕ) (buffer : List ℕ) → count ≤ allowance
+    → Came (atEnd s) count allowance at buffer buffer (endedAt p count at)
+unfolding endedAt atEnd fails endOf if_then_else_
+ended-came p s store failed count allowance at buffer le =
+    elim (decided (any (λ flag. flag) (s .failed))) [
+      | inl bad ↦
+          let ended : atEnd s ≡ record { failing = some (record { bytes = []; ending = endOf s }); count = 0 } = rw bad refl in
+          let r : Outcome = record { found = true; stopped = false; count = count; length = at; store = p .store; failed = p .failed } in
+          let is : endedAt p count at ≡ r = rw (ap (any (λ flag. flag)) failed ∙ bad) refl in
+          let none-more : at + 0 ≡ at = omega arith in
+          let same : take (at + 0) buffer ≡ take at buffer ++ [] = ap (λ (n : ℕ). take n buffer) none-more ∙ sym (append-nil (take at buffer)) in
+          subst (λ (w : Walked). Came w count allowance at buffer buffer (endedAt p count at)) (sym ended)
+          (subst (λ (q : Outcome). Came (record { failing = some (record { bytes = []; ending = endOf s }); count = 0 }) count allowance at buffer buffer q) (sym is)
+          (record {
+            kept = refl;
+            beyond = refl;
+            cut = λ over. absurd (omega arith);
+            whole = λ within. (refl, (refl, omega arith, omega arith, same, store, failed));
+          }))
+      | inr good ↦
+          let is : endedAt p count at ≡ heldAt count = rw (ap (any (λ flag. flag)) failed ∙ good) refl in
+          subst (λ (q : Outcome). Came (atEnd s) count allowance at buffer buffer q) (sym is)
+          (came-held count allowance at buffer le (atEnd s) (rw good refl) refl)
+    ]
+
+module _ {program times : List ℕ} {locks : Ceilings} {p : Snapshot} (left count allowance : ℕ) (buffer : List ℕ) (le : count ≤ allowance) where
+  -- a complete order fails if a job has
+  pub walk-ended : finishedIn program p ≡ true
+      → WalksAs program times locks p left count allowance buffer buffer (endedAt p count (512 - left))
+  walk-ended finished a s ok lends inv shows =
+      let ended = sym (finished-agreed ok lends inv shows) ∙ finished in
+      subst (λ (w : Walked). Came w count allowance (512 - left) buffer buffer (endedAt p count (512 - left))) (sym (walk-end a s left ended))
+      (ended-came p s (shows .store) (shows .failed) count allowance (512 - left) buffer le)
+
+  pub walk-none-left : finishedIn program p ≡ false → left ≡ 0 → WalksAs program times locks p left count allowance buffer buffer (heldAt count)
+  walk-none-left going empty a s ok lends inv shows =
+      let unended = sym (finished-agreed ok lends inv shows) ∙ going in
+      let is : walkFrom a left s ≡ record { failing = none; count = 0 } = ap (λ (n : ℕ). walkFrom a n s) empty ∙ walk-cut a s unended in
+      subst (λ (w : Walked). Came w count allowance (512 - left) buffer buffer (heldAt count)) (sym is)
+      (came-held count allowance (512 - left) buffer le _ refl refl)
+
+-- where jobs are left, the walk is the trial of the moves
+pub walk-tried : {program times : List ℕ} {locks : Ceilings} {p : Snapshot} {left count allowance : ℕ} {before after : List ℕ} {r : Outcome}
+    → finishedIn program p ≡ false → 1 ≤ left → left ≤ 512
+    → TriesAs program times locks p (left - 1) count allowance before after r → WalksAs program times locks p left count allowance before after r
+walk-tried {left = left} {count} {allowance} {before} {after} {r} going some-left few tries a s ok lends inv shows =
+    let unended = sym (finished-agreed ok lends inv shows) ∙ going in
+    let less : left ≡ suc (left - 1) = omega arith in
+    let is : walkFrom a left s ≡ trial (walkFrom a (left - 1)) (moves a s) = ap (λ (n : ℕ). walkFrom a n s) less ∙ walk-on a s (left - 1) unended in
+    let place : _≡_ {A = ℕ} (511 - (left - 1)) (512 - left) = omega arith in
+    subst (λ (w : Walked). Came w count allowance (512 - left) before after r) (sym is)
+    (subst (λ (n : ℕ). Came (trial (walkFrom a (left - 1)) (moves a s)) count allowance n before after r) place (tries a s ok lends inv shows))

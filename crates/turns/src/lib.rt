@@ -1,0 +1,77 @@
+// Whose turn it is at a state, and what it may take.
+use locals::values::on_offer;
+use order::Frame;
+use programs::instruction_at;
+use programs::owned_by;
+use snapshots::DEPTH;
+use snapshots::Due;
+use snapshots::FRAME;
+use snapshots::POSITION_LIMIT;
+use snapshots::PROGRAM;
+use snapshots::STACK;
+use snapshots::STATE;
+use snapshots::TASK_LIMIT;
+use snapshots::TIMES;
+use starts::start_of;
+use states::frame_at;
+use taskfile::Ceilings;
+use taskfile::Task;
+use timing::Job;
+ghost use mathlib.Core.Path.{_≡_};
+ghost use Prim.Native.Nat.{_≤_, _<_};
+ghost use mathlib.Core.Bool.{true};
+ghost use Rattle.snapshots.specs.Code.SnapshotSteps.{turnIn, runsIn, offeredIn};
+ghost use Rattle.states.specs.Code.StateBytes.{snapshotIn, IsState};
+
+// Is the active job started last one of task i? Tasks are below 8, so that no other number is taken for an index.
+pub fn runs(program: &[u8; PROGRAM], s: &[u8; STATE], i: Task) -> bool
+    requires { ⌜ IsState (now s) ⌝ }
+    ensures { λ b. ⌜ b ≡ runsIn (now (program .entry)) (snapshotIn (now (s .entry))) (i .0) ⌝ }
+{
+    if TASK_LIMIT <= i.0 {
+        return false;
+    }
+    let depth = s[DEPTH];
+    if depth == 0 {
+        return false;
+    }
+    let top = (depth - 1) as usize;
+    owned_by(program, i, Job(s[STACK + FRAME * top]))
+}
+
+// The turn that a byte of task i takes: the active job started last, if it is of that task, else a start.
+pub fn turn_of(
+    program: &[u8; PROGRAM],
+    times: &[u64; TIMES],
+    locks: Ceilings,
+    s: &[u8; STATE],
+    i: Task,
+) -> Due
+    requires { ⌜ (locks .count ≤ 8) × IsState (now s) ⌝ }
+    ensures turn { λ d. ⌜ d ≡ turnIn (now (program .entry)) (now (times .entry)) locks
+        (snapshotIn (now (s .entry))) (i .0) ⌝ }
+    ensures bounds { λ d. ⌜ (d .due ≡ true → (d .under < 8) × (d .frame .job .0 < 32)) ⌝ }
+{
+    if runs(program, s, i) {
+        let top = s[DEPTH] - 1;
+        return Due {
+            due: true,
+            frame: frame_at(s, top),
+            under: top,
+        };
+    }
+    start_of(program, times, locks, s, i)
+}
+
+// May the job in the frame, of task i, take a step with the value v?
+pub fn offered(program: &[u8; PROGRAM], f: Frame, i: Task, v: u8) -> bool
+    requires { ⌜ i .0 < 8 ⌝ }
+    ensures { λ b. ⌜ b ≡ offeredIn (now (program .entry)) f (i .0) v ⌝ }
+{
+    let local = f.local;
+    let next = local.next;
+    if POSITION_LIMIT <= next {
+        return false;
+    }
+    on_offer(instruction_at(program, i, next), v)
+}
