@@ -75,14 +75,8 @@ pub fn trial(
         let d = m.turn;
         let f = d.frame;
         let mut next = *s;
-        step_with(
-            program,
-            &mut next,
-            f,
-            d.under,
-            Task(m.byte / VALUES),
-            m.byte % VALUES,
-        );
+        let i = Task(m.byte / VALUES);
+        step_with(program, &mut next, f, d.under, i, m.byte % VALUES);
         let r = walk(program, times, locks, &next, left, made + 1, allowance, out);
         if r.found {
             return r;
