@@ -11,7 +11,7 @@ use taskfile::Table;
 use taskfile::limits::TASKS;
 use taskfile::numbers;
 use timing::AcceptAnswer;
-use timing::MOST_JOBS;
+use taskfile::limits::MOST_TOTAL;
 use timing::ReadAnswer;
 ghost use mathlib.Core.Path.{_≡_};
 ghost use Rattle.timing.specs.Accepted.{accept};
@@ -46,7 +46,7 @@ pub fn accept_file(file: &[u8]) -> AcceptAnswer
     if let Judged::Faulty(number, site) = timed {
         return refused_file(number, record_at(file, site), table);
     }
-    if MOST_JOBS < job_total(table) {
+    if MOST_TOTAL < job_total(table) {
         return refused_file(numbers::JOBS, 0, table);
     }
     AcceptAnswer {

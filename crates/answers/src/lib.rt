@@ -1,7 +1,7 @@
 // What an entry that runs jobs answers.
 use machine::RunAnswer;
-use snapshots::JOBS;
-use snapshots::VARIABLES;
+use taskfile::limits::VARIABLES;
+use taskfile::limits::JOBS;
 ghost use mathlib.Core.Path.{_≡_};
 ghost use Rattle.notation.specs.Checked.{refused, passed};
 ghost use Rattle.machine.specs.Buffers.{runAnswer, unwritten};

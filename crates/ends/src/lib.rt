@@ -2,12 +2,12 @@
 use programs::owned_by;
 use snapshots::DEPTH;
 use snapshots::FAILED;
-use snapshots::JOBS;
 use snapshots::PROGRAM;
 use snapshots::STATE;
-use snapshots::TASK_LIMIT;
 use snapshots::UPCOMING;
 use taskfile::Task;
+use taskfile::limits::MOST_TASKS;
+use taskfile::limits::JOBS;
 use timing::Job;
 ghost use mathlib.Core.Path.{_≡_};
 ghost use Prim.Native.Nat.{_<_};
@@ -20,7 +20,7 @@ pub fn some_upcoming(program: &[u8; PROGRAM], s: &[u8; STATE]) -> bool
     ensures { λ b. ⌜ b ≡ any (hasUpcoming (now (program .entry)) (snapshotIn (now (s .entry)) .upcoming)) (upTo 8) ⌝ }
 {
     let mut k: u8 = 0;
-    while k < TASK_LIMIT {
+    while k < MOST_TASKS {
         let x = Job(s[UPCOMING + (k as usize)]);
         if owned_by(program, Task(k), x) {
             return true;

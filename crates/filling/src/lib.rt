@@ -1,14 +1,14 @@
 // An accepted table in the arrays that are lent to the steps.
 use snapshots::BODIES;
 use snapshots::INSTRUCTION;
-use snapshots::INSTRUCTIONS;
-use snapshots::JOBS;
 use snapshots::LATEST;
 use snapshots::NO_TASK;
 use snapshots::OWNERS;
 use snapshots::PROGRAM;
 use snapshots::TIMES;
 use taskfile::Table;
+use taskfile::limits::INSTRUCTIONS;
+use taskfile::limits::JOBS;
 use timing::JobList;
 ghost use Prim.Native.Nat.{_≤_};
 ghost use Rattle.taskfile.specs.Code.JudgingParts.{Shaped};

@@ -13,19 +13,19 @@ use operations::skip_if_equal;
 use operations::skip_if_less;
 use operations::store_register;
 use operations::subtract_register;
-use snapshots::ACQUIRE;
-use snapshots::ADD;
-use snapshots::ASSERT;
-use snapshots::LOAD;
-use snapshots::PICK;
-use snapshots::RELEASE;
-use snapshots::SET;
-use snapshots::SKIP_IF_EQUAL;
-use snapshots::SKIP_IF_LESS;
-use snapshots::STORE_VALUE;
-use snapshots::SUBTRACT;
-use snapshots::VARIABLES;
 use taskfile::Instruction;
+use taskfile::limits::VARIABLES;
+use taskfile::operations::ACQUIRE;
+use taskfile::operations::ADD;
+use taskfile::operations::ASSERT;
+use taskfile::operations::LOAD;
+use taskfile::operations::PICK;
+use taskfile::operations::RELEASE;
+use taskfile::operations::SET;
+use taskfile::operations::SKIP_EQUAL;
+use taskfile::operations::SKIP_LESS;
+use taskfile::operations::STORE;
+use taskfile::operations::SUBTRACT;
 ghost use mathlib.Core.Path.{_≡_};
 ghost use Prim.Native.Nat.{_<_};
 ghost use Rattle.machine.specs.Instructions.{perform};
@@ -38,12 +38,12 @@ pub fn perform_instruction(i: Instruction, v: u8, l: Local, s: [u8; VARIABLES]) 
     let operation = i.operation;
     match operation {
         LOAD => load_variable(i, v, l, s),
-        STORE_VALUE => store_register(i, v, l, s),
+        STORE => store_register(i, v, l, s),
         SET => set_register(i, v, l, s),
         ADD => add_register(i, v, l, s),
         SUBTRACT => subtract_register(i, v, l, s),
-        SKIP_IF_LESS => skip_if_less(i, v, l, s),
-        SKIP_IF_EQUAL => skip_if_equal(i, v, l, s),
+        SKIP_LESS => skip_if_less(i, v, l, s),
+        SKIP_EQUAL => skip_if_equal(i, v, l, s),
         PICK => pick_value(i, v, l, s),
         ACQUIRE => acquire_step(i, v, l, s),
         RELEASE => release_step(i, v, l, s),

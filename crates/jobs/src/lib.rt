@@ -5,7 +5,7 @@ use taskfile::Table;
 use taskfile::Task;
 use taskfile::TaskEntry;
 use taskfile::limits::TASKS;
-use timing::JOBS;
+use taskfile::limits::JOBS;
 use timing::JobList;
 use timing::JobRecord;
 ghost use mathlib.Core.Path.{_≡_};

@@ -1,14 +1,14 @@
 // The state that an order starts from.
-use snapshots::JOB_LIMIT;
 use snapshots::OWNERS;
 use snapshots::PROGRAM;
 use snapshots::STATE;
 use snapshots::STORE;
 use snapshots::UPCOMING;
-use snapshots::VARIABLES;
 use states::put_eight;
 use taskfile::Task;
+use taskfile::limits::VARIABLES;
 use timing::Job;
+use taskfile::limits::MOST_JOBS;
 ghost use mathlib.Core.Path.{_≡_};
 ghost use Prim.Native.Nat.{_<_};
 ghost use Rattle.snapshots.specs.Code.SnapshotSteps.{firstFrom, firstSnapshot};
@@ -20,7 +20,7 @@ pub fn first_upcoming(program: &[u8; PROGRAM], i: Task) -> Job
     ensures { λ x. ⌜ x .0 ≡ firstFrom (now (program .entry)) (i .0) 0 32 ⌝ }
 {
     let mut x: u8 = 0;
-    while x < JOB_LIMIT {
+    while x < MOST_JOBS {
         let owner = program[OWNERS + (x as usize)];
         if i.0 <= owner {
             return Job(x);

@@ -1,6 +1,6 @@
 // A job's held locks, one number for each lock. No other file looks at the numbers.
-use snapshots::LOCK_LIMIT;
-use snapshots::LOCKS;
+use taskfile::limits::LOCKS;
+use taskfile::limits::MOST_LOCKS;
 ghost use mathlib.Core.Path.{_≡_};
 ghost use Prim.Native.Nat.{_≤_, _<_};
 ghost use lib.ListN.{take};
@@ -26,7 +26,7 @@ pub fn acquire_lock(held: [u8; LOCKS], lock: u8) -> [u8; LOCKS]
     ensures { λ r. ⌜ r ≡ acquire held lock ⌝ }
 {
     let mut more = held;
-    if lock < LOCK_LIMIT {
+    if lock < MOST_LOCKS {
         more[lock as usize] = 1;
     }
     more
@@ -37,7 +37,7 @@ pub fn release_lock(held: [u8; LOCKS], lock: u8) -> [u8; LOCKS]
     ensures { λ r. ⌜ r ≡ release held lock ⌝ }
 {
     let mut kept = held;
-    if lock < LOCK_LIMIT {
+    if lock < MOST_LOCKS {
         kept[lock as usize] = 0;
     }
     kept

@@ -2,11 +2,11 @@
 use crate::held::no_locks;
 use machine::Effect;
 use machine::Local;
-use snapshots::LOCKS;
-use snapshots::REGISTER_LIMIT;
-use snapshots::REGISTERS;
-use snapshots::VARIABLE_LIMIT;
-use snapshots::VARIABLES;
+use taskfile::limits::LOCKS;
+use taskfile::limits::MOST_REGISTERS;
+use taskfile::limits::MOST_VARIABLES;
+use taskfile::limits::REGISTERS;
+use taskfile::limits::VARIABLES;
 ghost use mathlib.Core.Path.{_≡_};
 ghost use Prim.Native.Nat.{_<_};
 ghost use lib.ListN.{getD, set};
@@ -28,7 +28,7 @@ pub fn fresh_local() -> Local
 fn value_of(registers: [u8; REGISTERS], r: u8) -> u8
     ensures { λ x. ⌜ x ≡ getD registers r 0 ⌝ }
 {
-    if r < REGISTER_LIMIT {
+    if r < MOST_REGISTERS {
         registers[r as usize]
     } else {
         0
@@ -40,7 +40,7 @@ fn with_value(registers: [u8; REGISTERS], r: u8, x: u8) -> [u8; REGISTERS]
     ensures { λ after. ⌜ after ≡ set registers r x ⌝ }
 {
     let mut after = registers;
-    if r < REGISTER_LIMIT {
+    if r < MOST_REGISTERS {
         after[r as usize] = x;
     }
     after
@@ -93,7 +93,7 @@ pub fn skipping_some(l: Local, n: u8) -> Local
 pub fn variable_of(store: [u8; VARIABLES], v: u8) -> u8
     ensures { λ x. ⌜ x ≡ getD store v 0 ⌝ }
 {
-    if v < VARIABLE_LIMIT {
+    if v < MOST_VARIABLES {
         store[v as usize]
     } else {
         0
@@ -105,7 +105,7 @@ pub fn with_variable(store: [u8; VARIABLES], v: u8, x: u8) -> [u8; VARIABLES]
     ensures { λ r. ⌜ r ≡ set store v x ⌝ }
 {
     let mut after = store;
-    if v < VARIABLE_LIMIT {
+    if v < MOST_VARIABLES {
         after[v as usize] = x;
     }
     after

@@ -1,6 +1,6 @@
 // The values on offer at an instruction.
-use snapshots::PICK;
 use taskfile::Instruction;
+use taskfile::operations::PICK;
 ghost use mathlib.Core.Path.{_≡_};
 ghost use Rattle.notation.specs.Lists.{member};
 ghost use Rattle.machine.specs.Instructions.{values};

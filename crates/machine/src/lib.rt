@@ -1,18 +1,28 @@
 // Instructions: what a job keeps of its own while it runs, and what one instruction does. Document 01, "Instructions".
 
+use taskfile::limits::INSTRUCTIONS;
+use taskfile::limits::JOBS;
+use taskfile::limits::LOCKS;
+use taskfile::limits::REGISTERS;
+use taskfile::limits::VARIABLES;
+use taskfile::limits::JOBS;
+
+// The position of a running job's next instruction is below this.
+pub const POSITIONS: u16 = INSTRUCTIONS as u16;
+
 // A job's own state: the position of its next instruction, registers 0 to 3, and for each lock 1 if the
 // job holds it, else 0.
 pub struct Local {
     pub next: u16,
-    pub registers: [u8; 4],
-    pub held: [u8; 8],
+    pub registers: [u8; REGISTERS],
+    pub held: [u8; LOCKS],
 }
 
 // What an instruction leaves: the job's own state, the store, whether an assertion failed, whether the job
 // has ended.
 pub struct Effect {
     pub local: Local,
-    pub store: [u8; 8],
+    pub store: [u8; VARIABLES],
     pub failed: bool,
     pub ended: bool,
 }
@@ -22,7 +32,7 @@ pub struct Effect {
 pub struct RunAnswer {
     pub number: u8,
     pub place: u32,
-    pub store: [u8; 8],
-    pub failed: [bool; 32],
+    pub store: [u8; VARIABLES],
+    pub failed: [bool; JOBS],
     pub length: u32,
 }

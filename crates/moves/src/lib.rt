@@ -9,17 +9,17 @@ use snapshots::LAST_VALUE;
 use snapshots::NO_JOB;
 use snapshots::NO_MOVE;
 use snapshots::OWNERS;
-use snapshots::PICK;
 use snapshots::PROGRAM;
 use snapshots::STACK;
 use snapshots::STATE;
-use snapshots::TASK_LIMIT;
 use snapshots::TIMES;
 use snapshots::UPCOMING;
 use snapshots::VALUES;
 use starts::no_turn;
 use taskfile::Ceilings;
 use taskfile::Task;
+use taskfile::limits::MOST_TASKS;
+use taskfile::operations::PICK;
 use timing::Job;
 use turns::offered;
 use turns::turn_of;
@@ -78,7 +78,7 @@ pub fn first_byte(program: &[u8; PROGRAM], top: Job, byte: u8) -> u8
         return byte;
     }
     let base = program[OWNERS + (top.0 as usize)];
-    if TASK_LIMIT <= base {
+    if MOST_TASKS <= base {
         return byte;
     }
     let first = VALUES * base;

@@ -1,13 +1,13 @@
 // What a walk comes to, and what that answers and shows.
 use ends::failed_in;
 use ends::some_failed;
-use snapshots::JOBS;
 use snapshots::ORDER_ROOM;
 use snapshots::STATE;
 use snapshots::STORE;
-use snapshots::UNDECIDED;
-use snapshots::VARIABLES;
 use states::eight_at;
+use taskfile::limits::VARIABLES;
+use taskfile::numbers::UNDECIDED;
+use taskfile::limits::JOBS;
 use walk::Verdict;
 use walk::WalkAnswer;
 ghost use mathlib.Core.Path.{_≡_};

@@ -6,18 +6,18 @@ use programs::owned_by;
 use snapshots::DEPTH;
 use snapshots::FRAME;
 use snapshots::HELD;
-use snapshots::JOB_LIMIT;
 use snapshots::OWNERS;
 use snapshots::PROGRAM;
 use snapshots::STACK;
 use snapshots::STATE;
-use snapshots::TASK_LIMIT;
 use snapshots::TIMES;
 use snapshots::UPCOMING;
 use states::eight_at;
 use taskfile::Ceilings;
 use taskfile::Task;
+use taskfile::limits::MOST_TASKS;
 use timing::Job;
+use taskfile::limits::MOST_JOBS;
 ghost use mathlib.Core.Path.{_≡_};
 ghost use Prim.Native.Nat.{_≤_, _<_};
 ghost use Rattle.notation.specs.Lists.{all};
@@ -54,7 +54,7 @@ pub fn must_wait(program: &[u8; PROGRAM], times: &[u64; TIMES], s: &[u8; STATE],
         (snapshotIn (now (s .entry)) .upcoming) (y .0) ⌝ }
 {
     let mut k: u8 = 0;
-    while k < TASK_LIMIT {
+    while k < MOST_TASKS {
         if waits_for(program, times, s, y, Task(k)) {
             return true;
         }
@@ -79,7 +79,7 @@ pub fn goes_over(
 {
     let at = STACK + FRAME * (k as usize);
     let x = Job(s[at]);
-    if JOB_LIMIT <= x.0 {
+    if MOST_JOBS <= x.0 {
         return false;
     }
     if !may_preempt(program, times, y, x) {

@@ -1,7 +1,6 @@
 // What the steps of an order read of an accepted table, in lent arrays of numbers.
 use snapshots::BODY;
 use snapshots::INSTRUCTION;
-use snapshots::JOB_LIMIT;
 use snapshots::LATEST;
 use snapshots::OWNERS;
 use snapshots::PROGRAM;
@@ -9,6 +8,7 @@ use snapshots::TIMES;
 use taskfile::Instruction;
 use taskfile::Task;
 use timing::Job;
+use taskfile::limits::MOST_JOBS;
 ghost use mathlib.Core.Path.{_≡_};
 ghost use Prim.Native.Nat.{_<_};
 ghost use Rattle.snapshots.specs.Code.SnapshotSteps.{instructionIn, beforeIn, preemptsIn, ownedBy};
@@ -31,7 +31,7 @@ pub fn instruction_at(program: &[u8; PROGRAM], i: Task, p: u16) -> Instruction
 pub fn owned_by(program: &[u8; PROGRAM], k: Task, x: Job) -> bool
     ensures { λ b. ⌜ b ≡ ownedBy (now (program .entry)) (k .0) (x .0) ⌝ }
 {
-    if JOB_LIMIT <= x.0 {
+    if MOST_JOBS <= x.0 {
         return false;
     }
     program[OWNERS + (x.0 as usize)] == k.0

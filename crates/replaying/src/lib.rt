@@ -1,17 +1,17 @@
 // The replay of an order's bytes, from a state on.
 use ends::failed_in;
 use ends::finished;
-use snapshots::EXTRA;
 use snapshots::PROGRAM;
 use snapshots::Replayed;
-use snapshots::SHORT;
 use snapshots::STATE;
-use snapshots::STEP;
 use snapshots::STORE;
 use snapshots::TIMES;
 use states::eight_at;
 use steps::step;
 use taskfile::Ceilings;
+use taskfile::numbers::EXTRA;
+use taskfile::numbers::SHORT;
+use taskfile::numbers::STEP;
 ghost use mathlib.Core.Path.{_≡_};
 ghost use Prim.Native.Nat.{_≤_};
 ghost use Rattle.snapshots.specs.Code.ReplayParts.{endAt, replayedOf};

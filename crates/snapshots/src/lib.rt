@@ -1,77 +1,12 @@
 // Orders of steps, as their code keeps them: how a state, a program and the times stand in arrays of fixed length,
 // whose turn it is, and what a replay comes to.
 use order::Frame;
+use taskfile::limits::INSTRUCTIONS;
+use taskfile::limits::TASKS;
+use taskfile::limits::VARIABLES;
+use taskfile::limits::JOBS;
 
-// ---- Limits and numbers of document 01.
-
-// Tasks of a table, at most.
-pub const TASKS: usize = 8;
-
-// Locks of a table, at most.
-pub const LOCKS: usize = 8;
-
-// Instructions of a body, at most.
-pub const INSTRUCTIONS: usize = 16;
-
-// Jobs of a table, at most.
-pub const JOBS: usize = 32;
-
-// Shared variables.
-pub const VARIABLES: usize = 8;
-
-// Registers of a job.
-pub const REGISTERS: usize = 4;
-
-// A task's number is below this.
-pub const TASK_LIMIT: u8 = TASKS as u8;
-
-// A lock's number is below this.
-pub const LOCK_LIMIT: u8 = LOCKS as u8;
-
-// A position in a body is below this.
-pub const POSITION_LIMIT: u16 = INSTRUCTIONS as u16;
-
-// A job's number is below this.
-pub const JOB_LIMIT: u8 = JOBS as u8;
-
-// A variable's number is below this.
-pub const VARIABLE_LIMIT: u8 = VARIABLES as u8;
-
-// A register's number is below this.
-pub const REGISTER_LIMIT: u8 = REGISTERS as u8;
-
-// Operation Load.
-pub const LOAD: u8 = 1;
-
-// Operation Store.
-pub const STORE_VALUE: u8 = 2;
-
-// Operation Set.
-pub const SET: u8 = 3;
-
-// Operation Add.
-pub const ADD: u8 = 4;
-
-// Operation Subtract.
-pub const SUBTRACT: u8 = 5;
-
-// Operation Skip if less.
-pub const SKIP_IF_LESS: u8 = 6;
-
-// Operation Skip if equal.
-pub const SKIP_IF_EQUAL: u8 = 7;
-
-// Operation Pick.
-pub const PICK: u8 = 8;
-
-// Operation Acquire.
-pub const ACQUIRE: u8 = 9;
-
-// Operation Release.
-pub const RELEASE: u8 = 10;
-
-// Operation Assert.
-pub const ASSERT: u8 = 11;
+// ---- An order.
 
 // Bytes of an order, at most: the room that a buffer has for one.
 pub const ORDER_ROOM: usize = 512;
@@ -84,21 +19,6 @@ pub const VALUES: u8 = 16;
 
 // The highest value.
 pub const LAST_VALUE: u8 = VALUES - 1;
-
-// Refused: a buffer too short.
-pub const ROOM: u8 = 20;
-
-// Refused: more moves than the allowance.
-pub const UNDECIDED: u8 = 21;
-
-// Refused: not a legal step.
-pub const STEP: u8 = 30;
-
-// Refused: an order that ends with jobs unfinished.
-pub const SHORT: u8 = 31;
-
-// Refused: bytes after all jobs ended.
-pub const EXTRA: u8 = 32;
 
 // ---- A state in bytes.
 

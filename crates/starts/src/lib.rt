@@ -8,11 +8,11 @@ use snapshots::DEPTH;
 use snapshots::Due;
 use snapshots::PROGRAM;
 use snapshots::STATE;
-use snapshots::TASK_LIMIT;
 use snapshots::TIMES;
 use snapshots::UPCOMING;
 use taskfile::Ceilings;
 use taskfile::Task;
+use taskfile::limits::MOST_TASKS;
 use timing::Job;
 ghost use mathlib.Core.Path.{_≡_};
 ghost use Prim.Native.Nat.{_≤_, _<_};
@@ -31,10 +31,10 @@ pub fn may_start(
     ensures { λ b. ⌜ b ≡ startsIn (now (program .entry)) (now (times .entry)) locks
         (snapshotIn (now (s .entry))) (i .0) ⌝ }
 {
-    if TASK_LIMIT <= i.0 {
+    if MOST_TASKS <= i.0 {
         return false;
     }
-    if TASK_LIMIT <= s[DEPTH] {
+    if MOST_TASKS <= s[DEPTH] {
         return false;
     }
     let y = Job(s[UPCOMING + (i.0 as usize)]);
@@ -73,7 +73,7 @@ pub fn start_of(
     ensures { λ d. ⌜ d ≡ startIn (now (program .entry)) (now (times .entry)) locks
         (snapshotIn (now (s .entry))) (i .0) ⌝ }
 {
-    if TASK_LIMIT <= i.0 {
+    if MOST_TASKS <= i.0 {
         return no_turn();
     }
     if !may_start(program, times, locks, s, i) {

@@ -1,4 +1,5 @@
-// The numbers by which a file is refused. Document 01, "Numbers by who causes them".
+// The numbers of refusals. Document 01, "Numbers by who causes them": the file's author and the bench; the caller; the author of
+// an order.
 pub const SIZE: u8 = 1;
 
 pub const KIND: u8 = 2;
@@ -20,3 +21,13 @@ pub const CEILING: u8 = 9;
 pub const OVERLOAD: u8 = 10;
 
 pub const JOBS: u8 = 11;
+
+pub const ROOM: u8 = 20;
+
+pub const UNDECIDED: u8 = 21;
+
+pub const STEP: u8 = 30;
+
+pub const SHORT: u8 = 31;
+
+pub const EXTRA: u8 = 32;

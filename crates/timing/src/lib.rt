@@ -5,13 +5,8 @@ use taskfile::Check;
 use taskfile::Judged;
 use taskfile::Table;
 use taskfile::Task;
+use taskfile::limits::JOBS;
 use taskfile::limits::TASKS;
-
-// "at most 32 jobs"
-pub const JOBS: usize = 32;
-
-// The same, to hold a count of jobs against.
-pub const MOST_JOBS: u64 = 32;
 
 // A job's number, by task, then by arrival, from 0.
 pub struct Job(pub u8);

@@ -1,21 +1,21 @@
 // Whose turn it is at a state, and what it may take.
 use locals::values::on_offer;
+use machine::POSITIONS;
 use order::Frame;
 use programs::instruction_at;
 use programs::owned_by;
 use snapshots::DEPTH;
 use snapshots::Due;
 use snapshots::FRAME;
-use snapshots::POSITION_LIMIT;
 use snapshots::PROGRAM;
 use snapshots::STACK;
 use snapshots::STATE;
-use snapshots::TASK_LIMIT;
 use snapshots::TIMES;
 use starts::start_of;
 use states::frame_at;
 use taskfile::Ceilings;
 use taskfile::Task;
+use taskfile::limits::MOST_TASKS;
 use timing::Job;
 ghost use mathlib.Core.Path.{_≡_};
 ghost use Prim.Native.Nat.{_≤_, _<_};
@@ -28,7 +28,7 @@ pub fn runs(program: &[u8; PROGRAM], s: &[u8; STATE], i: Task) -> bool
     requires { ⌜ IsState (now s) ⌝ }
     ensures { λ b. ⌜ b ≡ runsIn (now (program .entry)) (snapshotIn (now (s .entry))) (i .0) ⌝ }
 {
-    if TASK_LIMIT <= i.0 {
+    if MOST_TASKS <= i.0 {
         return false;
     }
     let depth = s[DEPTH];
@@ -70,7 +70,7 @@ pub fn offered(program: &[u8; PROGRAM], f: Frame, i: Task, v: u8) -> bool
 {
     let local = f.local;
     let next = local.next;
-    if POSITION_LIMIT <= next {
+    if POSITIONS <= next {
         return false;
     }
     on_offer(instruction_at(program, i, next), v)

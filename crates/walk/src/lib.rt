@@ -1,6 +1,9 @@
 // The walk: the first complete order that fails, if there is one. Document 01, "Orders of steps" and "Numbers by who
 // causes them".
 
+use taskfile::limits::JOBS;
+use taskfile::limits::VARIABLES;
+
 // Whether some complete order fails. A walk that was refused has no verdict.
 pub enum Verdict {
     None,
@@ -16,6 +19,6 @@ pub struct WalkAnswer {
     pub verdict: Verdict,
     pub count: u64,
     pub length: u32,
-    pub store: [u8; 8],
-    pub failed: [bool; 32],
+    pub store: [u8; VARIABLES],
+    pub failed: [bool; JOBS],
 }
