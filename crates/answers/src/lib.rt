@@ -1,7 +1,7 @@
 // What an entry that runs jobs answers.
 use machine::RunAnswer;
-use taskfile::limits::VARIABLES;
 use taskfile::limits::JOBS;
+use taskfile::limits::VARIABLES;
 ghost use mathlib.Core.Path.{_≡_};
 ghost use Rattle.notation.specs.Checked.{refused, passed};
 ghost use Rattle.machine.specs.Buffers.{runAnswer, unwritten};

@@ -23,7 +23,7 @@ use Rattle.walk.specs.WalkEntry.{walkAnswer, walkAfter, refusal}
 use Rattle.plan.specs.Plans.{planAnswer}
 use Rattle.matching.specs.ConversionEntries.{orderToPlanAnswer, orderToPlanAfter, planToOrderAnswer, planToOrderAfter}
 use Rattle.bench.specs.Files.{oneTask, twoTasks, tableX}
-use Rattle.bench.specs.Laws.Opened.{opened}
+use Rattle.bench.specs.Laws.Opened.{allOpened}
 use Rattle.bench.specs.Laws.Overload.{p4}
 
 -- ---- what the rows say, in short words
@@ -46,14 +46,14 @@ unfoldable pub ofTable : Checked ℕ Accepted → (Accepted → Bool) → Bool
 ofTable (refused number place) test = false
 ofTable (passed a) test = test a
 
-abbrev pub job : ℕ → Job
-job n = record { 0 = n }
+abbrev pub jobNumbered : ℕ → Job
+jobNumbered n = record { 0 = n }
 
 abbrev pub comesBefore : File → ℕ → ℕ → Type 0
-comesBefore f x y = ofTable (accept f) (λ a. before a (job x) (job y)) ≡ true
+comesBefore f x y = ofTable (accept f) (λ a. before a (jobNumbered x) (jobNumbered y)) ≡ true
 
 abbrev pub preempts : File → ℕ → ℕ → Type 0
-preempts f y x = ofTable (accept f) (λ a. mayPreempt a (job y) (job x)) ≡ true
+preempts f y x = ofTable (accept f) (λ a. mayPreempt a (jobNumbered y) (jobNumbered x)) ≡ true
 
 -- "C/P 2/8, 1/4" with first arrivals of 0 and a, and window W
 abbrev pub p1Table : ℕ → ℕ → File
@@ -129,7 +129,7 @@ pub record BenchCases : Type 0 where
 -- ---- the theorem
 
 pub bench : BenchCases
-unfolding opened responseOf ofTable
+unfolding allOpened responseOf ofTable
 bench =
     record {
       P1 = refl;

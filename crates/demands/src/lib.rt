@@ -7,7 +7,7 @@ ghost use mathlib.Core.Path.{_≡_};
 ghost use Prim.Native.Nat.{_^_, _≤_, _<_};
 ghost use Rattle.taskfile.specs.declared.Table.{Table};
 ghost use Rattle.timing.specs.Response.{roundedUp, tasksAbove, interference, demand};
-ghost use Rattle.timing.specs.Code.ResponseParts.{Timeable, Times, TimesOf};
+ghost use Rattle.timing.specs.Code.ResponseParts.{Timeable, BoundedTimes, TimesOf};
 
 // A number of 32 bits as one of 64.
 pub fn wide(x: u32) -> u64
@@ -54,7 +54,7 @@ pub fn interference_of(
     i: Task,
     r: u64,
 ) -> u64
-    requires { ⌜ Times (now executions) (now periods) tasks × (i .0 < tasks) × (r < 2 ^ 32) ⌝ }
+    requires { ⌜ BoundedTimes (now executions) (now periods) tasks × (i .0 < tasks) × (r < 2 ^ 32) ⌝ }
     ensures { λ x. ⌜ (x < 2 ^ 36) × ((t : Table)
         → TimesOf t (now (executions .entry)) (now (periods .entry)) tasks → x ≡ interference (tasksAbove t i) r) ⌝ }
 {
@@ -76,7 +76,7 @@ pub fn demand_of(
     i: Task,
     r: u64,
 ) -> u64
-    requires { ⌜ Times (now executions) (now periods) tasks × (i .0 < tasks) × (r < 2 ^ 32) ⌝ }
+    requires { ⌜ BoundedTimes (now executions) (now periods) tasks × (i .0 < tasks) × (r < 2 ^ 32) ⌝ }
     ensures { λ x. ⌜ ((t : Table) → TimesOf t (now (executions .entry)) (now (periods .entry)) tasks
         → x ≡ demand t i r) ⌝ }
 {

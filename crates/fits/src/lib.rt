@@ -11,7 +11,7 @@ ghost use lib.ListN.{drop};
 ghost use Rattle.taskfile.specs.declared.Table.{Table};
 ghost use Rattle.taskfile.specs.Tables.{tasksOf};
 ghost use Rattle.timing.specs.Response.{tasksAbove, responseOf};
-ghost use Rattle.timing.specs.Code.ResponseParts.{Times, TimesOf, boundOf, LowerBound, AllFit, fitsFrom};
+ghost use Rattle.timing.specs.Code.ResponseParts.{BoundedTimes, TimesOf, boundOf, LowerBound, AllFit, fitsFrom};
 
 // Whether, in some interval of length 1 to b, base and the tasks from j on are done. Only the last multiple of each
 // period and b itself need a look, if each of those tasks meets its own period. It calls itself on the next task.
@@ -24,7 +24,7 @@ pub fn fits_from(
     base: u64,
     b: u64,
 ) -> bool
-    requires { ⌜ Times (now executions) (now periods) tasks × (j ≤ tasks) × (base < 2 ^ 34) × (b < 2 ^ 32) ⌝ }
+    requires { ⌜ BoundedTimes (now executions) (now periods) tasks × (j ≤ tasks) × (base < 2 ^ 34) × (b < 2 ^ 32) ⌝ }
     ensures { λ r. ⌜ ((t : Table) → TimesOf t (now (executions .entry)) (now (periods .entry)) tasks
         → r ≡ fitsFrom (drop j (tasksOf t)) base b) ⌝ }
 {

@@ -1,6 +1,6 @@
--- What the entries answer for an order or a plan, and what a lent buffer then holds. Document 01, "Numbers by who causes them":
--- "an accepted, converted or found order or plan also returns its end store, the set of failed jobs and any length written";
--- "zero-fills to 512 or 1,281; bytes beyond never change".
+-- What the entries answer for an order or a plan, and what a lent buffer then holds. Document 01, "Numbers by who
+-- causes them": "an accepted, converted or found order or plan also returns its end store, the set of failed jobs and
+-- any length written"; "zero-fills to 512 or 1,281; bytes beyond never change".
 -- Assumes nothing.
 use Prim.Native.Nat.{ℕ}
 use mathlib.Core.List.{List, [], _++_}

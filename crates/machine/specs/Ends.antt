@@ -1,5 +1,5 @@
--- How an order or a plan ends. Document 01, "Orders of steps": "It ends with the store left and the failed jobs, those with a failed
--- assertion noted."
+-- How an order or a plan ends. Document 01, "Orders of steps": "It ends with the store left and the failed jobs,
+-- those with a failed assertion noted."
 -- Assumes nothing.
 use Prim.Native.Nat.{ℕ}
 use mathlib.Core.Bool.{Bool, true, false}

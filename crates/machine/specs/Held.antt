@@ -1,7 +1,7 @@
--- A job's held locks, and its priority. Document 01, "Instructions": "Acquire adds a lock to the job's held set, Release
--- removes it; either changes nothing if the set is already so. End empties it. A job's priority is the largest of its base
--- and the ceilings it holds."
--- The set is one number for each lock, 1 if it is held and else 0. Other definitions use these names and never the numbers.
+-- A job's held locks, and its priority. Document 01, "Instructions": "Acquire adds a lock to the job's held set,
+-- Release removes it; either changes nothing if the set is already so. End empties it. A job's priority is the
+-- largest of its base and the ceilings it holds." The set is one number for each lock, 1 if it is held and else 0.
+-- Other definitions use these names and never the numbers.
 -- Assumes nothing.
 use Prim.Native.Nat.{ℕ, suc, max}
 use mathlib.Core.Bool.{Bool}

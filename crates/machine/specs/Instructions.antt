@@ -52,12 +52,12 @@ abbrev pub Operation : Type 0
 Operation = Instruction → ℕ → Local → Store → Effect
 
 -- "0 End": "End empties it"
-unfoldable pub end : Operation
-end i v l s = record { local = skipping 0 (withHeld noLocks l); store = s; failed = false; ended = true }
+unfoldable pub endJob : Operation
+endJob i v l s = record { local = skipping 0 (withHeld noLocks l); store = s; failed = false; ended = true }
 
 -- "1 Load a from variable b"
-unfoldable pub load : Operation
-load i v l s = goesOn (skipping 0 (withRegister (i .a) (getD s (i .b) 0) l)) s
+unfoldable pub loadVariable : Operation
+loadVariable i v l s = goesOn (skipping 0 (withRegister (i .a) (getD s (i .b) 0) l)) s
 
 -- "2 Store to variable a from register b"
 unfoldable pub store : Operation
@@ -99,10 +99,11 @@ unfoldable pub assert : Operation
 assert i v l s = record { local = skipping 0 l; store = s; failed = eqb (register l (i .a)) 0; ended = false }
 
 -- the operations by number
-unfoldable pub operations : List Operation
-operations =
-    end ∷ load ∷ store ∷ setNumber ∷ add ∷ subtract ∷ skipLess ∷ skipEqual ∷ pick ∷ acquireLock ∷ releaseLock ∷ assert ∷ []
+unfoldable pub operationEffects : List Operation
+operationEffects =
+    endJob ∷ loadVariable ∷ store ∷ setNumber ∷ add ∷ subtract
+    ∷ skipLess ∷ skipEqual ∷ pick ∷ acquireLock ∷ releaseLock ∷ assert ∷ []
 
 -- what an instruction does, where v is the Pick's choice
 unfoldable pub perform : Operation
-perform i v l s = getD operations (i .operation) end i v l s
+perform i v l s = getD operationEffects (i .operation) endJob i v l s

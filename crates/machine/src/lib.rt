@@ -2,10 +2,10 @@
 
 use taskfile::limits::INSTRUCTIONS;
 use taskfile::limits::JOBS;
+use taskfile::limits::JOBS;
 use taskfile::limits::LOCKS;
 use taskfile::limits::REGISTERS;
 use taskfile::limits::VARIABLES;
-use taskfile::limits::JOBS;
 
 // The position of a running job's next instruction is below this.
 pub const POSITIONS: u16 = INSTRUCTIONS as u16;

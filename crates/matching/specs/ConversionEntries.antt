@@ -1,5 +1,5 @@
--- What the two conversions' entries answer, and what their lent buffers then hold, for every input. Document 01, "Numbers by
--- who causes them": the file's numbers, "Then 20", then those of the order or the plan.
+-- What the two conversions' entries answer, and what their lent buffers then hold, for every input. Document 01,
+-- "Numbers by who causes them": the file's numbers, "Then 20", then those of the order or the plan.
 -- Assumes nothing.
 use Prim.Native.Nat.{ℕ}
 use mathlib.Core.List.{List}

@@ -1,7 +1,7 @@
--- The two conversions. Document 01: "the conversions accept exactly the complete orders and the legal plans."
--- An order's steps fall into rounds, since "a round ends with a job's End": a step's round is the number of Ends before it, and
--- a round's guess is the store where it begins. A plan's steps make an order when they are read round by round and, in a round,
--- job by job.
+-- The two conversions. Document 01: "the conversions accept exactly the complete orders and the legal plans." An
+-- order's steps fall into rounds, since "a round ends with a job's End": a step's round is the number of Ends before
+-- it, and a round's guess is the store where it begins. A plan's steps make an order when they are read round by
+-- round and, in a round, job by job.
 -- Assumes nothing.
 use Prim.Native.Nat.{ℕ, suc, _+_, _*_, _/_, _%_}
 use mathlib.Core.Bool.{Bool}
@@ -22,7 +22,7 @@ use Rattle.order.specs.Replay.{replay}
 use Rattle.order.specs.States.{State, initial, hasEnded}
 use Rattle.plan.specs.declared.Round.{Round}
 use Rattle.plan.specs.Legality.{stepsOf}
-use Rattle.plan.specs.Plans.{legalRun, endOf}
+use Rattle.plan.specs.Plans.{legalRun, planEnd}
 use Rattle.plan.specs.Runs.{Plan, Step, JobRuns, jobTotal}
 
 -- ---- from an order to a plan
@@ -91,4 +91,4 @@ orderOf a runs = each (upTo (jobTotal a)) (λ r. each (jobNumbers a) (stepBytesI
 unfoldable pub planToOrder : Accepted → Plan → Checked ℕ Written
 planToOrder a plan = do
   runs ← legalRun a plan
-  passed (record { ending = endOf a runs; bytes = orderOf a runs })
+  passed (record { ending = planEnd a runs; bytes = orderOf a runs })

@@ -13,7 +13,7 @@ use lib.ListN.{length}
 use Rattle.notation.specs.Checked.{passed}
 use Rattle.taskfile.specs.Records.{File}
 use Rattle.timing.specs.Accepted.{Accepted, accept}
-use Rattle.timing.specs.Laws.AcceptedLaws.{accepted}
+use Rattle.timing.specs.Laws.AcceptedLaws.{file-accepted}
 use Rattle.machine.specs.Ends.{End}
 use Rattle.order.specs.Orders.{OrderEnds}
 use Rattle.plan.specs.Plans.{PlanEnds}
@@ -85,4 +85,4 @@ matched {a} ok =
 
 -- "A table is accepted if its file earns no number."
 pub demand3 : (f : File) {a : Accepted} → accept f ≡ passed a → Demand3 a
-demand3 f e = matched (accepted f e)
+demand3 f e = matched (file-accepted f e)

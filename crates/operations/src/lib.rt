@@ -17,7 +17,7 @@ use taskfile::limits::VARIABLES;
 ghost use mathlib.Core.Path.{_≡_};
 ghost use Prim.Native.Nat.{_<_, _+_, _%_};
 ghost use Rattle.notation.specs.Lists.{if_then_else_};
-ghost use Rattle.machine.specs.Instructions.{end, load, store, setNumber, add, subtract, skipLess, skipEqual, pick};
+ghost use Rattle.machine.specs.Instructions.{endJob, loadVariable, store, setNumber, add, subtract, skipLess, skipEqual, pick};
 ghost use Rattle.machine.specs.Instructions.{acquireLock, releaseLock, assert};
 ghost use Rattle.machine.specs.Instructions.{goesOn, skipping, withHeld, withRegister};
 
@@ -56,7 +56,7 @@ fn sum_of(x: u8, y: u8) -> u8
 // 0 End.
 pub fn end_job(i: Instruction, v: u8, l: Local, s: [u8; VARIABLES]) -> Effect
     requires { ⌜ l .next < 16 ⌝ }
-    ensures { λ e. ⌜ e ≡ end i v l s ⌝ }
+    ensures { λ e. ⌜ e ≡ endJob i v l s ⌝ }
 {
     let further = skipping_some(l, 0);
     let freed = with_held(further, no_locks());
@@ -71,7 +71,7 @@ pub fn end_job(i: Instruction, v: u8, l: Local, s: [u8; VARIABLES]) -> Effect
 // 1 Load a from variable b.
 pub fn load_variable(i: Instruction, v: u8, l: Local, s: [u8; VARIABLES]) -> Effect
     requires { ⌜ l .next < 16 ⌝ }
-    ensures { λ e. ⌜ e ≡ load i v l s ⌝ }
+    ensures { λ e. ⌜ e ≡ loadVariable i v l s ⌝ }
 {
     register_taken(l, i.a, variable_of(s, i.b), s)
 }

@@ -1,7 +1,7 @@
--- Orders of steps. Document 01, "Orders of steps": "Starting performs its first instruction. Otherwise only the active job
--- started last may step. An order byte is 16 × task + value, the value being the Pick's choice, else 0. .. each byte is a
--- step from the state that the last one left. It is complete if each byte is an allowed step and all jobs have ended after
--- the last, at most 512 steps."
+-- Orders of steps. Document 01, "Orders of steps": "Starting performs its first instruction. Otherwise only the
+-- active job started last may step. An order byte is 16 × task + value, the value being the Pick's choice, else 0. ..
+-- each byte is a step from the state that the last one left. It is complete if each byte is an allowed step and all
+-- jobs have ended after the last, at most 512 steps."
 -- Assumes nothing.
 use mathlib.Core.Path.{_≡_}
 use Prim.Native.Nat.{ℕ, _/_, _%_, _≤_}
@@ -37,7 +37,8 @@ startOf a s i =
 -- the turn that a byte of task i takes: the active job started last, if it is of that task, else a start
 unfoldable pub turnAmong : Accepted → State → ℕ → List Frame → Option Turn
 turnAmong a s i [] = startOf a s i
-turnAmong a s i (f ∷ under) = if eqb (base a (f .job)) i then some (record { frame = f; under = under }) else startOf a s i
+turnAmong a s i (f ∷ under) =
+    if eqb (base a (f .job)) i then some (record { frame = f; under = under }) else startOf a s i
 
 unfoldable pub turnOf : Accepted → State → ℕ → Option Turn
 turnOf a s i = turnAmong a s i (s .active)
@@ -72,8 +73,8 @@ run a s [] = some s
 run a s (byte ∷ bytes) = bind (step a s byte) (λ next. run a next bytes)
 
 -- "It ends with the store left and the failed jobs"
-unfoldable pub endOf : State → End
-endOf s = record { store = s .store; failed = s .failed }
+unfoldable pub orderEnd : State → End
+orderEnd s = record { store = s .store; failed = s .failed }
 
 -- "It is complete if .."
 pub record Complete (a : Accepted) (order : List ℕ) (s : State) : Type 0 where
@@ -81,8 +82,9 @@ pub record Complete (a : Accepted) (order : List ℕ) (s : State) : Type 0 where
   pub finished : allEnded a s ≡ true
   pub short : length order ≤ orderRoom
 
--- a complete order, and how it ends: "It ends with the store left and the failed jobs, those with a failed assertion noted."
+-- a complete order, and how it ends: "It ends with the store left and the failed jobs, those with a failed assertion
+-- noted."
 pub record OrderEnds (a : Accepted) (order : List ℕ) (e : End) : Type 0 where
   pub after : State
   pub complete : Complete a order after
-  pub ends : endOf after ≡ e
+  pub ends : orderEnd after ≡ e

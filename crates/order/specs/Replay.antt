@@ -12,7 +12,7 @@ use Rattle.machine.specs.declared.RunAnswer.{RunAnswer}
 use Rattle.machine.specs.Ends.{End}
 use Rattle.machine.specs.Buffers.{runAnswer, unwritten}
 use Rattle.order.specs.States.{State, initial, allEnded}
-use Rattle.order.specs.Orders.{step, endOf}
+use Rattle.order.specs.Orders.{step, orderEnd}
 
 -- "30 STEP: not a legal step."
 unfoldable pub legal : ℕ → Option State → Checked ℕ State
@@ -33,7 +33,7 @@ replayFrom a s index (byte ∷ bytes) = do
 unfoldable pub replay : Accepted → List ℕ → Checked ℕ End
 replay a order = do
   s ← replayFrom a (initial a) 0 order
-  passed (endOf s)
+  passed (orderEnd s)
 
 -- the replay's entry: the file's numbers, then the replay's
 unfoldable pub replayed : File → List ℕ → Checked ℕ End

@@ -1,6 +1,6 @@
--- The state that a step goes from, and which job may start there. Document 01, "Orders of steps": "A job is active from its
--- first instruction until its End is done. A job not yet begun may start when each job that comes before it has ended, it
--- may preempt every active job, and its base is above every active job's present priority."
+-- The state that a step goes from, and which job may start there. Document 01, "Orders of steps": "A job is active
+-- from its first instruction until its End is done. A job not yet begun may start when each job that comes before it
+-- has ended, it may preempt every active job, and its base is above every active job's present priority."
 -- Assumes nothing.
 use Prim.Native.Nat.{ℕ}
 use mathlib.Core.Bool.{Bool, false, not, _&&_, _||_}
@@ -17,7 +17,8 @@ use Rattle.machine.specs.Held.{priority}
 use Rattle.machine.specs.Instructions.{Store}
 use Rattle.order.specs.declared.Frame.{Frame}
 
--- the store, the jobs that have ended, the jobs with a failed assertion, and the active jobs, the one started last first
+-- the store, the jobs that have ended, the jobs with a failed assertion, and the active jobs, the one started last
+-- first
 pub record State : Type 0 where
   pub store : Store
   pub ended : Flags

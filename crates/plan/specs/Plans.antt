@@ -21,8 +21,8 @@ legalRun a plan = do
   legality a plan runs
   passed runs
 
-unfoldable pub endOf : Accepted → JobRuns → End
-endOf a runs = record { store = lastOr (a .table .store) (runs .running .stores); failed = runs .running .failed }
+unfoldable pub planEnd : Accepted → JobRuns → End
+planEnd a runs = record { store = lastOr (a .table .store) (runs .running .stores); failed = runs .running .failed }
 
 -- a plan is legal, and its run is this one
 abbrev pub Legal : Accepted → Plan → JobRuns → Type 0
@@ -32,12 +32,12 @@ Legal a plan runs = legalRun a plan ≡ passed runs
 pub record PlanEnds (a : Accepted) (plan : Plan) (e : End) : Type 0 where
   pub runs : JobRuns
   pub legal : Legal a plan runs
-  pub ends : endOf a runs ≡ e
+  pub ends : planEnd a runs ≡ e
 
 unfoldable pub checkPlan : Accepted → Plan → Checked ℕ End
 checkPlan a plan = do
   runs ← legalRun a plan
-  passed (endOf a runs)
+  passed (planEnd a runs)
 
 -- the plan check's entry: the file's numbers, then the plan's
 unfoldable pub checked : File → Plan → Checked ℕ End

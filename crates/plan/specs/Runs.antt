@@ -55,19 +55,19 @@ pub record Step : Type 0 where
   pub priorityAfter : ℕ
 
 -- where the run stands: the offset of the next byte, each round's store, the failed jobs
-pub record Running : Type 0 where
+pub record RunState : Type 0 where
   pub offset : ℕ
   pub stores : List Store
   pub failed : Flags
 
 -- the store of a round
-abbrev pub storeIn : Running → Round → Store
+abbrev pub storeIn : RunState → Round → Store
 storeIn running r = getD (running .stores) (r .0) noStore
 
 -- a job's steps from here to its End, and where the run then stands
 pub record JobRun : Type 0 where
   pub steps : List Step
-  pub running : Running
+  pub running : RunState
 
 -- the round of the step whose bytes are at an offset
 abbrev pub roundAt : Plan → ℕ → Round
@@ -83,12 +83,12 @@ stepBytes a plan x local previous offset = do
       41 (offset + 1)
 
 -- what the step does: its instruction, on the store of its round
-unfoldable pub stepEffect : Accepted → Plan → Job → Local → Running → Effect
+unfoldable pub stepEffect : Accepted → Plan → Job → Local → RunState → Effect
 stepEffect a plan x local running =
     perform (instructionOf (a .table) (jobAt a x .task) (local .next)) (getD plan (running .offset + 1) 0) local
     (storeIn running (roundAt plan (running .offset)))
 
-unfoldable pub stepMade : Accepted → Plan → Job → Running → Effect → Step
+unfoldable pub stepMade : Accepted → Plan → Job → RunState → Effect → Step
 stepMade a plan x running effect =
     record {
       round = roundAt plan (running .offset);
@@ -96,7 +96,7 @@ stepMade a plan x running effect =
       priorityAfter = priority (ceilingsOf (a .table)) (base a x) (effect .local .held);
     }
 
-unfoldable pub runningAfter : Plan → Job → Running → Effect → Running
+unfoldable pub runningAfter : Plan → Job → RunState → Effect → RunState
 runningAfter plan x running effect =
     record {
       offset = running .offset + 2;
@@ -106,7 +106,7 @@ runningAfter plan x running effect =
 
 -- A job runs whole: step after step until its End. A body has at most 16 instructions and skips go forward only, so
 -- 16 steps are enough.
-unfoldable pub runJob : Accepted → Plan → Job → ℕ → Local → Round → Running → Checked ℕ JobRun
+unfoldable pub runJob : Accepted → Plan → Job → ℕ → Local → Round → RunState → Checked ℕ JobRun
 runJob a plan x zero local previous running = passed (record { steps = []; running = running })
 runJob a plan x (suc left) local previous running = do
   stepBytes a plan x local previous (running .offset)
@@ -121,9 +121,9 @@ runJob a plan x (suc left) local previous running = do
 -- the run of the listed jobs: each job's steps, and where the run then stands
 pub record JobRuns : Type 0 where
   pub steps : List (List Step)
-  pub running : Running
+  pub running : RunState
 
-unfoldable pub runJobs : Accepted → Plan → List Job → Running → Checked ℕ JobRuns
+unfoldable pub runJobs : Accepted → Plan → List Job → RunState → Checked ℕ JobRuns
 runJobs a plan [] running = passed (record { steps = []; running = running })
 runJobs a plan (x ∷ xs) running = do
   one ← runJob a plan x mostInstructions fresh firstRound running
@@ -131,7 +131,7 @@ runJobs a plan (x ∷ xs) running = do
   passed (record { steps = one .steps ∷ others .steps; running = others .running })
 
 -- the run before its first step: "each step on its round's store, which at first is that round's guess"
-unfoldable pub runStart : Accepted → Plan → Running
+unfoldable pub runStart : Accepted → Plan → RunState
 runStart a plan =
     record { offset = 1 + 8 * jobTotal a; stores = map (guess plan) (roundNumbers a); failed = noFlags }
 

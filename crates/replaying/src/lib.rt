@@ -14,13 +14,13 @@ use taskfile::numbers::SHORT;
 use taskfile::numbers::STEP;
 ghost use mathlib.Core.Path.{_≡_};
 ghost use Prim.Native.Nat.{_≤_};
-ghost use Rattle.snapshots.specs.Code.ReplayParts.{endAt, replayedOf};
+ghost use Rattle.snapshots.specs.Code.ReplayParts.{replayEndAt, replayedOf};
 ghost use Rattle.snapshots.specs.Code.SnapshotSteps.{replayIn};
 ghost use Rattle.states.specs.Code.StateBytes.{snapshotIn, IsState};
 
 // What a replay comes to at a state.
 fn outcome(number: u8, index: usize, s: &[u8; STATE]) -> Replayed
-    ensures { λ r. ⌜ r ≡ replayedOf (endAt number index (snapshotIn (now (s .entry)))) ⌝ }
+    ensures { λ r. ⌜ r ≡ replayedOf (replayEndAt number index (snapshotIn (now (s .entry)))) ⌝ }
 {
     let store = eight_at(s, STORE);
     let failed = failed_in(s);

@@ -6,7 +6,7 @@ use timing::Share;
 ghost use Prim.Native.Nat.{_^_, _≤_, _<_, _∣_};
 ghost use Rattle.taskfile.specs.declared.Table.{Table};
 ghost use Rattle.timing.specs.Response.{tasksAbove};
-ghost use Rattle.timing.specs.Code.ResponseParts.{Times, TimesOf, SumFits, WithTask, ShareOf};
+ghost use Rattle.timing.specs.Code.ResponseParts.{BoundedTimes, TimesOf, SumFits, WithTask, ShareOf};
 
 // The largest number of 64 bits.
 const LARGEST: u64 = 18446744073709551615;
@@ -67,7 +67,7 @@ pub fn share_above(
     i: Task,
     cap: u64,
 ) -> Share
-    requires { ⌜ Times (now executions) (now periods) tasks × (i .0 < tasks) × (1 ≤ cap) × (cap < 2 ^ 63) ⌝ }
+    requires { ⌜ BoundedTimes (now executions) (now periods) tasks × (i .0 < tasks) × (1 ≤ cap) × (cap < 2 ^ 63) ⌝ }
     ensures { λ s. ⌜ ((t : Table) → TimesOf t (now (executions .entry)) (now (periods .entry)) tasks
         → ShareOf (tasksAbove t i) cap s) ⌝ }
 {

@@ -2,9 +2,9 @@
 // whose turn it is, and what a replay comes to.
 use order::Frame;
 use taskfile::limits::INSTRUCTIONS;
+use taskfile::limits::JOBS;
 use taskfile::limits::TASKS;
 use taskfile::limits::VARIABLES;
-use taskfile::limits::JOBS;
 
 // ---- An order.
 

@@ -9,7 +9,7 @@ use timing::Job;
 ghost use mathlib.Core.Path.{_≡_};
 ghost use Prim.Native.Nat.{_+_, _*_, _≤_, _<_};
 ghost use lib.ListN.{length};
-ghost use Rattle.states.specs.Code.StateBytes.{bytesAt, frameIn, Written, FrameWritten};
+ghost use Rattle.states.specs.Code.StateBytes.{bytesAt, frameIn, Replaced, FrameReplaced};
 
 // Eight bytes of a state.
 pub fn eight_at(s: &[u8; STATE], at: usize) -> [u8; 8]
@@ -57,7 +57,7 @@ pub fn frame_at(s: &[u8; STATE], k: u8) -> Frame
 // Replaces eight bytes of a state.
 pub fn put_eight(s: &mut [u8; STATE], at: usize, new: [u8; 8])
     requires { ⌜ (length (now s) ≡ 192) × (at ≤ 184) ⌝ }
-    ensures { λ _. ⌜ Written (now (s .entry)) (now (s .exit)) at new ⌝ }
+    ensures { λ _. ⌜ Replaced (now (s .entry)) (now (s .exit)) at new ⌝ }
 {
     let mut k: usize = 0;
     while k < 8 {
@@ -69,7 +69,7 @@ pub fn put_eight(s: &mut [u8; STATE], at: usize, new: [u8; 8])
 // Makes job x, with this state of its own, the active job at position k.
 pub fn put_frame(s: &mut [u8; STATE], k: u8, x: Job, local: Local)
     requires { ⌜ (length (now s) ≡ 192) × (k < 8) ⌝ }
-    ensures { λ _. ⌜ FrameWritten (now (s .entry)) (now (s .exit)) k (record { job = x; local = local }) ⌝ }
+    ensures { λ _. ⌜ FrameReplaced (now (s .entry)) (now (s .exit)) k (record { job = x; local = local }) ⌝ }
 {
     let at = STACK + FRAME * (k as usize);
     let registers = local.registers;

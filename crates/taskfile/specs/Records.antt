@@ -51,11 +51,11 @@ pub record Uses : Type 0 where
   pub c : Use
 
 -- the ranges that fields have: a register 0 to 3, a variable 0 to 7, any byte, and 0 to 15
-abbrev pub register : Use
-register = most 3
+abbrev pub registerNumber : Use
+registerNumber = most 3
 
-abbrev pub variable : Use
-variable = most 7
+abbrev pub variableNumber : Use
+variableNumber = most 7
 
 abbrev pub anyByte : Use
 anyByte = most 255
@@ -67,24 +67,24 @@ abbrev pub uses : Use → Use → Use → Uses
 uses x y z = record { a = x; b = y; c = z }
 
 -- The operations by number, with the fields that each uses.
-unfoldable pub operations : List Uses
-operations =
+unfoldable pub operationUses : List Uses
+operationUses =
     uses unused unused unused  -- 0 End
-    ∷ uses register variable unused  -- 1 Load a from variable b
-    ∷ uses variable register unused  -- 2 Store to variable a from register b
-    ∷ uses register anyByte unused  -- 3 Set register a to the number b
-    ∷ uses register register unused  -- 4 Add register b to register a
-    ∷ uses register register unused  -- 5 Subtract register b from register a
-    ∷ uses register register small  -- 6 skip c instructions if register a is less than register b
-    ∷ uses register register small  -- 7 the same if equal
-    ∷ uses register small unused  -- 8 Pick, a takes any value 0 to b
+    ∷ uses registerNumber variableNumber unused  -- 1 Load a from variable b
+    ∷ uses variableNumber registerNumber unused  -- 2 Store to variable a from register b
+    ∷ uses registerNumber anyByte unused  -- 3 Set register a to the number b
+    ∷ uses registerNumber registerNumber unused  -- 4 Add register b to register a
+    ∷ uses registerNumber registerNumber unused  -- 5 Subtract register b from register a
+    ∷ uses registerNumber registerNumber small  -- 6 skip c instructions if register a is less than register b
+    ∷ uses registerNumber registerNumber small  -- 7 the same if equal
+    ∷ uses registerNumber small unused  -- 8 Pick, a takes any value 0 to b
     ∷ uses lockNumber unused unused  -- 9 Acquire lock a
     ∷ uses lockNumber unused unused  -- 10 Release lock a
-    ∷ uses register unused unused  -- 11 Assert, fails if register a is 0
+    ∷ uses registerNumber unused unused  -- 11 Assert, fails if register a is 0
     ∷ []
 
 unfoldable pub usesOf : ℕ → Uses
-usesOf operation = getD operations operation (uses unused unused unused)
+usesOf operation = getD operationUses operation (uses unused unused unused)
 
 -- "Unused fields are zero."
 unfoldable pub tidyField : Use → ℕ → Bool
@@ -108,7 +108,7 @@ tidyInstruction i =
 unfoldable pub instructionInRange : Instruction → Bool
 instructionInRange i =
     let u = usesOf (i .operation) in
-    ltb (i .operation) (length operations)
+    ltb (i .operation) (length operationUses)
     && fieldInRange (u .a) (i .a) && fieldInRange (u .b) (i .b) && fieldInRange (u .c) (i .c)
 
 -- n bytes of record r from byte k on are zero

@@ -1,5 +1,5 @@
-// The numbers of refusals. Document 01, "Numbers by who causes them": the file's author and the bench; the caller; the author of
-// an order.
+// The numbers of refusals. Document 01, "Numbers by who causes them": the file's author and the bench; the caller;
+// the author of an order.
 pub const SIZE: u8 = 1;
 
 pub const KIND: u8 = 2;

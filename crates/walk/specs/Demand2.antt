@@ -14,7 +14,7 @@ use Rattle.notation.specs.Lists.{firstWith}
 use Rattle.notation.specs.Ordered.{Ordered}
 use Rattle.taskfile.specs.Records.{File}
 use Rattle.timing.specs.Accepted.{Accepted, accept}
-use Rattle.timing.specs.Laws.AcceptedLaws.{accepted}
+use Rattle.timing.specs.Laws.AcceptedLaws.{file-accepted}
 use Rattle.timing.specs.ResponseDemand.{ResponseDemand}
 use Rattle.timing.specs.Laws.ResponseDemandLaws.{response-demand}
 use Rattle.machine.specs.Ends.{End}
@@ -31,8 +31,8 @@ use Rattle.walk.specs.Laws.PathLaws.{path-listed, listed-path, from-once
 use Rattle.walk.specs.Paths.{Begun, Lex, Sooner, UpTo, paths}
 use Rattle.walk.specs.Laws.ShownLaws.{answer-room, after-room, decided-fails, decided-holds, decided-counted, decided-first, decided-filled}
 use Rattle.walk.specs.WalkEntry.{decided, decidedAnswer, decidedBytes, walkAnswer, walkAfter}
-use Rattle.walk.specs.Laws.WalkLaws.{from-first, undecided-when}
-use Rattle.walk.specs.Walks.{Found, fails, orders, walk}
+use Rattle.walk.specs.Laws.WalkLaws.{walk-from-first, undecided-when}
+use Rattle.walk.specs.Walks.{EndedOrder, fails, orders, walk}
 use Rattle.timing.specs.Code.IsAccepted.{IsAccepted}
 use Rattle.machine.specs.Buffers.{orderRoom, filled}
 
@@ -47,7 +47,7 @@ pub record WalkDemand (a : Accepted) : Type 0 where
   -- "stops at the first complete order with a failed assertion"
   pub first : walk a .failing ≡ firstWith (λ f. fails (f .ending)) (orders a)
   -- "Its count is the moves made up to there, each move of the tree once"
-  pub countUpTo : (f : Found) → walk a .failing ≡ some f → UpTo (walk a .count) (paths a) (f .bytes)
+  pub countUpTo : (f : EndedOrder) → walk a .failing ≡ some f → UpTo (walk a .count) (paths a) (f .bytes)
   -- "or all moves of the tree if none fails"
   pub countAll : walk a .failing ≡ none → walk a .count ≡ length (paths a)
   -- the tree's moves are exactly the beginnings of orders
@@ -91,7 +91,7 @@ walk-demand {a} ok =
     record {
       listed = λ order end. (order-listed ok, listed-complete ok (record { bytes = order; ending = end }));
       ascending = from-ascends ok orderRoom (initial-invariant a);
-      first = from-first a orderRoom (initial a);
+      first = walk-from-first a orderRoom (initial a);
       countUpTo = counted .found;
       countAll = counted .all;
       moves = λ bytes. (
@@ -118,8 +118,8 @@ pub demand2 : (f : File) → Demand2 f
 demand2 f =
     record {
       responses = response-demand f;
-      walks = λ a e. walk-demand (accepted f e);
+      walks = λ a e. walk-demand (file-accepted f e);
       answers = λ a e allowance buffer room.
           rw (answer-room f e allowance buffer room, after-room f e allowance buffer room)
-          (walk-answers (accepted f e) allowance buffer);
+          (walk-answers (file-accepted f e) allowance buffer);
     }

@@ -1,5 +1,5 @@
--- The moves of a state, in the walk's order. Document 01, "Orders of steps": "at a state it tries the running job's step,
--- then each start by ascending task, and Pick values ascending."
+-- The moves of a state, in the walk's order. Document 01, "Orders of steps": "at a state it tries the running job's
+-- step, then each start by ascending task, and Pick values ascending."
 -- Assumes nothing.
 use Prim.Native.Nat.{ℕ, _+_, _*_}
 use mathlib.Core.List.{List, [], _∷_, _++_, map}

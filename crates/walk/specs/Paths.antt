@@ -1,5 +1,6 @@
--- What the theorem of demand 2 says orders and counts by: the ascending order of two lists of bytes, and the moves of the tree,
--- each by its path. Document 01, "Orders of steps": "the moves made up to there, each move of the tree once".
+-- What the theorem of demand 2 says orders and counts by: the ascending order of two lists of bytes, and the moves of
+-- the tree, each by its path. Document 01, "Orders of steps": "the moves made up to there, each move of the tree
+-- once".
 -- Assumes nothing.
 use mathlib.Core.Path.{_≡_}
 use mathlib.Core.Logic.{_⊎_}
@@ -38,7 +39,8 @@ Sooner xs ys = Begins xs ys ⊎ Lex xs ys
 -- the paths through each of the moves: the move itself, then those below it, where `below` lists those from a state on
 unfoldable pub pathsThrough : (State → List (List ℕ)) → List Move → List (List ℕ)
 pathsThrough below [] = []
-pathsThrough below (m ∷ ms) = (m .byte ∷ []) ∷ (map (λ path. m .byte ∷ path) (below (m .after)) ++ pathsThrough below ms)
+pathsThrough below (m ∷ ms) =
+    (m .byte ∷ []) ∷ (map (λ path. m .byte ∷ path) (below (m .after)) ++ pathsThrough below ms)
 
 unfoldable pub pathsFrom : Accepted → ℕ → State → List (List ℕ)
 pathsFrom a zero s = []

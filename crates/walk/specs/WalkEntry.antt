@@ -1,5 +1,5 @@
--- What the walk's entry answers, and what the lent order buffer then holds, for every input. Document 01, "Numbers by who
--- causes them".
+-- What the walk's entry answers, and what the lent order buffer then holds, for every input. Document 01, "Numbers by
+-- who causes them".
 -- Assumes nothing.
 use Prim.Native.Nat.{ℕ}
 use mathlib.Core.List.{List, []}
@@ -13,9 +13,10 @@ use Rattle.machine.specs.Ends.{noFlags, noStore}
 use Rattle.machine.specs.Buffers.{orderRoom, filled}
 use Rattle.walk.specs.declared.Verdict.the-variants.{None, Holds, Fails}
 use Rattle.walk.specs.declared.WalkAnswer.{WalkAnswer}
-use Rattle.walk.specs.Walks.{Found, Walked, walk}
+use Rattle.walk.specs.Walks.{EndedOrder, Walked, walk}
 
--- "20 ROOM: order buffer below 512 bytes .. place 0, buffer untouched": the table to walk, if there is one and room for it
+-- "20 ROOM: order buffer below 512 bytes .. place 0, buffer untouched": the table to walk, if there is one and room
+-- for it
 unfoldable pub admitted : File → List ℕ → Checked ℕ Accepted
 admitted f buffer = do
   a ← accept f
@@ -33,7 +34,7 @@ refusal number place =
     record { number = number; place = place; verdict = None; count = 0; length = 0; store = noStore; failed = noFlags }
 
 -- "a walk its verdict and count (only these if it holds)"
-unfoldable pub verdictOf : ℕ → Option Found → WalkAnswer
+unfoldable pub verdictOf : ℕ → Option EndedOrder → WalkAnswer
 verdictOf count none =
     record { number = 0; place = 0; verdict = Holds; count = count; length = 0; store = noStore; failed = noFlags }
 verdictOf count (some found) =
@@ -52,7 +53,7 @@ decidedAnswer (refused number place) = refusal number place
 decidedAnswer (passed walked) = verdictOf (walked .count) (walked .failing)
 
 -- the order shown, if one is
-unfoldable pub shown : Option Found → List ℕ
+unfoldable pub shown : Option EndedOrder → List ℕ
 shown none = []
 shown (some found) = found .bytes
 

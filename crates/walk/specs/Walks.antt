@@ -1,7 +1,7 @@
--- The tree of moves, the orders that it lists, and the walk. Document 01, "Orders of steps": "It goes depth first and stops at
--- the first complete order with a failed assertion. Its count is the moves made up to there, each move of the tree once, or
--- all moves of the tree if none fails."
--- The tree is as deep as an order may be long; `left` counts the steps that may still come.
+-- The tree of moves, the orders that it lists, and the walk. Document 01, "Orders of steps": "It goes depth first and
+-- stops at the first complete order with a failed assertion. Its count is the moves made up to there, each move of
+-- the tree once, or all moves of the tree if none fails." The tree is as deep as an order may be long; `left` counts
+-- the steps that may still come.
 -- Assumes nothing.
 use Prim.Native.Nat.{ℕ, zero, suc, _+_}
 use mathlib.Core.Bool.{Bool, true, false, _&&_}
@@ -11,12 +11,12 @@ use Rattle.notation.specs.Lists.{if_then_else_, any}
 use Rattle.timing.specs.Accepted.{Accepted}
 use Rattle.machine.specs.Ends.{End}
 use Rattle.machine.specs.Buffers.{orderRoom}
-use Rattle.order.specs.Orders.{endOf}
+use Rattle.order.specs.Orders.{orderEnd}
 use Rattle.order.specs.States.{State, initial, allEnded}
 use Rattle.walk.specs.Moves.{Move, moves}
 
 -- a complete order: its bytes and its end
-pub record Found : Type 0 where
+pub record EndedOrder : Type 0 where
   pub bytes : List ℕ
   pub ending : End
 
@@ -25,33 +25,33 @@ unfoldable pub fails : End → Bool
 fails end = any (λ flag. flag) (end .failed)
 
 -- the order that begins with the byte and goes on as found
-unfoldable pub starting : ℕ → Found → Found
+unfoldable pub starting : ℕ → EndedOrder → EndedOrder
 starting byte found = record { bytes = byte ∷ found .bytes; ending = found .ending }
 
 -- ---- the complete orders that the tree lists, depth first
 
 -- the orders through each of the moves, where `below` lists those from a state on
-unfoldable pub ordersThrough : (State → List Found) → List Move → List Found
+unfoldable pub ordersThrough : (State → List EndedOrder) → List Move → List EndedOrder
 ordersThrough below [] = []
 ordersThrough below (m ∷ ms) = map (starting (m .byte)) (below (m .after)) ++ ordersThrough below ms
 
-unfoldable pub ordersFrom : Accepted → ℕ → State → List Found
-ordersFrom a zero s = if allEnded a s then record { bytes = []; ending = endOf s } ∷ [] else []
+unfoldable pub ordersFrom : Accepted → ℕ → State → List EndedOrder
+ordersFrom a zero s = if allEnded a s then record { bytes = []; ending = orderEnd s } ∷ [] else []
 ordersFrom a (suc left) s =
     elim (allEnded a s) [
-      | true ↦ record { bytes = []; ending = endOf s } ∷ []
+      | true ↦ record { bytes = []; ending = orderEnd s } ∷ []
       | false ↦ ordersThrough (λ next. ordersFrom a left next) (moves a s)
     ]
 
 -- all complete orders of the table, in the walk's order
-unfoldable pub orders : Accepted → List Found
+unfoldable pub orders : Accepted → List EndedOrder
 orders a = ordersFrom a orderRoom (initial a)
 
 -- ---- the walk
 
 -- what a walk comes to: the first failing order, if there is one, and the moves made
 pub record Walked : Type 0 where
-  pub failing : Option Found
+  pub failing : Option EndedOrder
   pub count : ℕ
 
 -- a move, then the walk below it, then, unless that failed, the moves not tried yet
@@ -69,7 +69,10 @@ trial below (m ∷ ms) = afterMove (m .byte) (below (m .after)) (trial below ms)
 -- at a state where all jobs have ended no move is left, and the order is complete
 unfoldable pub atEnd : State → Walked
 atEnd s =
-    record { failing = if fails (endOf s) then some (record { bytes = []; ending = endOf s }) else none; count = 0 }
+    record {
+      failing = if fails (orderEnd s) then some (record { bytes = []; ending = orderEnd s }) else none;
+      count = 0;
+    }
 
 unfoldable pub walkFrom : Accepted → ℕ → State → Walked
 walkFrom a zero s = if allEnded a s then atEnd s else record { failing = none; count = 0 }

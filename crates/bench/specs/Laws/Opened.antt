@@ -22,6 +22,6 @@ unfolding Files.wide Files.headerRecord Files.taskRecord Files.instructionRecord
     Files.twoTasks Files.tableX
 filesOpened = tt
 
-unfoldable pub opened : Unit {0}
+unfoldable pub allOpened : Unit {0}
 unfolding Opened.opened ordersOpened walksOpened plansOpened conversionsOpened filesOpened
-opened = tt
+allOpened = tt

@@ -14,7 +14,7 @@ use Rattle.timing.specs.ReadEntries.{readAnswer}
 use Rattle.timing.specs.Response.{responseOf}
 use Rattle.timing.specs.Laws.ResponseLaws.{response-none, roundedUp-positive}
 use Rattle.bench.specs.Files.{twoTasks}
-use Rattle.bench.specs.Laws.Opened.{opened}
+use Rattle.bench.specs.Laws.Opened.{allOpened}
 
 abbrev p4File : File
 p4File = twoTasks 8 3_000_000_000 4_000_000_000 0 1_500_000_000 3_000_000_000 0
@@ -30,11 +30,11 @@ abbrev task0 : Task
 task0 = record { 0 = 0 }
 
 no-response : responseOf (tableAt p4File p4Chains) task0 ≡ none
-unfolding opened
+unfolding allOpened
 no-response =
     response-none (tableAt p4File p4Chains) task0 .1
     (λ Q positive within solves. omega (arith, roundedUp-positive Q 3_000_000_000 positive))
 
 pub p4 : readAnswer p4File ≡ record { number = 10; place = 1; responses = replicate 8 0; jobs = 0 }
-unfolding opened
+unfolding allOpened
 p4 = rw no-response

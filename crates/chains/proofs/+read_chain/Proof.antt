@@ -1,5 +1,6 @@
--- The proof of the cycle of calls {read_chain}. The measure is the number of records still allowed, which is not 0 where an index may
--- be followed. Each return is one case of `chain`: the end of the chain, an index refused, the rest refused, and one record more.
+-- The proof of the cycle of calls {read_chain}. The measure is the number of records still allowed, which is not 0
+-- where an index may be followed. Each return is one case of `chain`: the end of the chain, an index refused, the
+-- rest refused, and one record more.
 -- Assumes nothing.
 use Prim.Native.Nat.{ℕ, _<_}
 use native.Mathlib.Omega.{arith}

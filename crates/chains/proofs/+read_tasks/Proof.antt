@@ -1,6 +1,6 @@
--- The proof of the cycle of calls {read_tasks}. The measure is the number of tasks still allowed, which is not 0 where an index may
--- be followed. Each return is one case of `taskChains`: the end of the chain, an index refused, the body refused, the rest refused,
--- and one task more.
+-- The proof of the cycle of calls {read_tasks}. The measure is the number of tasks still allowed, which is not 0
+-- where an index may be followed. Each return is one case of `taskChains`: the end of the chain, an index refused,
+-- the body refused, the rest refused, and one task more.
 -- Assumes nothing.
 use Prim.Native.Nat.{ℕ, _<_}
 use native.Mathlib.Omega.{arith}

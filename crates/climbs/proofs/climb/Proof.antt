@@ -1,6 +1,7 @@
--- `climbs::climb` meets its contract. The loop's invariant: r is a lower bound of the solutions, at which the demand is
--- not below r, for any table of these times of which that holds at the start. Where the demand is r, r is the least solution; else
--- it is a higher lower bound. The measure is how far r is from passing the period. Assumes nothing.
+-- `climbs::climb` meets its contract. The loop's invariant: r is a lower bound of the solutions, at which the demand
+-- is not below r, for any table of these times of which that holds at the start. Where the demand is r, r is the
+-- least solution; else it is a higher lower bound. The measure is how far r is from passing the period. Assumes
+-- nothing.
 use mathlib.Core.Path.{_≡_, sym, ap, _∙_}
 use Prim.Native.Nat.{suc, _-_, _^_, _<_}
 use native.Mathlib.Omega.{arith}

@@ -1,5 +1,6 @@
--- `climbs::climb_some` meets its contract. The loop's invariant: r is a lower bound of the solutions, at which the demand
--- is not below r, for any table of these times of which that holds at the start. The measure is the number of turns left.
+-- `climbs::climb_some` meets its contract. The loop's invariant: r is a lower bound of the solutions, at which the
+-- demand is not below r, for any table of these times of which that holds at the start. The measure is the number of
+-- turns left.
 -- Assumes nothing.
 use mathlib.Core.Path.{_≡_}
 use Prim.Native.Nat.{_^_, _<_}

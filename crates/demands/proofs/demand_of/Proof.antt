@@ -1,4 +1,5 @@
--- `demands::demand_of` meets its contract: the two terms are those of `demand`, for any table of these times, and their sum fits.
+-- `demands::demand_of` meets its contract: the two terms are those of `demand`, for any table of these times, and
+-- their sum fits.
 -- Assumes nothing.
 use native.Mathlib.Omega.{arith}
 use borrow.Author.Needs.{needs}

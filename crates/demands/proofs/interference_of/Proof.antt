@@ -1,6 +1,6 @@
--- `demands::interference_of` meets its contract. The loop's invariant: the total so far and the interference of the tasks
--- from k on make that of all from k₀ = i + 1 on, for any table of these times, and the total is below k × 2^33, since 1 ≤ C ≤ P makes
--- each term less than r + P. The measure is the number of tasks left. Assumes nothing.
+-- `demands::interference_of` meets its contract. The loop's invariant: the total so far and the interference of the
+-- tasks from k on make that of all from k₀ = i + 1 on, for any table of these times, and the total is below k × 2^33,
+-- since 1 ≤ C ≤ P makes each term less than r + P. The measure is the number of tasks left. Assumes nothing.
 use mathlib.Core.Path.{_≡_}
 use Prim.Native.Nat.{_≤_, _<_, _+_, _*_, _-_, _^_}
 use native.Mathlib.Numerals.{add-one}

@@ -1,5 +1,5 @@
--- `demands::rounded_up` meets its contract: the branch is the definition's own, and where a remainder is left, the quotient
--- is below the number, so that one more fits.
+-- `demands::rounded_up` meets its contract: the branch is the definition's own, and where a remainder is left, the
+-- quotient is below the number, so that one more fits.
 -- Assumes nothing.
 use Prim.Native.Nat.{_/_}
 use native.Mathlib.Nat.{div-add-mod', le-mul-of-pos-right}

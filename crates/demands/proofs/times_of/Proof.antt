@@ -1,5 +1,5 @@
--- `demands::times_of` meets its contract. The loop's invariant: the execution times and the periods of the tasks before k are
--- stored. The measure is the number of tasks left.
+-- `demands::times_of` meets its contract. The loop's invariant: the execution times and the periods of the tasks
+-- before k are stored. The measure is the number of tasks left.
 -- Assumes nothing.
 use Prim.Native.Nat.{_-_, _≤_}
 use native.Mathlib.Omega.{arith}

@@ -1,8 +1,8 @@
--- `ends::failed_in` meets its contract. The loop's invariant: the flags of the jobs before x are read. The measure is the number of
--- jobs left. Assumes nothing.
+-- `ends::failed_in` meets its contract. The loop's invariant: the flags of the jobs before x are read. The measure is
+-- the number of jobs left. Assumes nothing.
 use Prim.Native.Nat.{_-_}
 use native.Mathlib.Omega.{arith}
-use Rattle.ends.specs.Laws.FlagsRead.{FlagsTo, flags-none, flags-more, flags-all}
+use Rattle.ends.specs.Laws.FlagsRead.{FlagsTo, flags-none, flags-more, flags-read}
 use Rattle.ends.proofs.failed_in.Statement.{statement}
 use Rattle.ends.proofs.failed_in.Tie as tie
 
@@ -34,7 +34,7 @@ loop-again : tie.Need-loop-again Inv-loop μ-loop
 loop-again c = flags-more (c .before .before .loop .inv) (c .before .loop-test .taken)
 
 returns : tie.Need-returns Inv-loop μ-loop
-returns c = flags-all (c .before .loop .inv) (c .loop-test .left)
+returns c = flags-read (c .before .loop .inv) (c .loop-test .left)
 
 pub failed-in-spec : {M : Type 1} → statement M
 failed-in-spec =

@@ -1,5 +1,5 @@
--- `ends::some_failed` meets its contract. The loop's invariant: some flag is raised if one from k on is. The measure is the number of
--- flags left.
+-- `ends::some_failed` meets its contract. The loop's invariant: some flag is raised if one from k on is. The measure
+-- is the number of flags left.
 -- Assumes nothing.
 use Prim.Native.Nat.{_≤_, _-_}
 use native.Mathlib.Omega.{arith}

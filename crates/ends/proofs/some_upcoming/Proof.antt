@@ -1,5 +1,5 @@
--- `ends::some_upcoming` meets its contract. The loop's invariant: some task has such a job if one from k on has. The measure is the
--- number of tasks left.
+-- `ends::some_upcoming` meets its contract. The loop's invariant: some task has such a job if one from k on has. The
+-- measure is the number of tasks left.
 -- Assumes nothing.
 use mathlib.Core.Path.{_≡_, refl, sym, _∙_}
 use Prim.Native.Nat.{_≤_, _-_}

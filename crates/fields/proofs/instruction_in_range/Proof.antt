@@ -1,15 +1,15 @@
--- `instruction_in_range` meets its contract: it tests the operation and then the three fields in the definition's order, up to
--- the first that fails.
+-- `instruction_in_range` meets its contract: it tests the operation and then the three fields in the definition's
+-- order, up to the first that fails.
 -- Assumes nothing.
 use borrow.Author.Needs.{needs}
 use borrow.Author.Tests.{not-true, not-false, lt-ltb, le-ltb}
 use Rattle.taskfile.specs.Code.RecordFields.{fieldOf}
-use Rattle.taskfile.specs.Records.{operations, instructionInRange}
+use Rattle.taskfile.specs.Records.{operationUses, instructionInRange}
 use Rattle.fields.proofs.instruction_in_range.Statement.{statement}
 use Rattle.fields.proofs.instruction_in_range.Tie as tie
 
 returns : tie.Need-returns
-unfolding instructionInRange fieldOf operations
+unfolding instructionInRange fieldOf operationUses
 returns c =
     let i = c .before .before .args .i in
     rw (le-ltb (i .operation) 12 (c .if1 .taken))
@@ -18,7 +18,7 @@ field-in-range-requires : tie.Need-field-in-range-requires
 field-in-range-requires c κs = search needs
 
 returns-2 : tie.Need-returns-2
-unfolding instructionInRange fieldOf operations
+unfolding instructionInRange fieldOf operationUses
 returns-2 c =
     let known = c .before .before in
     let i = known .before .before .args .i in
@@ -29,7 +29,7 @@ field-in-range-requires-2 : tie.Need-field-in-range-requires-2
 field-in-range-requires-2 c κs = search needs
 
 returns-3 : tie.Need-returns-3
-unfolding instructionInRange fieldOf operations
+unfolding instructionInRange fieldOf operationUses
 returns-3 c =
     let first = c .before .before in
     let known = first .before .before in
@@ -48,7 +48,7 @@ field-in-range-requires-3 : tie.Need-field-in-range-requires-3
 field-in-range-requires-3 c κs = search needs
 
 returns-4 : tie.Need-returns-4
-unfolding instructionInRange fieldOf operations
+unfolding instructionInRange fieldOf operationUses
 returns-4 c =
     let second = c .before in
     let first = second .before .before in

@@ -1,11 +1,12 @@
--- `limit` meets its contract: its table is the list of the fields' largest values, which computes, and past it nothing is used.
+-- `limit` meets its contract: its table is the list of the fields' largest values, which computes, and past it
+-- nothing is used.
 -- Assumes nothing.
 use mathlib.Core.Path.{sym}
 use borrow.Author.Needs.{needs}
 use Rattle.notation.specs.Lists.{each}
 use Rattle.taskfile.specs.Code.RecordFields.{limitOf}
 use Rattle.taskfile.specs.Laws.RecordLaws.{limits, limits-at, limit-past}
-use Rattle.taskfile.specs.Records.{operations, usesOf}
+use Rattle.taskfile.specs.Records.{operationUses, usesOf}
 use Rattle.fields.proofs.limit.Statement.{statement}
 use Rattle.fields.proofs.limit.Tie as tie
 
@@ -19,11 +20,11 @@ array-read-result : tie.Need-array-read-result
 array-read-result c = search needs
 
 returns : tie.Need-returns
-unfolding limits each operations limitOf usesOf
-returns c = limits-at operations _ _ (c .before .pre)
+unfolding limits each operationUses limitOf usesOf
+returns c = limits-at operationUses _ _ (c .before .pre)
 
 returns-2 : tie.Need-returns-2
-unfolding operations
+unfolding operationUses
 returns-2 c = sym (limit-past _ _ (c .if1 .left))
 
 pub limit-spec : {M : Type 1} → statement M

@@ -1,4 +1,5 @@
--- `record_in_range` meets its contract: each arm makes the test of its kind, since each call gives what the definition names.
+-- `record_in_range` meets its contract: each arm makes the test of its kind, since each call gives what the
+-- definition names.
 -- Assumes nothing.
 use borrow.Author.Needs.{needs}
 use borrow.Author.Tests.{lt-leb, le-leb}

@@ -1,4 +1,5 @@
--- `tidy_instruction` meets its contract: it tests the three fields in the definition's order, up to the first that fails.
+-- `tidy_instruction` meets its contract: it tests the three fields in the definition's order, up to the first that
+-- fails.
 -- Assumes nothing.
 use borrow.Author.Needs.{needs}
 use borrow.Author.Tests.{not-true, not-false}

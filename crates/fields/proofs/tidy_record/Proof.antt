@@ -1,4 +1,5 @@
--- `tidy_record` meets its contract: each arm makes the test of its kind, since each call gives what the definition names.
+-- `tidy_record` meets its contract: each arm makes the test of its kind, since each call gives what the definition
+-- names.
 -- Assumes nothing.
 use borrow.Author.Needs.{needs}
 use borrow.Author.Tests.{not-true, not-false}

@@ -1,5 +1,5 @@
--- `zero_from` meets its contract. The loop's invariant: the bytes that are left are zero if and only if all are, and they lie
--- within the record. The measure is how many are left. Assumes nothing.
+-- `zero_from` meets its contract. The loop's invariant: the bytes that are left are zero if and only if all are, and
+-- they lie within the record. The measure is how many are left. Assumes nothing.
 use Prim.Native.Nat.{_+_, _≤_}
 use native.Mathlib.Omega.{arith}
 use mathlib.Core.Path.{_≡_, refl, sym, _∙_}

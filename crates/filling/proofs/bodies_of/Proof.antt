@@ -1,5 +1,5 @@
--- `filling::bodies_of` meets its contract. The loop's invariant: the instructions before number n are stored. The measure is the
--- number of instructions left. Assumes nothing.
+-- `filling::bodies_of` meets its contract. The loop's invariant: the instructions before number n are stored. The
+-- measure is the number of instructions left. Assumes nothing.
 use mathlib.Core.Path.{refl}
 use Prim.Native.Nat.{_-_}
 use native.Mathlib.Omega.{arith}

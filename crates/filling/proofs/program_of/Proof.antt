@@ -1,5 +1,5 @@
--- `filling::program_of` meets its contract. The loop's invariant: if the program began with a table's bodies, it holds these and the tasks
--- of the jobs before x. The measure is the number of jobs left. Assumes nothing.
+-- `filling::program_of` meets its contract. The loop's invariant: if the program began with a table's bodies, it
+-- holds these and the tasks of the jobs before x. The measure is the number of jobs left. Assumes nothing.
 use mathlib.Core.Path.{refl}
 use Prim.Native.Nat.{_-_, _≤_}
 use native.Mathlib.Omega.{arith}

@@ -1,5 +1,5 @@
--- `filling::times_of` meets its contract. The loop's invariant: the times of the jobs before x are stored. The measure is the
--- number of jobs left. Assumes nothing.
+-- `filling::times_of` meets its contract. The loop's invariant: the times of the jobs before x are stored. The
+-- measure is the number of jobs left. Assumes nothing.
 use mathlib.Core.Path.{refl}
 use Prim.Native.Nat.{_-_}
 use native.Mathlib.Omega.{arith}

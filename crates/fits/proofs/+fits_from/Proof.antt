@@ -1,5 +1,6 @@
--- The proof of the cycle of calls {fits_from}. The measure is the number of tasks from j on. Each return is one case of `fitsFrom`,
--- for any table of these times. Nothing overflows, since 1 ≤ C ≤ P makes f × C at most b, and base is at most b where it is added to.
+-- The proof of the cycle of calls {fits_from}. The measure is the number of tasks from j on. Each return is one case
+-- of `fitsFrom`, for any table of these times. Nothing overflows, since 1 ≤ C ≤ P makes f × C at most b, and base is
+-- at most b where it is added to.
 -- Assumes nothing.
 use mathlib.Core.Path.{sym, _∙_}
 use mathlib.Core.Logic.{⊎-elim, inl, inr}

@@ -1,6 +1,7 @@
--- `fits::search` meets its contract. The loop's invariant: no solution is below lo, and one is not above hi, for any table of
--- these times with that lower bound in which the tasks above meet their periods. A look at the middle tells on which side of it the
--- least solution is, since the test by scheduling points is right there. The measure is how far lo is from hi. Assumes nothing.
+-- `fits::search` meets its contract. The loop's invariant: no solution is below lo, and one is not above hi, for any
+-- table of these times with that lower bound in which the tasks above meet their periods. A look at the middle tells
+-- on which side of it the least solution is, since the test by scheduling points is right there. The measure is how
+-- far lo is from hi. Assumes nothing.
 use mathlib.Core.Path.{_≡_, sym, ap, _∙_}
 use mathlib.Core.Logic.{_↔_}
 use Prim.Native.Nat.{ℕ, _+_, _-_, _^_, _≤_, _<_}

@@ -1,10 +1,10 @@
--- `instructions::perform_instruction` meets its contract: each arm's operation is the definition's of that number, and every
--- other number is End's.
+-- `instructions::perform_instruction` meets its contract: each arm's operation is the definition's of that number,
+-- and every other number is End's.
 -- Assumes nothing.
 use mathlib.Core.Path.{sym, _∙_}
 use borrow.Author.Needs.{needs}
-use Rattle.machine.specs.Instructions.{operations}
-use Rattle.machine.specs.Laws.InstructionLaws.{performed, performed-end}
+use Rattle.machine.specs.Instructions.{operationEffects}
+use Rattle.machine.specs.Laws.InstructionLaws.{perform-operation, performed-end}
 use Rattle.instructions.proofs.perform_instruction.Statement.{statement}
 use Rattle.instructions.proofs.perform_instruction.Tie as tie
 
@@ -45,48 +45,48 @@ end-job-requires : tie.Need-end-job-requires
 end-job-requires c κs = search needs
 
 returns : tie.Need-returns
-unfolding operations
-returns c = c .load-variable .ensures ∙ sym (performed 1 _ _ _ _ (c .before .match .keys1))
+unfolding operationEffects
+returns c = c .load-variable .ensures ∙ sym (perform-operation 1 _ _ _ _ (c .before .match .keys1))
 
 returns-2 : tie.Need-returns-2
-unfolding operations
-returns-2 c = c .store-register .ensures ∙ sym (performed 2 _ _ _ _ (c .before .match .keys2))
+unfolding operationEffects
+returns-2 c = c .store-register .ensures ∙ sym (perform-operation 2 _ _ _ _ (c .before .match .keys2))
 
 returns-3 : tie.Need-returns-3
-unfolding operations
-returns-3 c = c .set-register .ensures ∙ sym (performed 3 _ _ _ _ (c .before .match .keys3))
+unfolding operationEffects
+returns-3 c = c .set-register .ensures ∙ sym (perform-operation 3 _ _ _ _ (c .before .match .keys3))
 
 returns-4 : tie.Need-returns-4
-unfolding operations
-returns-4 c = c .add-register .ensures ∙ sym (performed 4 _ _ _ _ (c .before .match .keys4))
+unfolding operationEffects
+returns-4 c = c .add-register .ensures ∙ sym (perform-operation 4 _ _ _ _ (c .before .match .keys4))
 
 returns-5 : tie.Need-returns-5
-unfolding operations
-returns-5 c = c .subtract-register .ensures ∙ sym (performed 5 _ _ _ _ (c .before .match .keys5))
+unfolding operationEffects
+returns-5 c = c .subtract-register .ensures ∙ sym (perform-operation 5 _ _ _ _ (c .before .match .keys5))
 
 returns-6 : tie.Need-returns-6
-unfolding operations
-returns-6 c = c .skip-if-less .ensures ∙ sym (performed 6 _ _ _ _ (c .before .match .keys6))
+unfolding operationEffects
+returns-6 c = c .skip-if-less .ensures ∙ sym (perform-operation 6 _ _ _ _ (c .before .match .keys6))
 
 returns-7 : tie.Need-returns-7
-unfolding operations
-returns-7 c = c .skip-if-equal .ensures ∙ sym (performed 7 _ _ _ _ (c .before .match .keys7))
+unfolding operationEffects
+returns-7 c = c .skip-if-equal .ensures ∙ sym (perform-operation 7 _ _ _ _ (c .before .match .keys7))
 
 returns-8 : tie.Need-returns-8
-unfolding operations
-returns-8 c = c .pick-value .ensures ∙ sym (performed 8 _ _ _ _ (c .before .match .keys8))
+unfolding operationEffects
+returns-8 c = c .pick-value .ensures ∙ sym (perform-operation 8 _ _ _ _ (c .before .match .keys8))
 
 returns-9 : tie.Need-returns-9
-unfolding operations
-returns-9 c = c .acquire-step .ensures ∙ sym (performed 9 _ _ _ _ (c .before .match .keys9))
+unfolding operationEffects
+returns-9 c = c .acquire-step .ensures ∙ sym (perform-operation 9 _ _ _ _ (c .before .match .keys9))
 
 returns-10 : tie.Need-returns-10
-unfolding operations
-returns-10 c = c .release-step .ensures ∙ sym (performed 10 _ _ _ _ (c .before .match .keys10))
+unfolding operationEffects
+returns-10 c = c .release-step .ensures ∙ sym (perform-operation 10 _ _ _ _ (c .before .match .keys10))
 
 returns-11 : tie.Need-returns-11
-unfolding operations
-returns-11 c = c .assert-register .ensures ∙ sym (performed 11 _ _ _ _ (c .before .match .keys11))
+unfolding operationEffects
+returns-11 c = c .assert-register .ensures ∙ sym (perform-operation 11 _ _ _ _ (c .before .match .keys11))
 
 returns-12 : tie.Need-returns-12
 returns-12 c = c .end-job .ensures ∙ sym (performed-end _ _ _ _ (c .before .match .rest))

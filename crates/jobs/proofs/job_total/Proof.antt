@@ -1,4 +1,5 @@
--- `jobs::job_total` meets its contract: the total so far and the jobs of the tasks still to come make the table's count.
+-- `jobs::job_total` meets its contract: the total so far and the jobs of the tasks still to come make the table's
+-- count.
 -- Assumes nothing.
 use Prim.Native.Nat.{_+_, _-_, _*_, _^_, _≤_}
 use native.Mathlib.Omega.{arith}

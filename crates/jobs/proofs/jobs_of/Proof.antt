@@ -1,5 +1,5 @@
--- `jobs::jobs_of` meets its contract: the list holds the jobs of the tasks passed, and has room for those to come, since all
--- are at most 32.
+-- `jobs::jobs_of` meets its contract: the list holds the jobs of the tasks passed, and has room for those to come,
+-- since all are at most 32.
 -- Assumes nothing.
 use Prim.Native.Nat.{_+_, _-_, _≤_}
 use native.Mathlib.Omega.{arith}

@@ -1,5 +1,5 @@
--- `jobs::jobs_within` meets its contract: no job arrives in a window that ends before the first arrival; else it is a rounded-up
--- quotient.
+-- `jobs::jobs_within` meets its contract: no job arrives in a window that ends before the first arrival; else it is a
+-- rounded-up quotient.
 -- Assumes nothing.
 use mathlib.Core.Path.{_≡_, ap₂, _∙_}
 use Prim.Native.Nat.{_-_}

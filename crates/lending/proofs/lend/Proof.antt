@@ -1,4 +1,5 @@
--- `lending::lend` meets its contract: the filled arrays hold the table, and the first state shows where its orders start.
+-- `lending::lend` meets its contract: the filled arrays hold the table, and the first state shows where its orders
+-- start.
 -- Assumes nothing.
 use borrow.Author.Needs.{needs}
 use Rattle.lending.specs.Laws.LendLaws.{lent-of}

@@ -14,7 +14,7 @@ use Rattle.timing.specs.Accepted.{Accepted, accept}
 use Rattle.timing.specs.Code.AcceptParts.{AcceptedAs}
 use Rattle.timing.specs.Code.IsAccepted.{IsAccepted}
 use Rattle.timing.specs.Code.JobParts.{jobListOf}
-use Rattle.timing.specs.Laws.AcceptedLaws.{accepted}
+use Rattle.timing.specs.Laws.AcceptedLaws.{file-accepted}
 use Rattle.timing.specs.Laws.AcceptLaws.{accepted-passed}
 use Rattle.timing.specs.Laws.JobFacts.{jobs-few}
 use Rattle.order.specs.States.{initial}
@@ -22,7 +22,7 @@ use Rattle.snapshots.specs.Code.Lent.{OwnersTo, TimesTo}
 use Rattle.snapshots.specs.Code.Shows.{Lends, Shows}
 use Rattle.snapshots.specs.Code.Snapshots.{Snapshot}
 use Rattle.snapshots.specs.Code.SnapshotSteps.{firstSnapshot}
-use Rattle.snapshots.specs.Laws.LentLaws.{lent}
+use Rattle.snapshots.specs.Laws.LentLaws.{arrays-lent}
 use Rattle.snapshots.specs.Laws.ReplayLaws.{first-shown}
 use Rattle.states.specs.Code.StateBytes.{snapshotIn, IsState}
 use Rattle.lending.specs.Code.Lending.{LentOf}
@@ -33,7 +33,7 @@ module _ {t : Table} {list : JobList} {program times : List ℕ} (start : List �
       → Lends a program times (record { count = t .locks; ceilings = t .ceilings })
   holds a ok table listed =
       subst (λ (u : Table). Lends a program times (record { count = u .locks; ceilings = u .ceilings })) (sym table)
-      (lent ok listed (subst (λ (u : Table). OwnersTo u list (list .count) program) table owners) held)
+      (arrays-lent ok listed (subst (λ (u : Table). OwnersTo u list (list .count) program) table owners) held)
 
   begins : (a : Accepted) → IsAccepted a → t ≡ a .table → list ≡ jobListOf (a .jobs) → Shows a (snapshotIn start) (initial a)
   begins a ok table listed =
@@ -49,7 +49,7 @@ pub parts-lent : (f : File) (x : AcceptAnswer) → AcceptedAs x (accept f) → x
 unfolding jobListOf
 parts-lent f x says passes =
     let found = accepted-passed x (accept f) says passes in
-    let ok = accepted f (found .1) in (
+    let ok = file-accepted f (found .1) in (
       subst Shaped (sym (found .2 .table)) (ok .isMade .shaped),
       omega (arith, jobs-few (ok .isTimed), ap (λ (l : JobList). l .count) (found .2 .list)),
     )

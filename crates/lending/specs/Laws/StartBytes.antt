@@ -13,7 +13,7 @@ use Rattle.machine.specs.Ends.{noFlags}
 use Rattle.machine.specs.Held.{noLocks}
 use Rattle.machine.specs.Instructions.{fresh}
 use Rattle.snapshots.specs.Code.SnapshotSteps.{noFrame, firstFrom, firstSnapshot}
-use Rattle.states.specs.Code.StateBytes.{bytesAt, frameAt, frameIn, flagIn, snapshotIn, IsState, Written}
+use Rattle.states.specs.Code.StateBytes.{bytesAt, frameAt, frameIn, flagIn, snapshotIn, IsState, Replaced}
 use Rattle.notation.specs.Laws.TabulateLaws.{values-length, values-are}
 
 -- n equal values
@@ -27,7 +27,7 @@ unfolding bytesAt
 zero-bytes bytes a n h = same-values (λ k. getD bytes (a + k) 0) n 0 h
 
 module _ (program store : List ℕ) {upcoming filled bytes : List ℕ} (size : length store ≡ 8)
-    (first : Written (replicate 192 0) filled 0 store) (second : Written filled bytes 8 upcoming)
+    (first : Replaced (replicate 192 0) filled 0 store) (second : Replaced filled bytes 8 upcoming)
     (listed : upcoming ≡ map (λ k. firstFrom program k 0 32) (upTo 8)) where
   long : length upcoming ≡ 8
   long = ap length listed ∙ values-length (λ k. firstFrom program k 0 32) 8

@@ -3,8 +3,8 @@
 use mathlib.Core.Path.{_≡_, sym, _∙_}
 use borrow.Author.Needs.{needs}
 use borrow.Author.Tests.{not-true, not-false}
-use Rattle.taskfile.specs.Laws.ChainCases.{wrong-kind, untidy, out-of-range, record-passes}
-use Rattle.taskfile.specs.Laws.CheckSteps.{comes}
+use Rattle.taskfile.specs.Laws.ChainCases.{wrong-kind, record-untidy, out-of-range, record-passes}
+use Rattle.taskfile.specs.Laws.CheckSteps.{check-comes}
 use Rattle.taskfile.specs.Code.Reading.{checkOf}
 use Rattle.taskfile.specs.Records.{byteAt, kindNumber}
 use Rattle.links.proofs.record_of.Statement.{statement}
@@ -20,7 +20,7 @@ returns : tie.Need-returns
 unfolding checkOf
 returns c =
     let kind = c .before in
-    comes (wrong-kind _ _ _ (λ same. c .if1 .taken (kind .before .byte-at .ensures ∙ same ∙ sym (kind .kind-number .ensures))))
+    check-comes (wrong-kind _ _ _ (λ same. c .if1 .taken (kind .before .byte-at .ensures ∙ same ∙ sym (kind .kind-number .ensures))))
 
 -- past the first test the record is of the kind
 same : (c : tie.Else1)
@@ -34,7 +34,7 @@ tidy-record-requires c κs = search needs
 returns-2 : tie.Need-returns-2
 unfolding checkOf
 returns-2 c =
-    comes (untidy _ _ _ (same (c .before .before)) (sym (c .before .tidy-record .ensures) ∙ not-true _ (c .if2 .taken)))
+    check-comes (record-untidy _ _ _ (same (c .before .before)) (sym (c .before .tidy-record .ensures) ∙ not-true _ (c .if2 .taken)))
 
 record-in-range-requires : tie.Need-record-in-range-requires
 record-in-range-requires c κs = search needs
@@ -42,13 +42,13 @@ record-in-range-requires c κs = search needs
 returns-3 : tie.Need-returns-3
 unfolding checkOf
 returns-3 c =
-    comes
+    check-comes
     (out-of-range _ _ _ (same (c .before .before .before .before)) (sym (c .before .record-in-range .ensures) ∙ not-true _ (c .if3 .taken)))
 
 returns-4 : tie.Need-returns-4
 unfolding checkOf
 returns-4 c =
-    comes
+    check-comes
     (record-passes _ _ _ (same (c .before .before .before .before)) (sym (c .before .before .before .tidy-record .ensures) ∙ not-false _ (c .before .before .if2 .left))
     (sym (c .before .record-in-range .ensures) ∙ not-false _ (c .if3 .left)))
 

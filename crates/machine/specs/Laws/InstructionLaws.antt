@@ -1,5 +1,5 @@
--- Laws of one instruction: what `perform` is by its operation's number, a difference that wraps, and that no instruction
--- changes how many variables, registers and locks there are.
+-- Laws of one instruction: what `perform` is by its operation's number, a difference that wraps, and that no
+-- instruction changes how many variables, registers and locks there are.
 -- Assumes nothing.
 use Prim.Native.Nat.{ℕ, zero, suc, _+_, _%_, _≤_, _<_}
 use native.Mathlib.Omega.{arith}
@@ -8,7 +8,7 @@ use lib.ListN.{length, getD, set, length-set, List·getD-eq-default}
 use Rattle.taskfile.specs.declared.Instruction.{Instruction}
 use Rattle.machine.specs.declared.Local.{Local}
 use Rattle.machine.specs.Held.{Held, noLocks, acquire, release}
-use Rattle.machine.specs.Instructions.{Store, Operation, fresh, minus, operations, perform, register, skipping, withRegister, withHeld, end, load, store, setNumber, add, subtract, skipLess, skipEqual, pick, acquireLock, releaseLock, assert}
+use Rattle.machine.specs.Instructions.{Store, Operation, fresh, minus, operationEffects, perform, register, skipping, withRegister, withHeld, endJob, loadVariable, store, setNumber, add, subtract, skipLess, skipEqual, pick, acquireLock, releaseLock, assert}
 
 -- the number that y added to wraps back to x is the difference
 pub minus-wraps : (r x y : ℕ) → (r + y) % 256 ≡ x → r < 256 → x < 256 → y < 256 → r ≡ minus x y
@@ -17,10 +17,10 @@ minus-wraps r x y e a b d = omega arith
 
 -- ---- `perform` by the operation's number
 
-pub performed : (o : ℕ) (i : Instruction) (v : ℕ) (l : Local) (s : Store) → i .operation ≡ o
-    → perform i v l s ≡ getD operations o end i v l s
+pub perform-operation : (o : ℕ) (i : Instruction) (v : ℕ) (l : Local) (s : Store) → i .operation ≡ o
+    → perform i v l s ≡ getD operationEffects o endJob i v l s
 unfolding perform
-performed o i v l s h = rw h
+perform-operation o i v l s h = rw h
 
 -- o is none of the numbers 1 to n, as a `match` has it
 abbrev pub NoneTo : ℕ → ℕ → Type 0
@@ -32,48 +32,48 @@ past zero o some none = some
 past (suc n) o some none = omega (arith, past n o some (none .0))
 
 -- 0, and every number above 11, is End's
-end-else : (o : ℕ) → NoneTo 11 o → getD operations o end ≡ end
-unfolding operations
+end-else : (o : ℕ) → NoneTo 11 o → getD operationEffects o endJob ≡ endJob
+unfolding operationEffects
 end-else zero none = refl
-end-else (suc o) none = List·getD-eq-default operations end (past 11 (suc o) (omega arith) none)
+end-else (suc o) none = List·getD-eq-default operationEffects endJob (past 11 (suc o) (omega arith) none)
 
 pub performed-end : (i : Instruction) (v : ℕ) (l : Local) (s : Store) → NoneTo 11 (i .operation)
-    → perform i v l s ≡ end i v l s
+    → perform i v l s ≡ endJob i v l s
 unfolding perform
 performed-end i v l s none = ap (λ (o : Operation). o i v l s) (end-else (i .operation) none)
 
 -- ---- lengths
 
 -- a store of eight variables, and a job's own state with four registers and eight locks
-pub record Shaped (l : Local) (s : Store) : Type 0 where
+pub record LocalShaped (l : Local) (s : Store) : Type 0 where
   pub store : length s ≡ 8
   pub registers : length (l .registers) ≡ 4
   pub held : length (l .held) ≡ 8
 
-pub fresh-shaped : (s : Store) → length s ≡ 8 → Shaped fresh s
+pub fresh-shaped : (s : Store) → length s ≡ 8 → LocalShaped fresh s
 unfolding fresh noLocks
 fresh-shaped s h = record { store = h; registers = refl; held = refl }
 
 -- the next instruction, another register's value, other held locks, another variable's value
-next-shaped : (n : ℕ) {l : Local} {s : Store} → Shaped l s → Shaped (skipping n l) s
+next-shaped : (n : ℕ) {l : Local} {s : Store} → LocalShaped l s → LocalShaped (skipping n l) s
 unfolding skipping
 next-shaped n h = record { store = h .store; registers = h .registers; held = h .held }
 
-register-shaped : (r x : ℕ) {l : Local} {s : Store} → Shaped l s → Shaped (withRegister r x l) s
+register-shaped : (r x : ℕ) {l : Local} {s : Store} → LocalShaped l s → LocalShaped (withRegister r x l) s
 unfolding withRegister
 register-shaped r x h = record { store = h .store; registers = simp length-set (h .registers); held = h .held }
 
-held-shaped : (held : Held) {l : Local} {s : Store} → length held ≡ 8 → Shaped l s → Shaped (withHeld held l) s
+held-shaped : (held : Held) {l : Local} {s : Store} → length held ≡ 8 → LocalShaped l s → LocalShaped (withHeld held l) s
 unfolding withHeld
 held-shaped held e h = record { store = h .store; registers = h .registers; held = e }
 
-variable-shaped : (v x : ℕ) {l : Local} {s : Store} → Shaped l s → Shaped l (set s v x)
+variable-shaped : (v x : ℕ) {l : Local} {s : Store} → LocalShaped l s → LocalShaped l (set s v x)
 variable-shaped v x h = record { store = simp length-set (h .store); registers = h .registers; held = h .held }
 
 -- each operation by its number
-shaped : (o : ℕ) (i : Instruction) (v : ℕ) (l : Local) (s : Store) → Shaped l s
-    → Shaped (getD operations o end i v l s .local) (getD operations o end i v l s .store)
-unfolding operations end load store setNumber add subtract skipLess skipEqual pick acquireLock releaseLock assert noLocks acquire release
+shaped : (o : ℕ) (i : Instruction) (v : ℕ) (l : Local) (s : Store) → LocalShaped l s
+    → LocalShaped (getD operationEffects o endJob i v l s .local) (getD operationEffects o endJob i v l s .store)
+unfolding operationEffects endJob loadVariable store setNumber add subtract skipLess skipEqual pick acquireLock releaseLock assert noLocks acquire release
 shaped zero i v l s h = next-shaped _ (held-shaped _ refl h)
 shaped (suc zero) i v l s h = next-shaped _ (register-shaped _ _ h)
 shaped (suc (suc zero)) i v l s h = variable-shaped (i .a) (register l (i .b)) (next-shaped _ h)
@@ -88,7 +88,7 @@ shaped (suc (suc (suc (suc (suc (suc (suc (suc (suc (suc zero)))))))))) i v l s 
 shaped (suc (suc (suc (suc (suc (suc (suc (suc (suc (suc (suc zero))))))))))) i v l s h = next-shaped _ h
 shaped (suc (suc (suc (suc (suc (suc (suc (suc (suc (suc (suc (suc o)))))))))))) i v l s h = next-shaped _ (held-shaped _ refl h)
 
-pub perform-shaped : (i : Instruction) (v : ℕ) (l : Local) (s : Store) → Shaped l s
-    → Shaped (perform i v l s .local) (perform i v l s .store)
+pub perform-shaped : (i : Instruction) (v : ℕ) (l : Local) (s : Store) → LocalShaped l s
+    → LocalShaped (perform i v l s .local) (perform i v l s .store)
 unfolding perform
 perform-shaped i v l s h = shaped (i .operation) i v l s h

@@ -1,5 +1,6 @@
--- One step more of an order as plain facts: which jobs have begun, are active and have ended after it, which steps the jobs have then made,
--- and that every other active job is one that the job of this step may preempt, with its priority below that one's base.
+-- One step more of an order as plain facts: which jobs have begun, are active and have ended after it, which steps
+-- the jobs have then made, and that every other active job is one that the job of this step may preempt, with its
+-- priority below that one's base.
 -- Assumes nothing.
 use mathlib.Core.Path.{_≡_, refl, sym, ap, subst, _∙_}
 use mathlib.Core.Logic.{inl, inr}
@@ -17,7 +18,7 @@ use Rattle.notation.specs.Laws.PairLaws.{every-at}
 use Rattle.notation.specs.Ordered.{Every}
 use Rattle.notation.specs.Laws.QuantifierLaws.{any-at}
 use Rattle.taskfile.specs.Tables.{ceilingsOf}
-use Rattle.notation.specs.Laws.TestLaws.{or-second, decided, not-both}
+use Rattle.notation.specs.Laws.TestLaws.{or-second, test-decided, not-both}
 use Rattle.timing.specs.declared.Job.{Job}
 use Rattle.timing.specs.Accepted.{Accepted}
 use Rattle.timing.specs.Code.IsAccepted.{IsAccepted}
@@ -26,7 +27,7 @@ use Rattle.timing.specs.Relations.{IsJob, base, before, mayPreempt, jobNumbers}
 use Rattle.machine.specs.declared.Effect.{Effect}
 use Rattle.machine.specs.Held.{priority}
 use Rattle.order.specs.declared.Frame.{Frame}
-use Rattle.order.specs.Code.Invariant.{Over, Running, hasBegun, Invariant}
+use Rattle.order.specs.Code.Invariant.{Over, IsRunning, hasBegun, Invariant}
 use Rattle.order.specs.Orders.{Turn, startOf, turnAmong, turnOf}
 use Rattle.order.specs.States.{State, hasEnded, isActive, presentPriority, mayStart}
 use Rattle.order.specs.Laws.StepLaws.{GoodTurn, afterEffect, flagged-here, flag-here, ended-other, begun-before, begun-stays, begun-here, active-ended, active-goes, map-some}
@@ -43,8 +44,8 @@ turnStep a r v turn effect =
       priorityAfter = priority (ceilingsOf (a .table)) (base a (turn .frame .job)) (effect .local .held);
     }
 
-unfoldable pub roundNext : ℕ → Effect → ℕ
-roundNext r effect = if effect .ended then suc r else r
+unfoldable pub roundAdvanced : ℕ → Effect → ℕ
+roundAdvanced r effect = if effect .ended then suc r else r
 
 unfoldable pub madeAfter : Accepted → ℕ → ℕ → Turn → Effect → Made → Made
 madeAfter a r v turn effect made = madeWith made (turn .frame .job .0) (turnStep a r v turn effect)
@@ -138,7 +139,7 @@ module _ {a : Accepted} (ok : IsAccepted a) {s : State} (inv : Invariant a s) {t
   pub ended-here : hasEnded now x ≡ true → effect .ended ≡ true
   unfolding hasEnded afterEffect
   ended-here h =
-      elim (decided (effect .ended)) [
+      elim (test-decided (effect .ended)) [
         | inl e ↦ e
         | inr e ↦
             absurd (not-both _ h (flag-here (effect .ended) (x .0) (s .ended) (flagged-here ok inv good effect) ∙ rw e (good .running .unended)))
@@ -148,7 +149,7 @@ module _ {a : Accepted} (ok : IsAccepted a) {s : State} (inv : Invariant a s) {t
   unfolding isActive any
   active-before y apart h =
       good .within y
-      (elim (decided (effect .ended)) [
+      (elim (test-decided (effect .ended)) [
         | inl e ↦ sym (ap (any (λ f. eqb (f .job .0) (y .0))) (active-ended ok inv good effect e)) ∙ h
         | inr e ↦
             sym (or-second (eqb (x .0) (y .0)) _ (ne-eqb (x .0) (y .0) (λ same. apart (sym same))))
@@ -164,12 +165,12 @@ module _ {a : Accepted} (ok : IsAccepted a) {s : State} (inv : Invariant a s) {t
   -- ---- the steps made
 
   -- the round does not go back, and goes on where the turn's job ended
-  round-stays : (r : ℕ) → r ≤ roundNext r effect
-  unfolding roundNext if_then_else_
-  round-stays r = elim (decided (effect .ended)) [ inl e ↦ rw e (omega arith) | inr e ↦ rw e (omega arith) ]
+  round-stays : (r : ℕ) → r ≤ roundAdvanced r effect
+  unfolding roundAdvanced if_then_else_
+  round-stays r = elim (test-decided (effect .ended)) [ inl e ↦ rw e (omega arith) | inr e ↦ rw e (omega arith) ]
 
-  round-goes : (r : ℕ) → effect .ended ≡ true → r < roundNext r effect
-  unfolding roundNext if_then_else_
+  round-goes : (r : ℕ) → effect .ended ≡ true → r < roundAdvanced r effect
+  unfolding roundAdvanced if_then_else_
   round-goes r e = rw e (omega arith)
 
   -- each of these frames has the priority that its job's steps say
@@ -209,7 +210,7 @@ module _ {a : Accepted} (ok : IsAccepted a) {s : State} (inv : Invariant a s) {t
         subst (λ (y : Job). priorityNow a made y < base a x) (found .2) (found .1)
 
     -- those under the turn's job keep theirs, and it has that of its new step
-    held-under : (fs : List Frame) → Held made fs → Every (Running a s) fs → Every (Over a (turn .frame)) fs → Held later fs
+    held-under : (fs : List Frame) → Held made fs → Every (IsRunning a s) fs → Every (Over a (turn .frame)) fs → Held later fs
     held-under [] held runs over = tt
     held-under (f ∷ fs) held runs over =
         let apart : f .job .0 ≡ x .0 → ⊥ = λ e. preempts-apart ok (f .job) x (runs .0 .job) (over .0 .preempts) (sym e) in
@@ -222,13 +223,13 @@ module _ {a : Accepted} (ok : IsAccepted a) {s : State} (inv : Invariant a s) {t
     held-after : Held later (now .active)
     held-after =
         let under = held-under (turn .under) held (good .under) (good .over) in
-        elim (decided (effect .ended)) [
+        elim (test-decided (effect .ended)) [
           | inl e ↦ subst (Held later) (sym (active-ended ok inv good effect e)) under
           | inr e ↦ subst (Held later) (sym (active-goes ok inv good effect e)) (held-here, under)
         ]
 
-    pub advances : Advance a s now r (roundNext r effect) made later x st
-    advances = record {
+    pub step-advances : Advance a s now r (roundAdvanced r effect) made later x st
+    step-advances = record {
       isX = good .running .job;
       unended = good .running .unended;
       preceded = good .preceded;

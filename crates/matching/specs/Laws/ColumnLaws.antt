@@ -1,5 +1,5 @@
--- Laws of the reading by columns: a step acts on its round's store alone, and one step more of a job changes no other column where
--- no job after it has a step in that round.
+-- Laws of the reading by columns: a step acts on its round's store alone, and one step more of a job changes no other
+-- column where no job after it has a step in that round.
 -- Assumes nothing.
 use mathlib.Core.Path.{_≡_, refl, sym, ap, _∙_}
 use mathlib.Core.Logic.{_≢_}
@@ -21,9 +21,9 @@ use Rattle.machine.specs.Instructions.{Store}
 use Rattle.matching.specs.Laws.Histories.{Mark, Marks, marked, inRound, JobColumn, unbegun, ColumnRun, effectOf, stepped, markStep, runMarks, Columns, columnsFrom, columns}
 
 -- of steps with none in round q, the first is in another round and the rest have none
-pub elsewhere : (q : ℕ) (m : Mark) (ms : List Mark) → inRound q (m ∷ ms) ≡ [] → (m .round ≢ q) × (inRound q ms ≡ [])
+pub round-elsewhere : (q : ℕ) (m : Mark) (ms : List Mark) → inRound q (m ∷ ms) ≡ [] → (m .round ≢ q) × (inRound q ms ≡ [])
 unfolding inRound only if_then_else_
-elsewhere q m ms none = go (eqb (m .round) q) refl none
+round-elsewhere q m ms none = go (eqb (m .round) q) refl none
   where
     go : (b : Bool) → eqb (m .round) q ≡ b → (if b then m ∷ inRound q ms else inRound q ms) ≡ []
         → (m .round ≢ q) × (inRound q ms ≡ [])
@@ -97,8 +97,8 @@ module _ (a : Accepted) where
   unfolding runMarks
   run-frame x q s [] c none = refl
   run-frame x q s (m ∷ ms) c none =
-      ap (runMarks a x ms) (step-frame x m q s c (elsewhere q m ms none .0))
-      ∙ run-frame x q s ms (markStep a x m c) (elsewhere q m ms none .1)
+      ap (runMarks a x ms) (step-frame x m q s c (round-elsewhere q m ms none .0))
+      ∙ run-frame x q s ms (markStep a x m c) (round-elsewhere q m ms none .1)
 
   -- so round q's store stays; the number of stores stays in any case
   pub run-stays : (x q : ℕ) (ms : List Mark) (c : ColumnRun) → inRound q ms ≡ []
@@ -106,7 +106,7 @@ module _ (a : Accepted) where
   unfolding runMarks
   run-stays x q [] c none = refl
   run-stays x q (m ∷ ms) c none =
-      run-stays x q ms (markStep a x m c) (elsewhere q m ms none .1) ∙ step-stays x m q c (elsewhere q m ms none .0)
+      run-stays x q ms (markStep a x m c) (round-elsewhere q m ms none .1) ∙ step-stays x m q c (round-elsewhere q m ms none .0)
 
   pub run-length : (x : ℕ) (ms : List Mark) (c : ColumnRun) → length (runMarks a x ms c .stores) ≡ length (c .stores)
   unfolding runMarks

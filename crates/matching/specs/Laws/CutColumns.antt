@@ -1,5 +1,5 @@
--- The columns of a history of which some steps are made: where no job has made a step in a round in which a job before it has one left, the
--- steps made do what they do in the whole history.
+-- The columns of a history of which some steps are made: where no job has made a step in a round in which a job
+-- before it has one left, the steps made do what they do in the whole history.
 -- Assumes nothing.
 use mathlib.Core.Path.{_≡_, refl, sym, ap, subst, _∙_}
 use mathlib.Core.Logic.{_⊎_, inl, inr}
@@ -13,7 +13,7 @@ use Rattle.timing.specs.Accepted.{Accepted}
 use Rattle.machine.specs.declared.Effect.{Effect}
 use Rattle.machine.specs.Ends.{noStore}
 use Rattle.machine.specs.Instructions.{Store}
-use Rattle.matching.specs.Laws.ColumnLaws.{elsewhere, run-stays, run-length, columns-stays}
+use Rattle.matching.specs.Laws.ColumnLaws.{round-elsewhere, run-stays, run-length, columns-stays}
 use Rattle.matching.specs.Laws.Cuts.{Cut}
 use Rattle.matching.specs.Laws.Histories.{Mark, Marks, inRound, JobColumn, unbegun, ColumnRun, effectOf, stepped, markStep, runMarks, columnsFrom, columns}
 use Rattle.notation.specs.Laws.ElementLaws.{nothing-left}
@@ -47,7 +47,7 @@ none-within q ms ns e = ap (inRound q) (nothing-left ms ns (sym e) .0) ∙ nothi
 -- stores that are the same in each round in which there is a step: so in that of the first step
 here-alike : (m : Mark) (ms : List Mark) (S R : List Store) → ((q : ℕ) → (inRound q (m ∷ ms) ≡ []) ⊎ Alike q S R) → Alike (m .round) S R
 here-alike m ms S R same = elim (same (m .round)) [
-  | inl none ↦ absurd (elsewhere (m .round) m ms none .0 refl)
+  | inl none ↦ absurd (round-elsewhere (m .round) m ms none .0 refl)
   | inr e ↦ e
 ]
 
@@ -55,7 +55,7 @@ here-alike m ms S R same = elim (same (m .round)) [
 onward-alike : (m : Mark) (ms : List Mark) (s : Store) (S R : List Store) → length S ≡ length R
     → ((q : ℕ) → (inRound q (m ∷ ms) ≡ []) ⊎ Alike q S R) → (q : ℕ) → (inRound q ms ≡ []) ⊎ Alike q (set S (m .round) s) (set R (m .round) s)
 onward-alike m ms s S R long same q = elim (same q) [
-  | inl none ↦ inl (elsewhere q m ms none .1)
+  | inl none ↦ inl (round-elsewhere q m ms none .1)
   | inr e ↦ inr (set-alike q (m .round) s S R long e)
 ]
 
@@ -108,7 +108,8 @@ module _ (a : Accepted) where
 
 -- ---- the jobs from number n on
 
--- for each job y and round q: y has made no step in q, or q's store is the same in S and R and no job before y has a step left in q
+-- for each job y and round q: y has made no step in q, or q's store is the same in S and R and no job before y has a
+-- step left in q
 abbrev Settled : Marks → (ℕ → List Mark) → List Store → List Store → Type 0
 Settled now rest S R = (y q : ℕ) → (inRound q (getD now y []) ≡ []) ⊎ (Alike q S R × ((z : ℕ) → z < y → inRound q (rest z) ≡ []))
 
@@ -196,7 +197,8 @@ module _ (a : Accepted) (S : List Store) where
       columnsFrom-made a 0 h now (cut .rest) S S (cut .same) refl (cut .whole) (cut-settled cut S) y inside
       ∙ ap (λ (k : ℕ). runMarks a k (getD now y []) (beginning a h S y) .column) (omega arith)
 
-  -- round r's store is that of the whole history, where of the rounds up to r all steps are made, and of those after it none
+  -- round r's store is that of the whole history, where of the rounds up to r all steps are made, and of those after
+  -- it none
   pub store-left : (h now : Marks) (rest : ℕ → List Mark) (r : ℕ) → ((y : ℕ) → getD h y [] ≡ getD now y [] ++ rest y)
       → ((y : ℕ) → inRound r (rest y) ≡ []) → ((y q : ℕ) → r < q → inRound q (getD now y []) ≡ []) → ((y q : ℕ) → q < r → inRound q (rest y) ≡ [])
       → getD (columns a now S .stores) r noStore ≡ getD (columns a h S .stores) r noStore

@@ -1,5 +1,5 @@
--- Where the reading of a history by rows stands before one of its steps, the history is cut: the steps before it are made, and that one is
--- next.
+-- Where the reading of a history by rows stands before one of its steps, the history is cut: the steps before it are
+-- made, and that one is next.
 -- Assumes nothing.
 use mathlib.Core.Path.{_≡_, refl, sym, ap, subst, _∙_}
 use Prim.Native.Nat.{ℕ, zero, suc, _≤_, _<_}

@@ -1,5 +1,5 @@
--- The round of a cut of a legal plan's run is the number of jobs that have ended there: those with no step left are those whose end is in
--- an earlier round, and in each round one job ends.
+-- The round of a cut of a legal plan's run is the number of jobs that have ended there: those with no step left are
+-- those whose end is in an earlier round, and in each round one job ends.
 -- Assumes nothing.
 use mathlib.Core.Path.{_≡_, refl, sym, ap, _∙_}
 use mathlib.Core.Logic.{inl, inr}
@@ -14,7 +14,7 @@ use borrow.Author.Tests.{lt-ltb, le-ltb}
 use Rattle.notation.specs.Laws.ListLaws.{from-snoc, map-snoc}
 use Rattle.notation.specs.Lists.{from, only, lastOr}
 use Rattle.notation.specs.Laws.QuantifierLaws.{map-length}
-use Rattle.notation.specs.Laws.TestLaws.{decided}
+use Rattle.notation.specs.Laws.TestLaws.{test-decided}
 use Rattle.timing.specs.declared.Job.{Job}
 use Rattle.timing.specs.Accepted.{Accepted}
 use Rattle.timing.specs.Code.IsAccepted.{IsAccepted}
@@ -23,15 +23,15 @@ use Rattle.plan.specs.declared.Round.{Round}
 use Rattle.plan.specs.Legality.{roundsOf, end}
 use Rattle.plan.specs.Plans.{Legal}
 use Rattle.plan.specs.Runs.{Plan, JobRuns, jobTotal, firstRound}
-use Rattle.matching.specs.Laws.ColumnLaws.{elsewhere}
+use Rattle.matching.specs.Laws.ColumnLaws.{round-elsewhere}
 use Rattle.notation.specs.Laws.CountLaws.{counted, countBelow, only-last}
 use Rattle.matching.specs.Laws.Cuts.{Cut}
 use Rattle.matching.specs.Laws.Histories.{Mark, Marks, job, round, inRound}
 use Rattle.matching.specs.Laws.LegalLaws.{legal-run, above-none-at}
 use Rattle.matching.specs.Laws.PlanReading.{markOf, marksOf}
 use Rattle.matching.specs.Laws.PlanRounds.{none-left, rounds-marked, next-place, next-round}
-use Rattle.matching.specs.Laws.PlanReadingLaws.{numbered}
-use Rattle.matching.specs.Laws.RunLaws.{run-steps, run-below, endAt, legal-rising, ends-below}
+use Rattle.matching.specs.Laws.PlanReadingLaws.{numbers-from}
+use Rattle.matching.specs.Laws.RunLaws.{run-steps, run-below, endRound, legal-rising, ends-below}
 use Rattle.matching.specs.PlannedSteps.{endedCount}
 
 -- ---- counting
@@ -57,8 +57,8 @@ roundsIn ms = map (λ m. round (m .round)) ms
 -- the last of some marks is in its round
 last-round : (m : Mark) (ms : List Mark) (d : Round) → inRound (lastOr d (roundsIn (m ∷ ms)) .0) (m ∷ ms) ≡ [] → ⊥
 unfolding lastOr
-last-round m [] d e = elsewhere (m .round) m [] e .0 refl
-last-round m (n ∷ ms) d e = last-round n ms (round (m .round)) (elsewhere _ m (n ∷ ms) e .1)
+last-round m [] d e = round-elsewhere (m .round) m [] e .0 refl
+last-round m (n ∷ ms) d e = last-round n ms (round (m .round)) (round-elsewhere _ m (n ∷ ms) e .1)
 
 last-some : (ms : List Mark) → 0 < length (roundsIn ms) → inRound (lastOr firstRound (roundsIn ms) .0) ms ≡ [] → ⊥
 last-some [] lt e = omega arith
@@ -89,15 +89,16 @@ module _ {a : Accepted} (ok : IsAccepted a) (plan : Plan) {runs : JobRuns} (lega
   round-below = omega (arith, next-round runs cut, run-below a plan (legal-run a plan legal .0) (job x) isX place (next-place runs cut))
 
   -- the last step of a job with none left is made
-  last-made : (y : ℕ) → y < jobTotal a → cut .rest y ≡ [] → inRound (endAt runs y) (getD now y []) ≡ [] → ⊥
+  last-made : (y : ℕ) → y < jobTotal a → cut .rest y ≡ [] → inRound (endRound runs y) (getD now y []) ≡ [] → ⊥
   unfolding jobTotal job end
   last-made y isY none e =
       let rounds = rounds-made y none in
       last-some (getD now y []) (omega (arith, ap length rounds, legal-rising a plan legal .hasStep (job y) isY))
       (ap (λ (rs : List Round). inRound (lastOr firstRound rs .0) (getD now y [])) (sym rounds) ∙ e)
 
-  -- that is not in the cut's round: the job is not x, no job above y has a step where y ends, and none above x has made one there
-  end-apart : (y : ℕ) → y < jobTotal a → cut .rest y ≡ [] → endAt runs y ≡ m .round → ⊥
+  -- that is not in the cut's round: the job is not x, no job above y has a step where y ends, and none above x has
+  -- made one there
+  end-apart : (y : ℕ) → y < jobTotal a → cut .rest y ≡ [] → endRound runs y ≡ m .round → ⊥
   unfolding jobTotal job
   end-apart y isY none same =
       elim (decLt y x) [
@@ -112,25 +113,25 @@ module _ {a : Accepted} (ok : IsAccepted a) (plan : Plan) {runs : JobRuns} (lega
       ]
 
   -- so a job with no step left ended in an earlier round
-  pub ended-earlier : (y : ℕ) → y < jobTotal a → cut .rest y ≡ [] → endAt runs y < m .round
+  pub ended-earlier : (y : ℕ) → y < jobTotal a → cut .rest y ≡ [] → endRound runs y < m .round
   ended-earlier y isY none =
-      elim (decLt (m .round) (endAt runs y)) [
-        | yes later ↦ absurd (last-made y isY none (cut .made y (endAt runs y) later))
+      elim (decLt (m .round) (endRound runs y)) [
+        | yes later ↦ absurd (last-made y isY none (cut .made y (endRound runs y) later))
         | no other ↦
-            elim (ℕ-discrete (endAt runs y) (m .round)) [ yes same ↦ absurd (end-apart y isY none same) | no apart ↦ omega arith ]
+            elim (ℕ-discrete (endRound runs y) (m .round)) [ yes same ↦ absurd (end-apart y isY none same) | no apart ↦ omega arith ]
       ]
 
   module _ (s : State)
       (ended : (y : ℕ) → y < jobTotal a → (hasEnded s (job y) ≡ true → cut .rest y ≡ []) × (cut .rest y ≡ [] → hasEnded s (job y) ≡ true)) where
     -- the jobs that have ended are those whose end is in an earlier round
-    ended-below : (y : ℕ) → y < jobTotal a → hasEnded s (job y) ≡ ltb (endAt runs y) (m .round)
+    ended-below : (y : ℕ) → y < jobTotal a → hasEnded s (job y) ≡ ltb (endRound runs y) (m .round)
     ended-below y isY =
-        elim (decLt (endAt runs y) (m .round)) [
-          | yes earlier ↦ ended y isY .1 (none-left runs cut y earlier) ∙ sym (lt-ltb (endAt runs y) (m .round) earlier)
+        elim (decLt (endRound runs y) (m .round)) [
+          | yes earlier ↦ ended y isY .1 (none-left runs cut y earlier) ∙ sym (lt-ltb (endRound runs y) (m .round) earlier)
           | no other ↦
-              elim (decided (hasEnded s (job y))) [
+              elim (test-decided (hasEnded s (job y))) [
                 | inl e ↦ absurd (other (ended-earlier y isY (ended y isY .0 e)))
-                | inr e ↦ e ∙ sym (le-ltb (endAt runs y) (m .round) (omega arith))
+                | inr e ↦ e ∙ sym (le-ltb (endRound runs y) (m .round) (omega arith))
               ]
         ]
 
@@ -138,6 +139,6 @@ module _ {a : Accepted} (ok : IsAccepted a) (plan : Plan) {runs : JobRuns} (lega
     pub round-counted : endedCount a s ≡ m .round
     unfolding endedCount
     round-counted =
-        ap (λ (xs : List Job). length (only (hasEnded s) xs)) (numbered a (jobTotal a) refl)
-        ∙ jobs-counted (hasEnded s) (endAt runs) (m .round) (jobTotal a) ended-below
+        ap (λ (xs : List Job). length (only (hasEnded s) xs)) (numbers-from a (jobTotal a) refl)
+        ∙ jobs-counted (hasEnded s) (endRound runs) (m .round) (jobTotal a) ended-below
         ∙ ends-below a plan legal (ok .isTimed) (m .round) (omega (arith, round-below))

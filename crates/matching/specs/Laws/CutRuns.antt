@@ -1,5 +1,5 @@
--- The jobs of a cut history of whole runs: which of them have ended, that the next step is one that its job may make, and which steps are
--- made.
+-- The jobs of a cut history of whole runs: which of them have ended, that the next step is one that its job may make,
+-- and which steps are made.
 -- Assumes nothing.
 use mathlib.Core.Path.{_≡_, refl, sym, ap, subst, _∙_}
 use mathlib.Core.Logic.{inl, inr}

@@ -32,8 +32,8 @@ unfoldable pub gathered : Marks → List Placed → Marks
 gathered h [] = h
 gathered h (p ∷ ps) = gathered (marked h (p .number) (p .mark)) ps
 
--- of h the steps `now` are made, and m of job x is next: rounds made come no later than m's and rounds left no earlier, and in m's round no
--- job above x has made a step and no job below x has one left
+-- of h the steps `now` are made, and m of job x is next: rounds made come no later than m's and rounds left no
+-- earlier, and in m's round no job above x has made a step and no job below x has one left
 pub record Cut (h now : Marks) (x : ℕ) (m : Mark) : Type 0 where
   pub rest : ℕ → List Mark
   pub more : List Mark

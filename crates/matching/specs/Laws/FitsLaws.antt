@@ -15,7 +15,7 @@ use Rattle.notation.specs.Checked.{Checked, passed, require}
 use Rattle.notation.specs.Laws.CheckedLaws.{passed-same, bind-passed, then-passed, require-passed}
 use Rattle.notation.specs.Lists.{if_then_else_, padded}
 use Rattle.notation.specs.Laws.PaddedLaws.{padded-length}
-use Rattle.taskfile.specs.Laws.TimesLaws.{holds}
+use Rattle.taskfile.specs.Laws.TimesLaws.{test-holds}
 use Rattle.timing.specs.declared.Job.{Job}
 use Rattle.timing.specs.Accepted.{Accepted}
 use Rattle.timing.specs.Code.IsAccepted.{IsAccepted}
@@ -29,7 +29,7 @@ use Rattle.machine.specs.Instructions.{fresh}
 use Rattle.plan.specs.Plans.{Legal}
 use Rattle.plan.specs.declared.Round.{Round}
 use Rattle.plan.specs.Runs as runs
-use Rattle.plan.specs.Runs.{Plan, Step, Running, JobRun, JobRuns, jobTotal, firstRound, runJob, runJobs, runStart, runPlan}
+use Rattle.plan.specs.Runs.{Plan, Step, RunState, JobRun, JobRuns, jobTotal, firstRound, runJob, runJobs, runStart, runPlan}
 use Rattle.matching.specs.Laws.LegalLaws.{legal-run}
 
 -- ---- how far a run reads
@@ -49,7 +49,7 @@ before-reads step rest e = ap jobEnd (passed-same {P = ℕ} e)
 
 module _ (a : Accepted) (plan : Plan) where
   -- nothing more after an End, and the job's further steps otherwise
-  onward-reads : (ended : Bool) (next : Running) (further : Checked ℕ JobRun) (most : ℕ) {rest : JobRun}
+  onward-reads : (ended : Bool) (next : RunState) (further : Checked ℕ JobRun) (most : ℕ) {rest : JobRun}
       → (further ≡ passed rest → jobEnd rest ≤ next .offset + most)
       → (if ended then passed (record { steps = []; running = next }) else further) ≡ passed rest
       → jobEnd rest ≤ next .offset + most
@@ -58,14 +58,14 @@ module _ (a : Accepted) (plan : Plan) where
   onward-reads false next further most later e = later e
 
   -- a step is two bytes
-  job-reads : (x : Job) (left : ℕ) (local : Local) (previous : Round) (running : Running) {run : JobRun}
+  job-reads : (x : Job) (left : ℕ) (local : Local) (previous : Round) (running : RunState) {run : JobRun}
       → runJob a plan x left local previous running ≡ passed run → jobEnd run ≤ running .offset + 2 * left
   unfolding runJob runs.runningAfter
   job-reads x zero local previous running e = omega (arith, ap jobEnd (passed-same {P = ℕ} e))
   job-reads x (suc left) local previous running {run} e =
       let effect : Effect = runs.stepEffect a plan x local running in
       let step = runs.stepMade a plan x running effect in
-      let next : Running = runs.runningAfter plan x running effect in
+      let next : RunState = runs.runningAfter plan x running effect in
       let further = runJob a plan x left (effect .local) (step .round) next in
       let onward = if effect .ended then passed (record { steps = []; running = next }) else further in
       let checks = then-passed (runs.stepBytes a plan x local previous (running .offset)) _ e in
@@ -76,7 +76,7 @@ module _ (a : Accepted) (plan : Plan) where
       omega (arith, rest, before-reads step (after .0) (after .2))
 
   -- and a job has at most 16 steps
-  jobs-read : (xs : List Job) (running : Running) {all : JobRuns} → runJobs a plan xs running ≡ passed all
+  jobs-read : (xs : List Job) (running : RunState) {all : JobRuns} → runJobs a plan xs running ≡ passed all
       → jobsEnd all ≤ running .offset + 2 * mostInstructions * length xs
   unfolding runJobs
   jobs-read [] running e = omega (arith, ap jobsEnd (passed-same {P = ℕ} e))
@@ -96,7 +96,7 @@ module _ (a : Accepted) (plan : Plan) where
       let second = then-passed (require (leb (1 + 8 * jobTotal a) (length plan)) 40 (length plan)) _ (first .2) in
       let jobs = bind-passed (runJobs a plan (jobNumbers a) (runStart a plan)) _ (second .2) in
       let last = then-passed (require (eqb (jobsEnd (jobs .0)) (length plan)) 40 (jobsEnd (jobs .0))) _ (jobs .2) in
-      let whole : jobsEnd (jobs .0) ≡ length plan = eqb-true _ _ (holds _ (require-passed _ 40 _ (last .1))) in
+      let whole : jobsEnd (jobs .0) ≡ length plan = eqb-true _ _ (test-holds _ (require-passed _ 40 _ (last .1))) in
       omega (arith, whole, jobs-read (jobNumbers a) (runStart a plan) (jobs .1), jobs-length a)
 
 -- with at most 32 jobs

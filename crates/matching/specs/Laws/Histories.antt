@@ -1,6 +1,7 @@
--- Histories: for each job, in number order, its steps so far as rounds and values. A history is read in two ways. By rows, round after
--- round and in each round job after job, it is an order's bytes. By columns, job after job, each step on its round's store, it is a
--- plan's run. The theorem of demand 3 goes by histories; neither orders nor plans speak of them.
+-- Histories: for each job, in number order, its steps so far as rounds and values. A history is read in two ways. By
+-- rows, round after round and in each round job after job, it is an order's bytes. By columns, job after job, each
+-- step on its round's store, it is a plan's run. The theorem of demand 3 goes by histories; neither orders nor plans
+-- speak of them.
 -- Assumes nothing.
 use Prim.Native.Nat.{ℕ, suc, _+_, _*_}
 use mathlib.Core.Bool.{Bool, false, _||_}

@@ -14,8 +14,8 @@ use Rattle.notation.specs.Checked.{Checked, passed, require}
 use Rattle.notation.specs.Laws.CheckedLaws.{passed-same, bind-passed, then-passed, require-passed}
 use Rattle.notation.specs.Lists.{if_then_else_, from, each}
 use Rattle.taskfile.specs.Tables.{taskOf, bodyOf}
-use Rattle.notation.specs.Laws.TestLaws.{both, not-both}
-use Rattle.taskfile.specs.Laws.TimesLaws.{holds}
+use Rattle.notation.specs.Laws.TestLaws.{and-both, not-both}
+use Rattle.taskfile.specs.Laws.TimesLaws.{test-holds}
 use Rattle.timing.specs.Accepted.{Accepted}
 use Rattle.timing.specs.Code.IsAccepted.{IsAccepted}
 use Rattle.timing.specs.Laws.JobFacts.{job-task}
@@ -55,12 +55,12 @@ unfolding stepBytes markAt
 bytes-say a plan x c previous o e =
     let first = then-passed (require (ltb (o + 1) (length plan)) 40 (length plan)) _ e in
     let second = then-passed (require (ltb (getD plan o 0) (jobTotal a) && leb previous (getD plan o 0)) 42 o) _ (first .2) in
-    let rounds = both (ltb (getD plan o 0) (jobTotal a)) _ (holds _ (require-passed _ 42 o (second .1))) in (
-      ltb-true _ _ (holds _ (require-passed _ 40 (length plan) (first .1))),
+    let rounds = and-both (ltb (getD plan o 0) (jobTotal a)) _ (test-holds _ (require-passed _ 42 o (second .1))) in (
+      ltb-true _ _ (test-holds _ (require-passed _ 40 (length plan) (first .1))),
       record {
         inPlan = ltb-true _ _ (rounds .0);
         inOrder = leb-true _ _ (rounds .1);
-        onOffer = holds _ (require-passed _ 41 (o + 1) (second .2));
+        onOffer = test-holds _ (require-passed _ 41 (o + 1) (second .2));
       },
     )
 
@@ -77,7 +77,7 @@ module _ (a : Accepted) (plan : Plan) (x left : ℕ) (c : ColumnRun) (previous o
   here = markAt plan o
 
   -- where the run stands after it
-  abbrev onward : runs.Running
+  abbrev onward : runs.RunState
   onward = standing (o + 2) (flagged (effectOf a x here c .failed) x flags) (markStep a x here c)
 
   record Last (one : JobRun) : Type 0 where

@@ -1,5 +1,5 @@
--- A job's run in a plan is its column of a history: marks that stand in the plan and are whole run, and leave the column's steps, stores
--- and flag. A whole job has at most 16 steps.
+-- A job's run in a plan is its column of a history: marks that stand in the plan and are whole run, and leave the
+-- column's steps, stores and flag. A whole job has at most 16 steps.
 -- Assumes nothing.
 use mathlib.Core.Path.{_≡_, refl, sym, ap, _∙_}
 use mathlib.Core.Logic.{inl, inr}
@@ -71,8 +71,8 @@ require-true : {P : Type 0} (test : Bool) (number : ℕ) (place : P) → test �
 unfolding require
 require-true test number place e = rw e
 
-module _ (a : Accepted) (plan : Plan) (x : Job) (left : ℕ) (local : Local) (previous : Round) (running : runs.Running)
-    {effect : Effect} {step : Step} {next : runs.Running} where
+module _ (a : Accepted) (plan : Plan) (x : Job) (left : ℕ) (local : Local) (previous : Round) (running : runs.RunState)
+    {effect : Effect} {step : Step} {next : runs.RunState} where
   -- a step that is allowed and is the End
   job-ends : stepBytes a plan x local previous (running .offset) ≡ passed tt → stepEffect a plan x local running ≡ effect
       → stepMade a plan x running effect ≡ step → runningAfter plan x running effect ≡ next → effect .ended ≡ true

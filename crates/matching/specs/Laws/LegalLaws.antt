@@ -1,5 +1,5 @@
--- What the run of a legal plan satisfies: the rules of 43 and 44 for any two jobs, the guesses of 45, and, from the laws of before and
--- may preempt, how any two jobs' rounds lie to each other.
+-- What the run of a legal plan satisfies: the rules of 43 and 44 for any two jobs, the guesses of 45, and, from the
+-- laws of before and may preempt, how any two jobs' rounds lie to each other.
 -- Assumes nothing.
 use mathlib.Core.Path.{_≡_, refl, sym, ap, ap₂, _∙_}
 use mathlib.Core.Logic.{_⊎_, inl, inr}
@@ -16,11 +16,11 @@ use Rattle.notation.specs.Laws.CheckedLaws.{passed-same, bind-passed, then-pass
 use Rattle.notation.specs.Laws.ListLaws.{upTo-member, each-member}
 use Rattle.notation.specs.Lists.{if_then_else_, all, only, same}
 use Rattle.notation.specs.Laws.QuantifierLaws.{at-all}
-use Rattle.notation.specs.Laws.TestLaws.{both, either, and-holds}
+use Rattle.notation.specs.Laws.TestLaws.{and-both, or-either, and-holds}
 use Rattle.timing.specs.declared.Job.{Job}
 use Rattle.timing.specs.Accepted.{Accepted}
 use Rattle.timing.specs.Code.IsAccepted.{Timed}
-use Rattle.timing.specs.Laws.RelationLaws.{related}
+use Rattle.timing.specs.Laws.RelationLaws.{jobs-related}
 use Rattle.timing.specs.Relations.{IsJob, base, before, mayPreempt, jobNumbers}
 use Rattle.plan.specs.declared.Round.{Round}
 use Rattle.plan.specs.Legality.{Pair, pairs, roundsOf, start, end, beforeRule, apart, nested, noStepWithin, preemptRule, priorityAt, lockRule, orderFault, lockFault, dueStore, guessFault, legality}
@@ -48,18 +48,18 @@ same-equal [] [] h = refl
 same-equal [] (y ∷ ys) h = absurd (false≢true h)
 same-equal (x ∷ xs) [] h = absurd (false≢true h)
 same-equal (x ∷ xs) (y ∷ ys) h =
-    let parts = both (eqb x y) (same xs ys) h in
+    let parts = and-both (eqb x y) (same xs ys) h in
     ap₂ (λ (n : ℕ) (l : List ℕ). n ∷ l) (eqb-true x y (parts .0)) (same-equal xs ys (parts .1))
 
 -- a rule that is asked only where p holds
-pub asked : (p q : Bool) → (not p || q) ≡ true → p ≡ true → q ≡ true
-asked true q h e = h
-asked false q h e = absurd (false≢true e)
+pub implied-holds : (p q : Bool) → (not p || q) ≡ true → p ≡ true → q ≡ true
+implied-holds true q h e = h
+implied-holds false q h e = absurd (false≢true e)
 
 -- holds where q follows from p
-pub asked-holds : (p q : Bool) → (p ≡ true → q ≡ true) → (not p || q) ≡ true
-asked-holds true q h = h refl
-asked-holds false q h = refl
+pub holds-implied : (p q : Bool) → (p ≡ true → q ≡ true) → (not p || q) ≡ true
+holds-implied true q h = h refl
+holds-implied false q h = refl
 
 -- ---- the pairs of jobs
 
@@ -112,10 +112,10 @@ module _ (a : Accepted) (plan : Plan) {runs : JobRuns} (legal : Legal a plan run
   unfolding orderFault lockFault
   pair-rules x y isJob lt =
       let member = pairs-member a x y isJob lt in
-      let third = both (beforeRule a runs x y && beforeRule a runs y x && preemptRule a runs y x) _ (not-false _ (legal-faultless .orders member)) in
-      let second = both (beforeRule a runs x y && beforeRule a runs y x) _ (third .0) in
-      let first = both (beforeRule a runs x y) _ (second .0) in
-      let locks = both (lockRule a runs y x) _ (not-false _ (legal-faultless .locks member)) in
+      let third = and-both (beforeRule a runs x y && beforeRule a runs y x && preemptRule a runs y x) _ (not-false _ (legal-faultless .orders member)) in
+      let second = and-both (beforeRule a runs x y && beforeRule a runs y x) _ (third .0) in
+      let first = and-both (beforeRule a runs x y) _ (second .0) in
+      let locks = and-both (lockRule a runs y x) _ (not-false _ (legal-faultless .locks member)) in
       ((first .0, third .1, locks .1), (first .1, second .1, locks .0))
 
   pub legal-rules : (x y : Job) → IsJob a x → IsJob a y → (x .0 ≡ y .0 → ⊥) → Rules a runs x y
@@ -162,20 +162,20 @@ Lying a runs x y = (end runs x .0 < start runs y .0) ⊎ (end runs y .0 < start 
 before-ends : (a : Accepted) (runs : JobRuns) (x y : Job) → beforeRule a runs x y ≡ true → before a x y ≡ true
     → end runs x .0 < start runs y .0
 unfolding beforeRule
-before-ends a runs x y rule h = ltb-true _ _ (asked (before a x y) _ rule h)
+before-ends a runs x y rule h = ltb-true _ _ (implied-holds (before a x y) _ rule h)
 
 -- the third case, with its lock clause
 nested-within : (a : Accepted) (runs : JobRuns) (y x : Job) → mayPreempt a y x ≡ true → nested runs y x ≡ true → noStepWithin runs x y ≡ true
     → lockRule a runs y x ≡ true → Within a runs y x
 unfolding lockRule nested
 nested-within a runs y x may nest clear rule =
-    let parts = both (leb (start runs x .0) (start runs y .0)) _ nest in
+    let parts = and-both (leb (start runs x .0) (start runs y .0)) _ nest in
     record {
       preempts = may;
       starts = leb-true _ _ (parts .0);
       ends = ltb-true _ _ (parts .1);
       clear = clear;
-      unlocked = ltb-true _ _ (asked (mayPreempt a y x && nested runs y x) _ rule (and-holds _ _ may nest));
+      unlocked = ltb-true _ _ (implied-holds (mayPreempt a y x && nested runs y x) _ rule (and-holds _ _ may nest));
     }
 
 -- "Y may preempt X: either end X < start Y, or end Y < start X, or .."
@@ -183,14 +183,14 @@ preempt-lies : (a : Accepted) (runs : JobRuns) (y x : Job) → preemptRule a run
     → mayPreempt a y x ≡ true → Lying a runs x y
 unfolding preemptRule apart
 preempt-lies a runs y x rule lock may =
-    elim (either (not (mayPreempt a y x) || apart runs x y) _ rule) [
+    elim (or-either (not (mayPreempt a y x) || apart runs x y) _ rule) [
       | inl aside ↦
-          elim (either (ltb (end runs x .0) (start runs y .0)) _ (asked (mayPreempt a y x) _ aside may)) [
+          elim (or-either (ltb (end runs x .0) (start runs y .0)) _ (implied-holds (mayPreempt a y x) _ aside may)) [
             | inl e ↦ inl (ltb-true _ _ e)
             | inr e ↦ inr (inl (ltb-true _ _ e))
           ]
       | inr inside ↦
-          let parts = both (nested runs y x) _ inside in
+          let parts = and-both (nested runs y x) _ inside in
           inr (inr (nested-within a runs y x may (parts .0) (parts .1) lock))
     ]
 
@@ -219,7 +219,7 @@ module _ (a : Accepted) (plan : Plan) {runs : JobRuns} (timed : Timed a) (legal 
   pub rounds-lie : (x y : Job) → IsJob a y → x .0 < y .0 → Lying a runs x y
   rounds-lie x y isJob lt =
       let rules = pair-rules a plan legal x y isJob lt in
-      elim (related timed x y lt isJob) [
+      elim (jobs-related timed x y lt isJob) [
         | inl first ↦ inl (before-ends a runs x y (rules .0 .0) first)
         | inr (inl second) ↦ inr (inl (before-ends a runs y x (rules .1 .0) second))
         | inr (inr third) ↦ preempt-lies a runs y x (rules .1 .1) (rules .1 .2) third

@@ -1,5 +1,5 @@
--- Laws of the steps that the jobs of an order have made: their first and last rounds and priorities, and what one step more of one job
--- makes of them.
+-- Laws of the steps that the jobs of an order have made: their first and last rounds and priorities, and what one
+-- step more of one job makes of them.
 -- Assumes nothing.
 use mathlib.Core.Path.{_≡_, refl, ap, _∙_}
 use mathlib.Core.Logic.{inl, inr}

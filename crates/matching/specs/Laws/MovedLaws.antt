@@ -1,5 +1,5 @@
--- One step more of an order, seen in the history: which job's column it changes and how, and that no other column and no other round's
--- store changes.
+-- One step more of an order, seen in the history: which job's column it changes and how, and that no other column and
+-- no other round's store changes.
 -- Assumes nothing.
 use mathlib.Core.Path.{_≡_, refl, sym, ap, ap₂, subst, _∙_}
 use mathlib.Core.Logic.{_⊎_, inl, inr}
@@ -13,7 +13,7 @@ use lib.Seq.{getD-set-same, getD-set-other}
 use Rattle.taskfile.specs.Judgement.{instructionOf}
 use Rattle.notation.specs.Laws.PairLaws.{every-at}
 use Rattle.notation.specs.Ordered.{Every}
-use Rattle.notation.specs.Laws.TestLaws.{decided}
+use Rattle.notation.specs.Laws.TestLaws.{test-decided}
 use Rattle.timing.specs.Accepted.{Accepted}
 use Rattle.timing.specs.Code.IsAccepted.{IsAccepted}
 use Rattle.timing.specs.Laws.JobFacts.{jobs-few}
@@ -162,7 +162,7 @@ module _ {a : Accepted} (ok : IsAccepted a) {s : State} (inv : Invariant a s) {r
     unfolding stepped
     agree-moved =
         let under = agree-lower (turn .under) (under-lower ok good) agree-under in
-        elim (decided (effect .ended)) [
+        elim (test-decided (effect .ended)) [
           | inl ends ↦ subst (Every (Agrees (moved .jobs))) (sym (active-ended ok inv good effect ends)) under
           | inr goes ↦
               subst (Every (Agrees (moved .jobs))) (sym (active-goes ok inv good effect goes))

@@ -1,4 +1,5 @@
--- A value on offer is below 16, since a Pick offers at most sixteen: so an order byte has its task and its value as its parts.
+-- A value on offer is below 16, since a Pick offers at most sixteen: so an order byte has its task and its value as
+-- its parts.
 -- Assumes nothing.
 use mathlib.Core.Path.{_≡_, ap, _∙_}
 use Prim.Native.Nat.{ℕ, _+_, _*_, _/_, _%_, _<_}

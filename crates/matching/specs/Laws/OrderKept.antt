@@ -1,5 +1,5 @@
--- What holds of an order so far and its trace together: the trace is that of the order, its jobs' runs are allowed as far as they have gone,
--- and its steps are paired as the order's are. It holds where an order starts.
+-- What holds of an order so far and its trace together: the trace is that of the order, its jobs' runs are allowed as
+-- far as they have gone, and its steps are paired as the order's are. It holds where an order starts.
 -- Assumes nothing.
 use mathlib.Core.Path.{_≡_, sym, ap, subst, _∙_}
 use Prim.Native.Nat.{ℕ, _≤_, _<_}

@@ -19,7 +19,7 @@ use Rattle.order.specs.Orders as orders
 use Rattle.order.specs.Orders.{run, Complete}
 use Rattle.order.specs.States.{State, initial, hasEnded, allEnded}
 use Rattle.plan.specs.Legality.{dueStore}
-use Rattle.plan.specs.Plans.{legalRun, endOf, Legal}
+use Rattle.plan.specs.Plans.{legalRun, planEnd, Legal}
 use Rattle.plan.specs.Runs.{Plan, JobRuns, guess, jobTotal, runPlan}
 use Rattle.matching.specs.Laws.ColumnLaws.{columns-jobs}
 use Rattle.matching.specs.Conversions.{planOf, orderOf}
@@ -46,7 +46,7 @@ runsOf a order = columnsRun a 0 (traceOf a order .marks) (guessed a (traceOf a o
 pub record Planned (a : Accepted) (order : List ℕ) (s : State) : Type 0 where
   pub isWritten : planOf a order ≡ written a (traceOf a order .guesses) (traceOf a order .marks)
   pub legal : Legal a (planOf a order) (runsOf a order)
-  pub ends : endOf a (runsOf a order) ≡ orders.endOf s
+  pub ends : planEnd a (runsOf a order) ≡ orders.orderEnd s
   pub back : orderOf a (runsOf a order) ≡ order
 
 module _ {a : Accepted} (ok : IsAccepted a) {order : List ℕ} {s : State} (complete : Complete a order s) where
@@ -130,8 +130,8 @@ module _ {a : Accepted} (ok : IsAccepted a) {order : List ℕ} {s : State} (comp
 
   -- ---- its end
 
-  same-end : endOf a runs ≡ orders.endOf s
-  unfolding endOf orders.endOf runsOf columnsRun guessed columns
+  same-end : planEnd a runs ≡ orders.orderEnd s
+  unfolding planEnd orders.orderEnd runsOf columnsRun guessed columns
   same-end =
       ap₂ (λ (S : Store) (F : Flags). record { store = S; failed = F })
       (last-store ok (kept .follows) order (complete .allowed) refl)

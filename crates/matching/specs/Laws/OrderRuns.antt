@@ -1,5 +1,5 @@
--- What `OrderKept` says of an order so far holds after any allowed bytes, and of a complete order: every job has ended, so the last round is
--- over, and as many stores are in its history as it has jobs.
+-- What `OrderKept` says of an order so far holds after any allowed bytes, and of a complete order: every job has
+-- ended, so the last round is over, and as many stores are in its history as it has jobs.
 -- Assumes nothing.
 use mathlib.Core.Path.{_≡_, refl, sym, ap, subst, _∙_}
 use Prim.Native.Nat.{ℕ, suc, _+_, _%_}
@@ -15,7 +15,7 @@ use Rattle.timing.specs.Code.IsAccepted.{IsAccepted}
 use Rattle.order.specs.Code.Invariant.{Invariant}
 use Rattle.order.specs.Orders.{performed, step, run, Complete}
 use Rattle.order.specs.States.{State, initial, hasEnded}
-use Rattle.order.specs.Laws.StepLaws.{Step, step-says, step-keeps, initial-invariant}
+use Rattle.order.specs.Laws.StepLaws.{AllowedStep, step-says, step-keeps, initial-invariant}
 use Rattle.plan.specs.Runs.{jobTotal}
 use Rattle.matching.specs.Conversions.{OrderRounds, noting, roundsFrom}
 use Rattle.matching.specs.Laws.EndedLaws.{ended-all}
@@ -26,7 +26,7 @@ use Rattle.matching.specs.Laws.TraceSteps.{Trace, traced, traceFrom, sta
 
 -- ---- the first byte
 
-module _ {a : Accepted} {s : State} {byte : ℕ} {next : State} (said : Step a s byte next) (r : ℕ) (bytes : List ℕ) where
+module _ {a : Accepted} {s : State} {byte : ℕ} {next : State} (said : AllowedStep a s byte next) (r : ℕ) (bytes : List ℕ) where
   abbrev x : Job
   x = said .turn .frame .job
 

@@ -19,14 +19,14 @@ use Rattle.timing.specs.Code.IsAccepted.{IsAccepted}
 use Rattle.timing.specs.Relations.{jobAt}
 use Rattle.machine.specs.declared.Effect.{Effect}
 use Rattle.machine.specs.declared.Local.{Local}
-use Rattle.machine.specs.Instructions.{Store, values, perform, operations, end, load, store, setNumber, add, subtract, skipLess, skipEqual, pick, acquireLock, releaseLock, assert}
+use Rattle.machine.specs.Instructions.{Store, values, perform, operationEffects, endJob, loadVariable, store, setNumber, add, subtract, skipLess, skipEqual, pick, acquireLock, releaseLock, assert}
 use Rattle.order.specs.Code.Invariant.{Invariant}
 use Rattle.order.specs.Orders.{nextOf, step}
 use Rattle.order.specs.States.{State, hasEnded}
-use Rattle.order.specs.Laws.StepLaws.{GoodTurn, good-turn, afterEffect, Step, step-says}
+use Rattle.order.specs.Laws.StepLaws.{GoodTurn, good-turn, afterEffect, AllowedStep, step-says}
 use Rattle.plan.specs.Runs.{jobTotal}
-use Rattle.matching.specs.Laws.AdvanceLaws.{turnStep, roundNext, madeAfter}
-use Rattle.matching.specs.Laws.ColumnLaws.{elsewhere, run-snoc, columns-frame}
+use Rattle.matching.specs.Laws.AdvanceLaws.{turnStep, roundAdvanced, madeAfter}
+use Rattle.matching.specs.Laws.ColumnLaws.{round-elsewhere, run-snoc, columns-frame}
 use Rattle.matching.specs.Laws.Histories.{Mark, Marks, job, marked, inRound, JobColumn, unbegun, ColumnRun, stepped, markStep, runMarks, Columns, columns}
 use Rattle.matching.specs.Laws.MadeLaws.{made-here, made-other}
 use Rattle.matching.specs.Laws.MovedLaws.{markAt, round-open, job-listed, has-column, none-above, agree-turn, ownColumn, columns-moved}
@@ -45,8 +45,8 @@ use Rattle.matching.specs.Laws.TurnTraceLaws.{GoesOn, Starts, turn-kind,
 -- ---- one instruction, one job's rounds
 
 -- each operation by its number leaves as many variables as it found
-stored-length : (o : ℕ) (i : Instruction) (v : ℕ) (l : Local) (s : Store) → length (getD operations o end i v l s .store) ≡ length s
-unfolding operations end load store setNumber add subtract skipLess skipEqual pick acquireLock releaseLock assert
+stored-length : (o : ℕ) (i : Instruction) (v : ℕ) (l : Local) (s : Store) → length (getD operationEffects o endJob i v l s .store) ≡ length s
+unfolding operationEffects endJob loadVariable store setNumber add subtract skipLess skipEqual pick acquireLock releaseLock assert
 stored-length zero i v l s = refl
 stored-length (suc zero) i v l s = refl
 stored-length (suc (suc zero)) i v l s = length-set s _ _
@@ -70,7 +70,7 @@ round-within : (r : ℕ) (m : Mark) (ms : List Mark) → ((q : ℕ) → r < q �
 round-within r m ms none =
     elim (decLe (m .round) r) [
       | yes within ↦ within
-      | no later ↦ absurd (elsewhere (m .round) m ms (none (m .round) (omega arith)) .0 refl)
+      | no later ↦ absurd (round-elsewhere (m .round) m ms (none (m .round) (omega arith)) .0 refl)
     ]
 
 -- and so is the last
@@ -78,12 +78,12 @@ last-within : (r p : ℕ) (ms : List Mark) → p ≤ r → ((q : ℕ) → r < q 
 unfolding lastRound lastOr
 last-within r p [] le none = le
 last-within r p (m ∷ ms) le none =
-    last-within r (m .round) ms (round-within r m ms none) (λ q lt. elsewhere q m ms (none q lt) .1)
+    last-within r (m .round) ms (round-within r m ms none) (λ q lt. round-elsewhere q m ms (none q lt) .1)
 
 -- ---- one step
 
 module _ {a : Accepted} (ok : IsAccepted a) {s : State} (inv : Invariant a s) {r : ℕ} {t : Trace} {done : List ℕ} (kept : OrderKept a s r t done)
-    {byte : ℕ} {after : State} (said : Step a s byte after) where
+    {byte : ℕ} {after : State} (said : AllowedStep a s byte after) where
   abbrev x : Job
   x = said .turn .frame .job
 
@@ -210,8 +210,8 @@ module _ {a : Accepted} (ok : IsAccepted a) {s : State} (inv : Invariant a s) {r
   steps-opened y =
       ap (λ (c : Columns). getD (c .jobs) y unbegun .steps) (columns-frame a 0 (suc r) (after .store) more guesses more-later)
 
-  round-is : roundNext r (turnEffect a s v (said .turn)) ≡ (if hasEnded after x then suc r else r)
-  unfolding roundNext turnEffect
+  round-is : roundAdvanced r (turnEffect a s v (said .turn)) ≡ (if hasEnded after x then suc r else r)
+  unfolding roundAdvanced turnEffect
   round-is = ap (λ (b : Bool). if b then suc r else r) (sym ended-is)
 
   pairs-after : Paired a after (if hasEnded after x then suc r else r) (stepsBy a more guesses)

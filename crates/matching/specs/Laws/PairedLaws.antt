@@ -18,8 +18,8 @@ use Rattle.machine.specs.Instructions.{perform}
 use Rattle.order.specs.Code.Invariant.{hasBegun, Invariant}
 use Rattle.order.specs.Orders.{Turn, nextOf, step}
 use Rattle.order.specs.States.{State, initial, hasEnded, isActive, presentPriority}
-use Rattle.order.specs.Laws.StepLaws.{Step, good-turn, step-says, no-flag}
-use Rattle.matching.specs.Laws.AdvanceLaws.{advances, roundNext, madeAfter, under-every}
+use Rattle.order.specs.Laws.StepLaws.{AllowedStep, good-turn, step-says, no-flag}
+use Rattle.matching.specs.Laws.AdvanceLaws.{step-advances, roundAdvanced, madeAfter, under-every}
 use Rattle.notation.specs.Laws.ElementLaws.{at-every}
 use Rattle.matching.specs.Laws.PreemptionLaws.{paired-advance}
 use Rattle.matching.specs.Laws.Pairings.{Made, madeRounds, last, priorityNow, Paired}
@@ -75,13 +75,13 @@ turnEffect a s v turn = perform (nextOf a (turn .frame)) v (turn .frame .local) 
 
 module _ {a : Accepted} (ok : IsAccepted a) {s : State} (inv : Invariant a s) {r : ℕ} {made : Made} (paired : Paired a s r made) (byte : ℕ)
     {after : State} where
-  abbrev Kept : Step a s byte after → Type 0
+  abbrev Kept : AllowedStep a s byte after → Type 0
   Kept said =
       let effect = turnEffect a s (byte % 16) (said .turn) in
-      Paired a after (roundNext r effect) (madeAfter a r (byte % 16) (said .turn) effect made)
+      Paired a after (roundAdvanced r effect) (madeAfter a r (byte % 16) (said .turn) effect made)
 
   -- by the step's turn
-  pub paired-turn : (said : Step a s byte after) → Kept said
+  pub paired-turn : (said : AllowedStep a s byte after) → Kept said
   unfolding turnEffect
   paired-turn said =
       let turn = said .turn in
@@ -89,9 +89,9 @@ module _ {a : Accepted} (ok : IsAccepted a) {s : State} (inv : Invariant a s) {r
       (at-every (λ f. priorityNow a made (f .job) ≡ presentPriority a f) (turn .frame) (s .active) (λ k lt. paired .priorities k (turn .frame) lt)) in
       let good = good-turn ok inv (byte / 16) (said .due) .0 in
       let effect = perform (nextOf a (turn .frame)) (byte % 16) (turn .frame .local) (s .store) in
-      subst (λ (t : State). Paired a t (roundNext r effect) (madeAfter a r (byte % 16) turn effect made))
+      subst (λ (t : State). Paired a t (roundAdvanced r effect) (madeAfter a r (byte % 16) turn effect made))
       (step-after said)
-      (paired-advance ok paired (advances ok inv good effect r made (byte % 16) held) inv)
+      (paired-advance ok paired (step-advances ok inv good effect r made (byte % 16) held) inv)
 
   pub paired-step : (allowed : step a s byte ≡ some after) → Kept (step-says a s byte allowed)
   paired-step allowed = paired-turn (step-says a s byte allowed)

@@ -1,5 +1,5 @@
--- Where all jobs of an order have ended, what holds of any two of them makes their steps, as a plan's run, legal: no pair has the faults of
--- 43 and 44, and with the right guesses the plan has no fault at all.
+-- Where all jobs of an order have ended, what holds of any two of them makes their steps, as a plan's run, legal: no
+-- pair has the faults of 43 and 44, and with the right guesses the plan has no fault at all.
 -- Assumes nothing.
 use mathlib.Core.Path.{_≡_, refl, sym, ap, subst, _∙_}
 use mathlib.Core.Logic.{_⊎_, inl, inr}
@@ -15,7 +15,7 @@ use Rattle.taskfile.specs.Laws.CheckSteps.{then-goes}
 use Rattle.notation.specs.Laws.ListLaws.{upTo-member, member-each}
 use Rattle.notation.specs.Lists.{if_then_else_, upTo, only, same, firstOr, lastOr}
 use Rattle.notation.specs.Laws.QuantifierLaws.{at-all, map-length}
-use Rattle.notation.specs.Laws.TestLaws.{both, and-holds, and-first, and-last, or-left, or-right, decided}
+use Rattle.notation.specs.Laws.TestLaws.{and-both, and-holds, and-first, and-last, or-left, or-right, test-decided}
 use Rattle.timing.specs.declared.Job.{Job}
 use Rattle.timing.specs.Accepted.{Accepted}
 use Rattle.timing.specs.Laws.JobNumberLaws.{all-jobs}
@@ -25,7 +25,7 @@ use Rattle.order.specs.States.{State, hasEnded, allEnded}
 use Rattle.plan.specs.declared.Round.{Round}
 use Rattle.plan.specs.Legality.{Pair, pairs, stepsOf, roundsOf, start, end, beforeRule, apart, nested, noStepWithin, preemptRule, priorityAt, lockRule, orderFault, lockFault, dueStore, guessFault, legality}
 use Rattle.plan.specs.Runs.{Plan, Step, JobRuns, jobTotal, roundNumbers, firstRound, guess}
-use Rattle.matching.specs.Laws.LegalLaws.{roundOf, Rules, asked-holds}
+use Rattle.matching.specs.Laws.LegalLaws.{roundOf, Rules, holds-implied}
 use Rattle.matching.specs.Laws.Pairings.{Made, madeRounds, first, last, priorityUpTo, Clear, Inside, Paired}
 use Rattle.matching.specs.Laws.RoundLaws.{member-round}
 
@@ -165,7 +165,7 @@ module _ (a : Accepted) (runs : JobRuns) (made : Made) (steps : SameSteps a runs
     before-made : (x y : Job) → IsJob a x → IsJob a y → beforeRule a runs x y ≡ true
     unfolding beforeRule
     before-made x y isX isY =
-        asked-holds (before a x y) (ltb (end runs x .0) (start runs y .0))
+        holds-implied (before a x y) (ltb (end runs x .0) (start runs y .0))
         (λ h. lt-ltb (end runs x .0) (start runs y .0)
         (omega (arith, paired .preceding x y isX isY h (begun y isY), end-made x isX, start-made y isY)))
 
@@ -196,7 +196,7 @@ module _ (a : Accepted) (runs : JobRuns) (made : Made) (steps : SameSteps a runs
     preempt-made : (x y : Job) → IsJob a x → IsJob a y → preemptRule a runs y x ≡ true
     unfolding preemptRule
     preempt-made x y isX isY =
-        elim (decided (mayPreempt a y x)) [
+        elim (test-decided (mayPreempt a y x)) [
           | inr never ↦ or-left (not (mayPreempt a y x) || apart runs x y) _ (or-left (not (mayPreempt a y x)) _ (ap not never))
           | inl may ↦
               elim (lies-made x y isX isY may) [
@@ -210,7 +210,7 @@ module _ (a : Accepted) (runs : JobRuns) (made : Made) (steps : SameSteps a runs
         → (first made x ≤ first made y) × (last made y < last made x)
     unfolding nested
     nested-says x y isX isY nest =
-        let parts = both (leb (start runs x .0) (start runs y .0)) _ nest in
+        let parts = and-both (leb (start runs x .0) (start runs y .0)) _ nest in
         let starts = leb-true (start runs x .0) (start runs y .0) (parts .0) in
         let closes = ltb-true (end runs y .0) (end runs x .0) (parts .1) in (
           omega (arith, starts, start-made x isX, start-made y isY),
@@ -231,8 +231,8 @@ module _ (a : Accepted) (runs : JobRuns) (made : Made) (steps : SameSteps a runs
     lock-made : (x y : Job) → IsJob a x → IsJob a y → lockRule a runs y x ≡ true
     unfolding lockRule
     lock-made x y isX isY =
-        asked-holds (mayPreempt a y x && nested runs y x) (ltb (priorityAt a runs x (start runs y)) (base a y))
-        (λ h. (let parts = both (mayPreempt a y x) _ h in lt-ltb _ _ (unlocked-made x y isX isY (parts .0) (parts .1))))
+        holds-implied (mayPreempt a y x && nested runs y x) (ltb (priorityAt a runs x (start runs y)) (base a y))
+        (λ h. (let parts = and-both (mayPreempt a y x) _ h in lt-ltb _ _ (unlocked-made x y isX isY (parts .0) (parts .1))))
 
     -- so any two jobs keep the three rules
     pub paired-rules : (x y : Job) → IsJob a x → IsJob a y → Rules a runs x y

@@ -9,7 +9,7 @@ use mathlib.Core.Bool.{true, false}
 use mathlib.Core.List.{List}
 use lib.ListN.{length, getD}
 use Rattle.notation.specs.Laws.PairLaws.{every-at}
-use Rattle.notation.specs.Laws.TestLaws.{or-left, or-right, or-second, decided, not-both}
+use Rattle.notation.specs.Laws.TestLaws.{or-left, or-right, or-second, test-decided, not-both}
 use Rattle.timing.specs.declared.Job.{Job}
 use Rattle.timing.specs.Accepted.{Accepted}
 use Rattle.timing.specs.Laws.RelationLaws.{before-says}
@@ -61,7 +61,7 @@ module _ {a : Accepted} {s now : State} {r next : ℕ} {made later : Made} {x : 
   pub opening : Goes s made later x ⊎ ((length (madeRounds made x) ≡ 0) × (first later x ≡ r))
   unfolding hasBegun
   opening =
-      elim (decided (isActive s x)) [
+      elim (test-decided (isActive s x)) [
         | inl active ↦
             let some-there = paired .some-made x (one .isX) (active-begun x active) in
             inl (record { active = active; some-there = some-there; first-stays = first-more made later x st (one .more-here) some-there })

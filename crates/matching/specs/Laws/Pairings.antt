@@ -1,5 +1,5 @@
--- Two jobs of an order so far: what holds of the rounds of their steps, by which of the two has begun, is active or has ended. When all jobs
--- have ended this is what makes a plan legal.
+-- Two jobs of an order so far: what holds of the rounds of their steps, by which of the two has begun, is active or
+-- has ended. When all jobs have ended this is what makes a plan legal.
 -- Assumes nothing.
 use mathlib.Core.Path.{_≡_}
 use Prim.Native.Nat.{ℕ, _≤_, _<_}
@@ -51,7 +51,8 @@ pub record Inside (a : Accepted) (made : Made) (y x : Job) : Type 0 where
 
 -- in round r
 pub record Paired (a : Accepted) (s : State) (r : ℕ) (made : Made) : Type 0 where
-  -- a job that has begun has steps, with rounds that rise up to this one, and one that has ended made its last in an earlier round
+  -- a job that has begun has steps, with rounds that rise up to this one, and one that has ended made its last in an
+  -- earlier round
   pub none-yet : (x : Job) → IsJob a x → 0 < length (made (x .0)) → hasBegun s x ≡ true
   pub some-made : (x : Job) → IsJob a x → hasBegun s x ≡ true → 0 < length (made (x .0))
   pub rising : (x : Job) (k : ℕ) → IsJob a x → k < length (madeRounds made x)

@@ -1,5 +1,5 @@
--- Laws of the runs of a history's jobs as far as they have gone: a guess for a round without steps and one allowed step more keep them,
--- and where every job has ended the history is whole.
+-- Laws of the runs of a history's jobs as far as they have gone: a guess for a round without steps and one allowed
+-- step more keep them, and where every job has ended the history is whole.
 -- Assumes nothing.
 use mathlib.Core.Path.{_≡_, refl, sym, ap, subst, _∙_}
 use mathlib.Core.Logic.{_≢_, inl, inr}
@@ -13,7 +13,7 @@ use lib.Seq.{length-take-le, getD-take, getD-set-same, getD-set-other, take-set-
 use Rattle.notation.specs.Lists.{only, lastOr}
 use Rattle.timing.specs.Accepted.{Accepted}
 use Rattle.machine.specs.Instructions.{Store}
-use Rattle.matching.specs.Laws.ColumnLaws.{elsewhere, stored, step-frame, columns-frame, columnsFrom-marked}
+use Rattle.matching.specs.Laws.ColumnLaws.{round-elsewhere, stored, step-frame, columns-frame, columnsFrom-marked}
 use Rattle.matching.specs.Laws.Histories.{Mark, Marks, marked, inRound, unbegun, ColumnRun, stepped, markStep, runMarks, Columns, columnsFrom, columns}
 use Rattle.matching.specs.Laws.PlanReading.{Allowed, Whole, AllWhole}
 use Rattle.matching.specs.Laws.PlanReadingLaws.{at-whole}
@@ -62,7 +62,7 @@ module _ (a : Accepted) where
     pub going-frame : (ms : List Mark) (p : ℕ) (c : ColumnRun) → inRound q ms ≡ [] → Going a x p ms c → Going a x p ms (stored q s c)
     going-frame [] p c none going = tt
     going-frame (m ∷ ms) p c none going =
-        let apart = elsewhere q m ms none in (
+        let apart = round-elsewhere q m ms none in (
           allowed-frame p m c (going .0),
           ended-frame m c false (apart .0) (going .1),
           subst (Going a x (m .round) ms) (sym (step-frame a x m q s c (apart .0)))
@@ -72,7 +72,7 @@ module _ (a : Accepted) where
     pub whole-frame : (ms : List Mark) (p : ℕ) (c : ColumnRun) → inRound q ms ≡ [] → Whole a x p ms c → Whole a x p ms (stored q s c)
     whole-frame [] p c none whole = whole
     whole-frame (m ∷ ms) p c none whole =
-        let apart = elsewhere q m ms none in (
+        let apart = round-elsewhere q m ms none in (
           allowed-frame p m c (whole .0),
           elim (whole .1) [
             | inl last ↦ inl (ended-frame m c true (apart .0) (last .0), last .1)

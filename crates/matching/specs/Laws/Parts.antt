@@ -1,4 +1,5 @@
--- The runs of a history's jobs as far as they have gone: each job's steps are allowed, and either the last of them ends the job or none does.
+-- The runs of a history's jobs as far as they have gone: each job's steps are allowed, and either the last of them
+-- ends the job or none does.
 -- Assumes nothing.
 use mathlib.Core.Path.{_≡_}
 use Prim.Native.Nat.{ℕ, _<_}

@@ -1,5 +1,6 @@
--- What the run of a legal plan says of its history: each job's rounds do not fall, its steps, stores and failed jobs are those of the
--- columns, each guess is the store that is due, and every column ends. A column's last step notes the priority of what the job holds.
+-- What the run of a legal plan says of its history: each job's rounds do not fall, its steps, stores and failed jobs
+-- are those of the columns, each guess is the store that is due, and every column ends. A column's last step notes
+-- the priority of what the job holds.
 -- Assumes nothing.
 use mathlib.Core.Path.{_≡_, sym, ap, subst, _∙_}
 use Prim.Native.Nat.{ℕ, _<_}

@@ -1,5 +1,5 @@
--- All steps of a legal plan, read by rows, as an order: every job has ended after them, the order's state ends as the plan does, and the
--- order's trace has the plan's guesses and marks.
+-- All steps of a legal plan, read by rows, as an order: every job has ended after them, the order's state ends as the
+-- plan does, and the order's trace has the plan's guesses and marks.
 -- Assumes nothing.
 use mathlib.Core.Path.{_≡_, refl, sym, ap, subst, _∙_}
 use Prim.Native.Nat.{ℕ, _+_, _<_}

@@ -1,5 +1,5 @@
--- A plan that runs is written from its guesses and a history of whole jobs, the marks of its run: with `PlanReadingLaws` the plans
--- that run and such histories are one to one. `JobHistoryLaws` says so of each job.
+-- A plan that runs is written from its guesses and a history of whole jobs, the marks of its run: with
+-- `PlanReadingLaws` the plans that run and such histories are one to one. `JobHistoryLaws` says so of each job.
 -- Assumes nothing.
 use mathlib.Core.Path.{_≡_, refl, sym, ap, subst, _∙_}
 use Prim.Native.Nat.{ℕ, zero, suc, _+_, _*_, _≤_, _<_}
@@ -13,8 +13,8 @@ use borrow.Author.Tests.{leb-true, eqb-true}
 use Rattle.notation.specs.Checked.{passed, require}
 use Rattle.notation.specs.Laws.CheckedLaws.{passed-same, bind-passed, then-passed, require-passed}
 use Rattle.notation.specs.Lists.{from, upTo, each}
-use Rattle.notation.specs.Laws.TestLaws.{both}
-use Rattle.taskfile.specs.Laws.TimesLaws.{holds}
+use Rattle.notation.specs.Laws.TestLaws.{and-both}
+use Rattle.taskfile.specs.Laws.TimesLaws.{test-holds}
 use Rattle.timing.specs.declared.Job.{Job}
 use Rattle.timing.specs.Accepted.{Accepted}
 use Rattle.timing.specs.Code.IsAccepted.{IsAccepted}
@@ -26,20 +26,21 @@ use Rattle.matching.specs.Laws.Histories.{Mark, ColumnRun, job, round}
 use Rattle.matching.specs.Laws.JobHistoryLaws.{column-read}
 use Rattle.matching.specs.Laws.JobReadingLaws.{column-runs, whole-short}
 use Rattle.matching.specs.Laws.PlanReading.{marksBytes, written, markOf, AllWhole, columnsRun, Eights, guessed, guessesOf, marksOf}
-use Rattle.matching.specs.Laws.PlanReadingLaws.{numbered, plan-runs}
+use Rattle.matching.specs.Laws.PlanReadingLaws.{numbers-from, plan-runs}
 use Rattle.matching.specs.Laws.RoundLaws.{guesses-total, guess-of}
 
 -- ---- all jobs
 
--- the marks of a run of n jobs from number x on are whole, and their bytes stand in the plan up to where the run left it
-pub record JobsBack (a : Accepted) (plan : Plan) (x n : ℕ) (running : runs.Running) (all : JobRuns) : Type 0 where
+-- the marks of a run of n jobs from number x on are whole, and their bytes stand in the plan up to where the run left
+-- it
+pub record JobsBack (a : Accepted) (plan : Plan) (x n : ℕ) (running : runs.RunState) (all : JobRuns) : Type 0 where
   pub full : length (marksOf all) ≡ n
   pub whole : AllWhole a x (marksOf all) (running .stores)
   pub bytes : drop (running .offset) plan ≡ each (marksOf all) marksBytes ++ drop (all .running .offset) plan
 
 module _ {a : Accepted} (ok : IsAccepted a) (plan : Plan) where
   -- one job and those after it
-  back-more : (x n : ℕ) (running : runs.Running) {one : JobRun} {others : JobRuns} → x < jobTotal a
+  back-more : (x n : ℕ) (running : runs.RunState) {one : JobRun} {others : JobRuns} → x < jobTotal a
       → runJob a plan (job x) 16 fresh firstRound running ≡ passed one
       → JobsBack a plan (suc x) n (one .running) others
       → JobsBack a plan x (suc n) running (record { steps = one .steps ∷ others .steps; running = others .running })
@@ -59,7 +60,7 @@ module _ {a : Accepted} (ok : IsAccepted a) (plan : Plan) where
       }
 
   -- n jobs that run are whole
-  pub jobs-read : (n x : ℕ) (running : runs.Running) {all : JobRuns} → x + n ≡ jobTotal a
+  pub jobs-read : (n x : ℕ) (running : runs.RunState) {all : JobRuns} → x + n ≡ jobTotal a
       → runJobs a plan (map job (from x n)) running ≡ passed all → JobsBack a plan x n running all
   unfolding runJobs from marksOf each
   jobs-read zero x running total e =
@@ -130,10 +131,10 @@ plan-says a plan {all} e =
     let last = then-passed (require (eqb (jobs .0 .running .offset) (length plan)) 40 (jobs .0 .running .offset)) _ (jobs .2) in
     subst (Parts a plan) (passed-same (last .2))
     (record {
-      first = eqb-true _ _ (both (ltb 0 (length plan)) _ (holds _ (require-passed _ 40 0 (first .1))) .1);
-      long = leb-true _ _ (holds _ (require-passed _ 40 (length plan) (second .1)));
-      jobs = ap (λ (xs : List Job). runJobs a plan xs (runStart a plan)) (sym (numbered a (jobTotal a) refl)) ∙ jobs .1;
-      last = eqb-true _ _ (holds _ (require-passed _ 40 _ (last .1)));
+      first = eqb-true _ _ (and-both (ltb 0 (length plan)) _ (test-holds _ (require-passed _ 40 0 (first .1))) .1);
+      long = leb-true _ _ (test-holds _ (require-passed _ 40 (length plan) (second .1)));
+      jobs = ap (λ (xs : List Job). runJobs a plan xs (runStart a plan)) (sym (numbers-from a (jobTotal a) refl)) ∙ jobs .1;
+      last = eqb-true _ _ (test-holds _ (require-passed _ 40 _ (last .1)));
     })
 
 module _ {a : Accepted} (ok : IsAccepted a) (plan : Plan) {all : JobRuns} (e : runPlan a plan ≡ passed all) where

@@ -1,5 +1,5 @@
--- The steps of a legal plan, read by rows, as an order so far: what holds of the order's state, of its history and of its trace. It holds
--- before the first step, and where it holds the plan's next step is one that the order may take.
+-- The steps of a legal plan, read by rows, as an order so far: what holds of the order's state, of its history and of
+-- its trace. It holds before the first step, and where it holds the plan's next step is one that the order may take.
 -- Assumes nothing.
 use mathlib.Core.Path.{_≡_, refl, sym, ap, subst, _∙_}
 use mathlib.Core.Logic.{inl, inr}
@@ -13,7 +13,7 @@ use Rattle.taskfile.specs.Judgement.{instructionOf}
 use Rattle.notation.specs.Lists.{member, lastOr, if_then_else_}
 use Rattle.notation.specs.Laws.PairLaws.{every-at}
 use Rattle.taskfile.specs.Tables.{ceilingsOf}
-use Rattle.notation.specs.Laws.TestLaws.{decided, not-both}
+use Rattle.notation.specs.Laws.TestLaws.{test-decided, not-both}
 use Rattle.timing.specs.declared.Job.{Job}
 use Rattle.timing.specs.Accepted.{Accepted}
 use Rattle.timing.specs.Code.IsAccepted.{IsAccepted}
@@ -23,7 +23,7 @@ use Rattle.machine.specs.Ends.{noStore, noFlags}
 use Rattle.machine.specs.Held.{priority}
 use Rattle.machine.specs.Instructions.{Store, values}
 use Rattle.order.specs.declared.Frame.{Frame}
-use Rattle.order.specs.Code.Invariant.{Running, hasBegun, Invariant}
+use Rattle.order.specs.Code.Invariant.{IsRunning, hasBegun, Invariant}
 use Rattle.order.specs.Orders.{Turn, turnOf, nextOf, performed, stepWith, step, run}
 use Rattle.order.specs.States.{State, initial, hasEnded, presentPriority}
 use Rattle.order.specs.Laws.StepLaws.{no-flag, initial-invariant, good-turn, step-says}
@@ -139,7 +139,7 @@ module _ {a : Accepted} (ok : IsAccepted a) (plan : Plan) {runs : JobRuns} (lega
       stand-priority k d lt =
           let f : Frame = getD (s .active) k d in
           let y : ℕ = f .job .0 in
-          let isY = every-at (Running a s) (s .active) k d (inv .running) lt .job in
+          let isY = every-at (IsRunning a s) (s .active) k d (inv .running) lt .job in
           let inside : y < length h = listed y isY in
           let after : List Step → ℕ = λ steps. lastOr (base a (f .job)) (map (λ step. step .priorityAfter) steps) in
           ap (λ (l : Local). priority (ceilingsOf (a .table)) (base a (f .job)) (l .held)) (sym (t .locals k d lt))
@@ -151,7 +151,7 @@ module _ {a : Accepted} (ok : IsAccepted a) (plan : Plan) {runs : JobRuns} (lega
       plan-stands : ((y : ℕ) → y < jobTotal a → hasBegun s (job y) ≡ true → getD now y [] ≡ [] → ⊥) → Stands a s runs now (cut .rest)
       plan-stands begun = record {
         begun-some = begun;
-        some-begun = λ y lt some-made. elim (decided (hasBegun s (job y))) [
+        some-begun = λ y lt some-made. elim (test-decided (hasBegun s (job y))) [
           | inl yes-begun ↦ yes-begun
           | inr not-yet ↦ absurd (some-made (t .none-yet y lt not-yet))
         ];

@@ -51,8 +51,8 @@ module _ {a : Accepted} (ok : IsAccepted a) (plan : Plan) {runs : JobRuns} (lega
     }
 
     -- and ends as the plan does
-    order-ends : plans.endOf a runs ≡ orders.endOf s
-    unfolding plans.endOf orders.endOf
+    order-ends : plans.planEnd a runs ≡ orders.orderEnd s
+    unfolding plans.planEnd orders.orderEnd
     order-ends = λ i. record { store = taken-store ok plan legal kept i; failed = taken-failed ok plan legal kept i }
 
     -- its plan is the plan
@@ -66,7 +66,7 @@ module _ {a : Accepted} (ok : IsAccepted a) (plan : Plan) {runs : JobRuns} (lega
         ∙ sym (legal-back ok plan legal .isWritten)
 
   -- The order of a legal plan is complete, ends as the plan does, and is that plan again.
-  pub planned-order : (s : State) × Complete a (orderOf a runs) s × (plans.endOf a runs ≡ orders.endOf s) × (planOf a (orderOf a runs) ≡ plan)
+  pub planned-order : (s : State) × Complete a (orderOf a runs) s × (plans.planEnd a runs ≡ orders.orderEnd s) × (planOf a (orderOf a runs) ≡ plan)
   planned-order =
       let taken = plan-taken ok plan legal in
       let kept = taken .2 in

@@ -1,6 +1,6 @@
--- A plan as its guesses and its history: the bytes that a history takes in a plan, and which histories are runs of every job to
--- its End. Document 01, "Round plans": "k; then k stores of 8 bytes, the guessed start of each round; then for each job in
--- number order, for each of its steps, two bytes: round, Pick value or 0."
+-- A plan as its guesses and its history: the bytes that a history takes in a plan, and which histories are runs of
+-- every job to its End. Document 01, "Round plans": "k; then k stores of 8 bytes, the guessed start of each round;
+-- then for each job in number order, for each of its steps, two bytes: round, Pick value or 0."
 -- Assumes nothing.
 use mathlib.Core.Path.{_≡_}
 use mathlib.Core.Logic.{_⊎_}
@@ -38,7 +38,7 @@ abbrev pub Eights : List Store → Type 0
 Eights guesses = (r : ℕ) → r < length guesses → length (getD guesses r []) ≡ 8
 
 -- where the run of a plan with these guesses starts
-unfoldable pub guessed : Accepted → List Store → runs.Running
+unfoldable pub guessed : Accepted → List Store → runs.RunState
 guessed a guesses = record { offset = 1 + 8 * jobTotal a; stores = guesses; failed = noFlags }
 
 -- a step's mark
@@ -80,7 +80,7 @@ AllWhole a x (ms ∷ h) stores =
     × AllWhole a (suc x) h (runMarks a x ms (record { column = unbegun; stores = stores }) .stores)
 
 -- where a plan's run stands with the stores of c
-abbrev pub standing : ℕ → Flags → ColumnRun → runs.Running
+abbrev pub standing : ℕ → Flags → ColumnRun → runs.RunState
 standing o flags c = record { offset = o; stores = c .stores; failed = flags }
 
 -- the flags with those of the failed columns raised, the first of them being number x
@@ -89,7 +89,7 @@ flagsFrom x [] flags = flags
 flagsFrom x (c ∷ cs) flags = flagsFrom (suc x) cs (flagged (c .failed) x flags)
 
 -- the run of the jobs from number x on, read by columns: from an offset, each round's store and the failed jobs on
-unfoldable pub columnsRun : Accepted → ℕ → Marks → runs.Running → JobRuns
+unfoldable pub columnsRun : Accepted → ℕ → Marks → runs.RunState → JobRuns
 columnsRun a x h running =
     let read = columnsFrom a x h (running .stores) in
     record {

@@ -1,5 +1,5 @@
--- A plan's run is its history read by columns: the plan written from guesses and a history of whole jobs runs, and leaves the
--- steps, stores and failed jobs of that history. `JobReadingLaws` says so of each job.
+-- A plan's run is its history read by columns: the plan written from guesses and a history of whole jobs runs, and
+-- leaves the steps, stores and failed jobs of that history. `JobReadingLaws` says so of each job.
 -- Assumes nothing.
 use mathlib.Core.Path.{_≡_, refl, sym, ap, subst, _∙_}
 use Prim.Native.Nat.{ℕ, zero, suc, _+_, _*_, _<_}
@@ -28,7 +28,7 @@ use Rattle.matching.specs.Laws.RoundLaws.{guesses-total, guess-of}
 -- ---- all jobs
 
 -- one job's run and that of those after it
-jobs-go : (a : Accepted) (plan : Plan) (x : Job) (xs : List Job) (running : runs.Running) {one : JobRun} {others : JobRuns}
+jobs-go : (a : Accepted) (plan : Plan) (x : Job) (xs : List Job) (running : runs.RunState) {one : JobRun} {others : JobRuns}
     → runJob a plan x 16 fresh firstRound running ≡ passed one → runJobs a plan xs (one .running) ≡ passed others
     → runJobs a plan (x ∷ xs) running ≡ passed (record { steps = one .steps ∷ others .steps; running = others .running })
 unfolding runJobs _>>=_
@@ -75,7 +75,7 @@ module _ (a : Accepted) where
 
 module _ {a : Accepted} (ok : IsAccepted a) (plan : Plan) where
   -- the jobs from number x on, whose marks stand in the plan and are whole, run over them
-  pub jobs-run : (h : Marks) (x : ℕ) (running : runs.Running) (rest : List ℕ) → x + length h ≡ jobTotal a → AllWhole a x h (running .stores)
+  pub jobs-run : (h : Marks) (x : ℕ) (running : runs.RunState) (rest : List ℕ) → x + length h ≡ jobTotal a → AllWhole a x h (running .stores)
       → drop (running .offset) plan ≡ each h marksBytes ++ rest
       → runJobs a plan (map job (from x (length h))) running ≡ passed (columnsRun a x h running)
   unfolding runJobs columnsRun columnsFrom flagsFrom each from
@@ -149,9 +149,9 @@ module _ (a : Accepted) (guesses : List Store) (h : Marks) (total : length guess
 -- ---- a plan
 
 -- the jobs by number
-pub numbered : (a : Accepted) (n : ℕ) → n ≡ jobTotal a → jobNumbers a ≡ map job (from 0 n)
+pub numbers-from : (a : Accepted) (n : ℕ) → n ≡ jobTotal a → jobNumbers a ≡ map job (from 0 n)
 unfolding jobNumbers jobTotal upTo job
-numbered a n e = ap (λ (k : ℕ). map job (from 0 k)) (sym e)
+numbers-from a n e = ap (λ (k : ℕ). map job (from 0 k)) (sym e)
 
 module _ {a : Accepted} (ok : IsAccepted a) (guesses : List Store) (h : Marks) where
   -- the plan of a history of whole jobs runs, and its run is the history read by columns
@@ -167,7 +167,7 @@ module _ {a : Accepted} (ok : IsAccepted a) (guesses : List Store) (h : Marks) w
       ∙ require-holds _ 40 (length plan) _ (le-leb _ (length plan) (omega arith))
       ∙ bind-goes _
       (ap (runJobs a plan (jobNumbers a)) starts
-      ∙ ap (λ (xs : List Job). runJobs a plan xs (guessed a guesses)) (numbered a (length h) full)
+      ∙ ap (λ (xs : List Job). runJobs a plan xs (guessed a guesses)) (numbers-from a (length h) full)
       ∙ jobs-run ok plan h 0 (guessed a guesses) [] (omega arith) whole after)
       ∙ require-holds _ 40 _ _ (eq-eqb _ _ (sym long))
 
@@ -183,7 +183,7 @@ steps-marks a x (m ∷ ms) c =
     ∙ append-assoc (map markOf (c .column .steps)) (m ∷ []) ms
 
 -- so a history is found again in the run of the plan written from it
-pub marks-back : (a : Accepted) (h : Marks) (x : ℕ) (running : runs.Running) → marksOf (columnsRun a x h running) ≡ h
+pub marks-back : (a : Accepted) (h : Marks) (x : ℕ) (running : runs.RunState) → marksOf (columnsRun a x h running) ≡ h
 unfolding marksOf columnsRun columnsFrom unbegun
 marks-back a [] x running = refl
 marks-back a (ms ∷ h) x running =

@@ -1,5 +1,6 @@
--- What a cut of a legal plan's history says of its jobs' rounds: a job with a step made starts no later than the cut's round, one with a step
--- left ends no earlier, and the jobs that have both lie under the job whose step is next.
+-- What a cut of a legal plan's history says of its jobs' rounds: a job with a step made starts no later than the
+-- cut's round, one with a step left ends no earlier, and the jobs that have both lie under the job whose step is
+-- next.
 -- Assumes nothing.
 use mathlib.Core.Path.{_≡_, refl, sym, ap, ap₂, subst, _∙_}
 use mathlib.Core.Logic.{_⊎_, inl, inr}
@@ -26,10 +27,10 @@ use Rattle.plan.specs.declared.Round.{Round}
 use Rattle.plan.specs.Legality.{stepsOf, roundsOf, start, end, beforeRule, noStepWithin, priorityAt}
 use Rattle.plan.specs.Plans.{Legal}
 use Rattle.plan.specs.Runs.{Plan, Step, JobRuns, firstRound}
-use Rattle.matching.specs.Laws.ColumnLaws.{elsewhere}
+use Rattle.matching.specs.Laws.ColumnLaws.{round-elsewhere}
 use Rattle.matching.specs.Laws.Cuts.{Cut}
 use Rattle.matching.specs.Laws.Histories.{Mark, Marks, job, round, inRound}
-use Rattle.matching.specs.Laws.LegalLaws.{roundOf, Within, legal-rules, rounds-lie, asked}
+use Rattle.matching.specs.Laws.LegalLaws.{roundOf, Within, legal-rules, rounds-lie, implied-holds}
 use Rattle.notation.specs.Laws.ElementLaws.{only-append, Some, none-or-some, only-all, only-none, cons-some}
 use Rattle.matching.specs.Laws.PlanReading.{markOf, marksOf}
 use Rattle.matching.specs.Laws.RunLaws.{legal-rising}
@@ -62,9 +63,9 @@ none-in P Q parts [] none = tt
 none-in P Q parts (m ∷ ms) none = (
   elim (parts (m .round)) [
     | inl good ↦ good
-    | inr bad ↦ absurd (elsewhere (m .round) m ms (none (m .round) bad) .0 refl)
+    | inr bad ↦ absurd (round-elsewhere (m .round) m ms (none (m .round) bad) .0 refl)
   ],
-  none-in P Q parts ms (λ q bad. elsewhere q m ms (none q bad) .1),
+  none-in P Q parts ms (λ q bad. round-elsewhere q m ms (none q bad) .1),
 )
 
 low-or-high : (r q : ℕ) → (q ≤ r) ⊎ (r < q)
@@ -268,5 +269,5 @@ module _ (runs : JobRuns) {now : Marks} {x : ℕ} {m : Mark} (cut : Cut (marksOf
     unfolding beforeRule job
     before-done z isZ h none =
         let rule = legal-rules a plan legal z (job x) isZ isX (before-says a z (job x) h .0) .0 in
-        let ends : end runs z .0 < start runs (job x) .0 = ltb-true _ _ (asked (before a z (job x)) _ rule h) in
+        let ends : end runs z .0 < start runs (job x) .0 = ltb-true _ _ (implied-holds (before a z (job x)) _ rule h) in
         none-left (z .0) (omega (arith, ends, ap (λ (r : Round). r .0) (starts-here none)))

@@ -1,5 +1,6 @@
--- The next step of a legal plan, read by rows, taken as an order's step: what holds of the plan's steps so far as an order holds with that
--- step too. Where it is an End, the store that it leaves is the next round's guess, since nothing of the round is left.
+-- The next step of a legal plan, read by rows, taken as an order's step: what holds of the plan's steps so far as an
+-- order holds with that step too. Where it is an End, the store that it leaves is the next round's guess, since
+-- nothing of the round is left.
 -- Assumes nothing.
 use mathlib.Core.Path.{_≡_, refl, sym, ap, subst, _∙_}
 use mathlib.Core.Logic.{_⊎_, inl, inr}
@@ -12,7 +13,7 @@ use lib.ListN.{length, getD, set, replicate, length-append}
 use lib.Seq.{getD-set-same, getD-set-other, set-out, set-getD}
 use Rattle.notation.specs.Laws.ListLaws.{map-snoc}
 use Rattle.notation.specs.Lists.{if_then_else_}
-use Rattle.notation.specs.Laws.TestLaws.{decided}
+use Rattle.notation.specs.Laws.TestLaws.{test-decided}
 use Rattle.timing.specs.declared.Job.{Job}
 use Rattle.timing.specs.Accepted.{Accepted}
 use Rattle.timing.specs.Code.IsAccepted.{IsAccepted}
@@ -22,7 +23,7 @@ use Rattle.machine.specs.Instructions.{Store, perform}
 use Rattle.order.specs.Code.Invariant.{hasBegun, Invariant}
 use Rattle.order.specs.Orders.{nextOf, run}
 use Rattle.order.specs.States.{State, initial, hasEnded}
-use Rattle.order.specs.Laws.StepLaws.{GoodTurn, good-turn, afterEffect, begun-before, Step, step-says, step-keeps, initial-invariant}
+use Rattle.order.specs.Laws.StepLaws.{GoodTurn, good-turn, afterEffect, begun-before, AllowedStep, step-says, step-keeps, initial-invariant}
 use Rattle.plan.specs.Legality.{dueStore}
 use Rattle.plan.specs.Plans.{Legal}
 use Rattle.plan.specs.Runs.{Plan, JobRuns, jobTotal}
@@ -46,7 +47,7 @@ use Rattle.matching.specs.Laws.TurnTraceLaws.{GoesOn, Starts, turn-kind,
 -- ---- what a step makes of the columns, on the same guesses
 
 module _ {a : Accepted} (ok : IsAccepted a) {s : State} (inv : Invariant a s) {r : ℕ} {guesses : List Store} {h : Marks} {done : List ℕ}
-    (t : Traced a s r guesses h done) {byte : ℕ} {after : State} (made : Step a s byte after) where
+    (t : Traced a s r guesses h done) {byte : ℕ} {after : State} (made : AllowedStep a s byte after) where
   abbrev effect : Effect
   effect = perform (nextOf a (made .turn .frame)) (byte % 16) (made .turn .frame .local) (s .store)
 
@@ -100,7 +101,7 @@ module _ {a : Accepted} (ok : IsAccepted a) (plan : Plan) {runs : JobRuns} (lega
   due : StepDue a s p
   due = next-due ok plan legal kept p rest split
 
-  made : Step a s (placedByte a p) (due .after)
+  made : AllowedStep a s (placedByte a p) (due .after)
   made = step-says a s byte (due .taken)
 
   whose : made .turn .frame .job .0 ≡ p .number
@@ -264,7 +265,7 @@ module _ {a : Accepted} (ok : IsAccepted a) (plan : Plan) {runs : JobRuns} (lega
   -- the plan's steps with the next are an order so far
   pub plan-steps : (after : State) × (q : ℕ) × PlanKept a plan after q (done ++ (p ∷ []))
   unfolding if_then_else_
-  plan-steps = elim (decided (hasEnded (due .after) (made .turn .frame .job))) [
+  plan-steps = elim (test-decided (hasEnded (due .after) (made .turn .frame .job))) [
     | inl ends ↦ (
       due .after,
       suc r,

@@ -1,4 +1,5 @@
--- The next step of a legal plan, read by rows, is an allowed turn: its job is the active job started last, or it may start.
+-- The next step of a legal plan, read by rows, is an allowed turn: its job is the active job started last, or it may
+-- start.
 -- Assumes nothing.
 use mathlib.Core.Path.{_≡_, refl, sym, ap, subst, _∙_}
 use mathlib.Core.Logic.{inl, inr}
@@ -15,7 +16,7 @@ use Rattle.notation.specs.Lists.{all, any, lastOr, if_then_else_}
 use Rattle.notation.specs.Laws.PairLaws.{every-at}
 use Rattle.notation.specs.Ordered.{Every, Ordered}
 use Rattle.notation.specs.Laws.QuantifierLaws.{at-all, any-at, at-any}
-use Rattle.notation.specs.Laws.TestLaws.{both, either, and-holds, or-right, decided, not-both, neither}
+use Rattle.notation.specs.Laws.TestLaws.{and-both, or-either, and-holds, or-right, test-decided, not-both, or-neither}
 use Rattle.timing.specs.declared.Job.{Job}
 use Rattle.timing.specs.Accepted.{Accepted}
 use Rattle.timing.specs.Code.IsAccepted.{IsAccepted}
@@ -25,7 +26,7 @@ use Rattle.timing.specs.Laws.RelationLaws.{preempts-lower}
 use Rattle.timing.specs.Relations.{IsJob, base, before, mayPreempt}
 use Rattle.machine.specs.Instructions.{fresh}
 use Rattle.order.specs.declared.Frame.{Frame}
-use Rattle.order.specs.Code.Invariant.{Over, Running, hasBegun, Invariant}
+use Rattle.order.specs.Code.Invariant.{Over, IsRunning, hasBegun, Invariant}
 use Rattle.order.specs.Orders.{Turn, startOf, turnAmong, turnOf}
 use Rattle.order.specs.States.{State, hasEnded, isActive, presentPriority, mayStart}
 use Rattle.order.specs.Laws.StepLaws.{Startable, start-says}
@@ -34,14 +35,15 @@ use Rattle.plan.specs.Plans.{Legal}
 use Rattle.plan.specs.Runs.{Plan, JobRuns, jobTotal}
 use Rattle.matching.specs.Laws.Cuts.{Cut}
 use Rattle.matching.specs.Laws.Histories.{Mark, Marks, job}
-use Rattle.matching.specs.Laws.LegalLaws.{asked-holds}
+use Rattle.matching.specs.Laws.LegalLaws.{holds-implied}
 use Rattle.notation.specs.Laws.ElementLaws.{Some, none-or-some}
 use Rattle.matching.specs.Laws.PlanReading.{marksOf}
 use Rattle.matching.specs.Laws.PlanRounds.{next-left, starts-here, priority-made, none-above, lies-within, before-done}
 use Rattle.matching.specs.Laws.TurnTraceLaws.{GoesOn, Starts}
 
--- a state that stands where of a run's steps those of `now` are made and those of `rest` are left: the jobs that have begun are those with a
--- step made, those that have ended have none left, and an active job's priority is that after its steps made
+-- a state that stands where of a run's steps those of `now` are made and those of `rest` are left: the jobs that have
+-- begun are those with a step made, those that have ended have none left, and an active job's priority is that after
+-- its steps made
 pub record Stands (a : Accepted) (s : State) (runs : JobRuns) (now : Marks) (rest : ℕ → List Mark) : Type 0 where
   pub begun-some : (y : ℕ) → y < jobTotal a → hasBegun s (job y) ≡ true → getD now y [] ≡ [] → ⊥
   pub some-begun : (y : ℕ) → y < jobTotal a → (getD now y [] ≡ [] → ⊥) → hasBegun s (job y) ≡ true
@@ -67,7 +69,7 @@ may-start a s y h =
     and-holds _ _
     (and-holds _ _
     (and-holds (not (hasEnded s y || isActive s y)) _ (ap not (h .unbegun))
-    (jobs-all a (λ x. not (before a x y) || hasEnded s x) (λ x isX. asked-holds (before a x y) (hasEnded s x) (h .preceded x isX))))
+    (jobs-all a (λ x. not (before a x y) || hasEnded s x) (λ x isX. holds-implied (before a x y) (hasEnded s x) (h .preceded x isX))))
     (h .preempts))
     (h .above)
 
@@ -82,9 +84,9 @@ module _ {a : Accepted} (ok : IsAccepted a) (s : State) (x : Job) (isX : IsJob a
         | no apart ↦
             elim (decLt (y .0) (x .0)) [
               | yes below ↦
-                  absurd (not-both _ (may .preceded y isY (same-task (ok .isTimed) y x below isX same)) (neither (hasEnded s y) _ (other .unbegun) .0))
+                  absurd (not-both _ (may .preceded y isY (same-task (ok .isTimed) y x below isX same)) (or-neither (hasEnded s y) _ (other .unbegun) .0))
               | no above ↦
-                  absurd (not-both _ (other .preceded x isX (same-task (ok .isTimed) x y (omega arith) isY (sym same))) (neither (hasEnded s x) _ (may .unbegun) .0))
+                  absurd (not-both _ (other .preceded x isX (same-task (ok .isTimed) x y (omega arith) isY (sym same))) (or-neither (hasEnded s x) _ (may .unbegun) .0))
             ]
       ]
 
@@ -96,15 +98,15 @@ module _ {a : Accepted} (ok : IsAccepted a) (s : State) (x : Job) (isX : IsJob a
       ap (Option·map _)
       (only-job a (λ y. eqb (base a y) (base a x) && mayStart a s y) x isX
       (and-holds (eqb (base a x) (base a x)) _ (eq-eqb (base a x) (base a x) refl) (may-start a s x may))
-      (λ y isY t. (let tests = both (eqb (base a y) (base a x)) _ t in start-only may y isY (eqb-true _ _ (tests .0)) (tests .1))))
+      (λ y isY t. (let tests = and-both (eqb (base a y) (base a x)) _ t in start-only may y isY (eqb-true _ _ (tests .0)) (tests .1))))
 
   -- no active job is of its task
-  start-among : Startable a s x → (active : List Frame) → all (λ f. mayPreempt a x (f .job)) active ≡ true → Every (Running a s) active
+  start-among : Startable a s x → (active : List Frame) → all (λ f. mayPreempt a x (f .job)) active ≡ true → Every (IsRunning a s) active
       → turnAmong a s (base a x) active ≡ startOf a s (base a x)
   unfolding turnAmong if_then_else_ all
   start-among may [] over runs = refl
   start-among may (f ∷ under) over runs =
-      let lower = preempts-lower (ok .isTimed) x (f .job) (runs .0 .job) (both (mayPreempt a x (f .job)) _ over .0) .0 in
+      let lower = preempts-lower (ok .isTimed) x (f .job) (runs .0 .job) (and-both (mayPreempt a x (f .job)) _ over .0) .0 in
       rw (ne-eqb (base a (f .job)) (base a x) (λ e. omega arith)) refl
 
 -- the active job started last takes a byte of its task
@@ -136,8 +138,8 @@ module _ {a : Accepted} (ok : IsAccepted a) (plan : Plan) {runs : JobRuns} (lega
   unfolding isActive
   is-active k d lt = at-any (λ f. eqb (f .job .0) (at k d .job .0)) (s .active) k d lt (eq-eqb (at k d .job .0) (at k d .job .0) refl)
 
-  runs-at : (k : ℕ) (d : Frame) → k < length (s .active) → Running a s (at k d)
-  runs-at k d lt = every-at (Running a s) (s .active) k d (inv .running) lt
+  runs-at : (k : ℕ) (d : Frame) → k < length (s .active) → IsRunning a s (at k d)
+  runs-at k d lt = every-at (IsRunning a s) (s .active) k d (inv .running) lt
 
   -- no active job is above x in number
   active-low : (k : ℕ) (d : Frame) → k < length (s .active) → x < at k d .job .0 → ⊥
@@ -153,7 +155,7 @@ module _ {a : Accepted} (ok : IsAccepted a) (plan : Plan) {runs : JobRuns} (lega
     x-active : isActive s (job x) ≡ true
     unfolding hasBegun
     x-active =
-        elim (either (hasEnded s (job x)) _ (stands .some-begun x isX some-made)) [
+        elim (or-either (hasEnded s (job x)) _ (stands .some-begun x isX some-made)) [
           | inl ended ↦ absurd (next-left runs cut (stands .ended-none x isX ended))
           | inr active ↦ active
         ]
@@ -163,15 +165,15 @@ module _ {a : Accepted} (ok : IsAccepted a) (plan : Plan) {runs : JobRuns} (lega
     unfolding isActive any job
     first-is f under is =
         let stacked = subst (Ordered (Over a)) is (inv .stacked) in
-        let running = subst (Every (Running a s)) is (inv .running) in
+        let running = subst (Every (IsRunning a s)) is (inv .running) in
         let found = ap (any (λ g. eqb (g .job .0) x)) (sym is) ∙ x-active in
-        elim (either (eqb (f .job .0) x) _ found) [
+        elim (or-either (eqb (f .job .0) x) _ found) [
           | inl here ↦ eqb-true _ _ here
           | inr later ↦
               let place = any-at (λ g. eqb (g .job .0) x) under f later in
               let g = getD under (place .0) f in
               let over = every-at (Over a f) under (place .0) f (stacked .0) (place .1) in
-              let run = every-at (Running a s) under (place .0) f (running .1) (place .1) in
+              let run = every-at (IsRunning a s) under (place .0) f (running .1) (place .1) in
               let lower = preempts-lower (ok .isTimed) (f .job) (g .job) (run .job) (over .preempts) .1 in
               let count = ap length is in
               let first = ap (λ (l : List Frame). getD l 0 f .job .0) is in
@@ -210,7 +212,7 @@ module _ {a : Accepted} (ok : IsAccepted a) (plan : Plan) {runs : JobRuns} (lega
         (within .preempts, omega (arith, within .unlocked, here, stands .priorities k d lt))
 
     unbegun-here : hasBegun s (job x) ≡ false
-    unbegun-here = elim (decided (hasBegun s (job x))) [
+    unbegun-here = elim (test-decided (hasBegun s (job x))) [
       | inl begun ↦ absurd (stands .begun-some x isX begun none-made)
       | inr not-yet ↦ not-yet
     ]

@@ -20,7 +20,7 @@ use Rattle.timing.specs.Relations.{IsJob}
 use Rattle.order.specs.Code.Invariant.{Invariant}
 use Rattle.order.specs.Orders.{Turn, turnOf, run, Complete}
 use Rattle.order.specs.States.{State, initial, hasEnded}
-use Rattle.order.specs.Laws.StepLaws.{good-turn, Step, step-says, step-keeps, initial-invariant}
+use Rattle.order.specs.Laws.StepLaws.{good-turn, AllowedStep, step-says, step-keeps, initial-invariant}
 use Rattle.plan.specs.Legality.{stepsOf}
 use Rattle.plan.specs.Runs as runs
 use Rattle.plan.specs.Runs.{jobTotal}
@@ -135,7 +135,7 @@ module _ (a : Accepted) where
       ∙ ap (λ (l : List Job). length (only (λ y. eqb (y .0) (x .0)) l)) (history-jobs order (initial a) 0)
 
   -- the first step, and the history after it
-  history-first : (s : State) (r byte : ℕ) (bytes : List ℕ) {after : State} → (made : Step a s byte after)
+  history-first : (s : State) (r byte : ℕ) (bytes : List ℕ) {after : State} → (made : AllowedStep a s byte after)
       → let x = made .turn .frame .job in
       notedFrom a s r (byte ∷ bytes)
       ≡ record { job = x; round = record { 0 = r }; value = byte % 16 } ∷ notedFrom a after (roundAfter r after x) bytes
@@ -197,7 +197,7 @@ module _ (a : Accepted) (order : List ℕ) where
 
 -- a byte's step: the bytes before it lead to a state, and it is a step from there
 module _ {a : Accepted} (ok : IsAccepted a) (earlier later : List ℕ) {byte : ℕ} {before after : State}
-    (reached : run a (initial a) earlier ≡ some before) (made : Step a before byte after) where
+    (reached : run a (initial a) earlier ≡ some before) (made : AllowedStep a before byte after) where
   abbrev order : List ℕ
   order = earlier ++ (byte ∷ later)
 

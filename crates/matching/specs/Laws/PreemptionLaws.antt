@@ -1,4 +1,5 @@
--- One step more of an order keeps what `Paired` says of two jobs of which one may preempt the other, and so all that it says.
+-- One step more of an order keeps what `Paired` says of two jobs of which one may preempt the other, and so all that
+-- it says.
 -- Assumes nothing.
 use mathlib.Core.Path.{_≡_, sym, _∙_}
 use mathlib.Core.Logic.{_⊎_, inl, inr}

@@ -1,5 +1,5 @@
--- Laws of the reading by rows: which bytes one step more adds to it, that empty rounds add none, and that the order of a plan's run is the
--- run's steps read by rows.
+-- Laws of the reading by rows: which bytes one step more adds to it, that empty rounds add none, and that the order
+-- of a plan's run is the run's steps read by rows.
 -- Assumes nothing.
 use mathlib.Core.Path.{_≡_, refl, sym, ap, _∙_}
 use mathlib.Core.Logic.{_≢_}
@@ -163,7 +163,8 @@ module _ (a : Accepted) where
   rows-keep n h x m le =
       each-same n (λ r. rowFrom a r 0 (marked h x m)) (λ r. rowFrom a r 0 h) (λ q lt. row-keeps q h x m (λ e. omega arith))
 
-  -- The appending lemma: a step more of job x in the last round that has steps, with no step of a later job in it, is one byte more at the end.
+  -- The appending lemma: a step more of job x in the last round that has steps, with no step of a later job in it, is
+  -- one byte more at the end.
   pub rows-marked : (n : ℕ) (h : Marks) (x r v : ℕ) → x < length h → r < n → ((y : ℕ) → x < y → inRound r (getD h y []) ≡ [])
       → ((y q : ℕ) → r < q → inRound q (getD h y []) ≡ [])
       → rows a n (marked h x (record { round = r; value = v })) ≡ rows a n h ++ ((16 * base a (job x) + v) ∷ [])

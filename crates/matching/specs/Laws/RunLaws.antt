@@ -1,5 +1,5 @@
--- The run of a plan whose bytes pass 40 to 42: every job has steps, whose rounds are those of the plan and do not fall. So the ends of a
--- legal plan's jobs fill the rounds, one each.
+-- The run of a plan whose bytes pass 40 to 42: every job has steps, whose rounds are those of the plan and do not
+-- fall. So the ends of a legal plan's jobs fill the rounds, one each.
 -- Assumes nothing.
 use mathlib.Core.Path.{_≡_, refl, sym, ap, subst, _∙_}
 use Prim.Native.Nat.{ℕ, zero, suc, _+_, _*_, _≤_, _<_}
@@ -16,8 +16,8 @@ use Rattle.notation.specs.Lists.{if_then_else_, firstOr, lastOr}
 use Rattle.notation.specs.Laws.PairLaws.{every-at}
 use Rattle.notation.specs.Ordered.{Every}
 use Rattle.notation.specs.Laws.QuantifierLaws.{map-length}
-use Rattle.notation.specs.Laws.TestLaws.{both}
-use Rattle.taskfile.specs.Laws.TimesLaws.{holds}
+use Rattle.notation.specs.Laws.TestLaws.{and-both}
+use Rattle.taskfile.specs.Laws.TimesLaws.{test-holds}
 use Rattle.timing.specs.declared.Job.{Job}
 use Rattle.timing.specs.Accepted.{Accepted}
 use Rattle.timing.specs.Code.IsAccepted.{Timed}
@@ -29,7 +29,7 @@ use Rattle.machine.specs.Instructions.{fresh}
 use Rattle.plan.specs.declared.Round.{Round}
 use Rattle.plan.specs.Legality.{stepsOf, roundsOf, start, end}
 use Rattle.plan.specs.Plans.{Legal}
-use Rattle.plan.specs.Runs.{Plan, Step, Running, JobRun, JobRuns, jobTotal, firstRound, stepBytes, stepEffect, stepMade, runningAfter, runJob, runJobs, runStart, runPlan}
+use Rattle.plan.specs.Runs.{Plan, Step, RunState, JobRun, JobRuns, jobTotal, firstRound, stepBytes, stepEffect, stepMade, runningAfter, runJob, runJobs, runStart, runPlan}
 use Rattle.notation.specs.Laws.CountLaws.{Distinct, Bounded, countBelow, countBelow-is, every-value}
 use Rattle.matching.specs.Laws.Histories.{job}
 use Rattle.matching.specs.Laws.LegalLaws.{roundOf, Rising, legal-run, ends-tell}
@@ -90,7 +90,7 @@ module _ (a : Accepted) (plan : Plan) where
       let first = then-passed (require (ltb (offset + 1) (length plan)) 40 (length plan)) _ e in
       let test : Bool = ltb (getD plan offset 0) (jobTotal a) && leb (previous .0) (getD plan offset 0) in
       let second = then-passed (require test 42 offset) _ (first .2) in
-      let parts = both (ltb (getD plan offset 0) (jobTotal a)) _ (holds _ (require-passed test 42 offset (second .1))) in
+      let parts = and-both (ltb (getD plan offset 0) (jobTotal a)) _ (test-holds _ (require-passed test 42 offset (second .1))) in
       (leb-true _ _ (parts .1), ltb-true _ _ (parts .0))
 
   -- ---- one job's steps
@@ -101,14 +101,14 @@ module _ (a : Accepted) (plan : Plan) where
     kept : length (run .running .stores) ≡ stores
 
   -- a job's next step, before the steps that follow it
-  abbrev nextStep : Job → Local → Running → Step
+  abbrev nextStep : Job → Local → RunState → Step
   nextStep x local running = stepMade a plan x running (stepEffect a plan x local running)
 
   abbrev stepBefore : Step → JobRun → JobRun
   stepBefore step rest = record { steps = step ∷ rest .steps; running = rest .running }
 
   -- what follows it: nothing after an End
-  abbrev onward : Job → ℕ → Local → Running → Checked ℕ JobRun
+  abbrev onward : Job → ℕ → Local → RunState → Checked ℕ JobRun
   onward x left local running =
       let effect = stepEffect a plan x local running in
       let next = runningAfter plan x running effect in
@@ -117,7 +117,7 @@ module _ (a : Accepted) (plan : Plan) where
       else runJob a plan x left (effect .local) (nextStep x local running .round) next
 
   -- a step that passed, and what followed it
-  record Stepped (x : Job) (left : ℕ) (local : Local) (previous : Round) (running : Running)
+  record Stepped (x : Job) (left : ℕ) (local : Local) (previous : Round) (running : RunState)
       (run : JobRun) : Type 0 where
     above : previous .0 ≤ nextStep x local running .round .0
     below : nextStep x local running .round .0 < jobTotal a
@@ -125,7 +125,7 @@ module _ (a : Accepted) (plan : Plan) where
     follows : onward x left local running ≡ passed rest
     made : run ≡ stepBefore (nextStep x local running) rest
 
-  run-step : (x : Job) (left : ℕ) (local : Local) (previous : Round) (running : Running) {run : JobRun}
+  run-step : (x : Job) (left : ℕ) (local : Local) (previous : Round) (running : RunState) {run : JobRun}
       → runJob a plan x (suc left) local previous running ≡ passed run → Stepped x left local previous running run
   unfolding runJob stepMade
   run-step x left local previous running e =
@@ -141,13 +141,13 @@ module _ (a : Accepted) (plan : Plan) where
       }
 
   -- a step changes one store
-  next-stores : (x : Job) (running : Running) (effect : Effect)
+  next-stores : (x : Job) (running : RunState) (effect : Effect)
       → length (runningAfter plan x running effect .stores) ≡ length (running .stores)
   unfolding runningAfter
   next-stores x running effect = length-set (running .stores) (getD plan (running .offset) 0) (effect .store)
 
   -- nothing more after an End, and the job's further steps otherwise
-  onward-ran : (ended : Bool) (previous : Round) (next : Running) (further : Checked ℕ JobRun) {rest : JobRun}
+  onward-ran : (ended : Bool) (previous : Round) (next : RunState) (further : Checked ℕ JobRun) {rest : JobRun}
       → (further ≡ passed rest → Ran previous (length (next .stores)) rest)
       → (if ended then passed (record { steps = []; running = next }) else further) ≡ passed rest
       → Ran previous (length (next .stores)) rest
@@ -157,7 +157,7 @@ module _ (a : Accepted) (plan : Plan) where
   onward-ran false previous next further later e = later e
 
   -- so a job's rounds climb, and the number of stores stays
-  runs-job : (x : Job) (left : ℕ) (local : Local) (previous : Round) (running : Running) {run : JobRun}
+  runs-job : (x : Job) (left : ℕ) (local : Local) (previous : Round) (running : RunState) {run : JobRun}
       → runJob a plan x left local previous running ≡ passed run → Ran previous (length (running .stores)) run
   unfolding runJob rounds
   runs-job x zero local previous running e =
@@ -173,7 +173,7 @@ module _ (a : Accepted) (plan : Plan) where
       (record { climbs = (found .above, found .below, ran .climbs); kept = ran .kept ∙ next-stores x running effect })
 
   -- and it has a step
-  runs-some : (x : Job) (left : ℕ) (local : Local) (previous : Round) (running : Running) {run : JobRun}
+  runs-some : (x : Job) (left : ℕ) (local : Local) (previous : Round) (running : RunState) {run : JobRun}
       → runJob a plan x (suc left) local previous running ≡ passed run → 0 < length (run .steps)
   runs-some x left local previous running e =
       let count = ap (λ (run : JobRun). length (run .steps)) (run-step x left local previous running e .made) in
@@ -190,7 +190,7 @@ module _ (a : Accepted) (plan : Plan) where
     kept : length (runs .running .stores) ≡ stores
     whole : Every Whole (runs .steps)
 
-  runs-jobs : (xs : List Job) (running : Running) {runs : JobRuns} → runJobs a plan xs running ≡ passed runs
+  runs-jobs : (xs : List Job) (running : RunState) {runs : JobRuns} → runJobs a plan xs running ≡ passed runs
       → AllRan (length xs) (length (running .stores)) runs
   unfolding runJobs
   runs-jobs [] running e =
@@ -268,28 +268,28 @@ module _ (a : Accepted) (plan : Plan) where
 -- ---- a legal plan's ends
 
 -- the round in which job n ends
-abbrev pub endAt : JobRuns → ℕ → ℕ
-endAt runs n = end runs (job n) .0
+abbrev pub endRound : JobRuns → ℕ → ℕ
+endRound runs n = end runs (job n) .0
 
 module _ (a : Accepted) (plan : Plan) {runs : JobRuns} (legal : Legal a plan runs) where
   pub legal-rising : Rising a runs
   legal-rising = run-rising a plan (legal-run a plan legal .0)
 
   -- no job ends after the last round
-  pub ends-bounded : Bounded (endAt runs) (jobTotal a) (jobTotal a)
+  pub ends-bounded : Bounded (endRound runs) (jobTotal a) (jobTotal a)
   unfolding jobTotal job
   ends-bounded x isX = end-below a plan (legal-run a plan legal .0) (job x) isX
 
   module _ (timed : Timed a) where
     -- no two jobs end in one round
-    pub ends-distinct : Distinct (endAt runs) (jobTotal a)
+    pub ends-distinct : Distinct (endRound runs) (jobTotal a)
     unfolding jobTotal job
     ends-distinct x y isX isY e = ends-tell a plan timed legal legal-rising (job x) (job y) isX isY e
 
     -- so r jobs end in the rounds below r
-    pub ends-below : (r : ℕ) → r ≤ jobTotal a → countBelow (endAt runs) r (jobTotal a) ≡ r
-    ends-below r most = countBelow-is (endAt runs) (jobTotal a) ends-distinct ends-bounded r most
+    pub ends-below : (r : ℕ) → r ≤ jobTotal a → countBelow (endRound runs) r (jobTotal a) ≡ r
+    ends-below r most = countBelow-is (endRound runs) (jobTotal a) ends-distinct ends-bounded r most
 
     -- and in each round a job ends
-    pub round-ends : (r : ℕ) → r < jobTotal a → (x : ℕ) × (x < jobTotal a) × (endAt runs x ≡ r)
-    round-ends r lt = every-value (endAt runs) (jobTotal a) ends-distinct ends-bounded r lt
+    pub round-ends : (r : ℕ) → r < jobTotal a → (x : ℕ) × (x < jobTotal a) × (endRound runs x ≡ r)
+    round-ends r lt = every-value (endRound runs) (jobTotal a) ends-distinct ends-bounded r lt

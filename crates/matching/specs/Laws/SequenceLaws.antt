@@ -1,5 +1,5 @@
--- Laws of a history's steps in the order of its rows: their bytes are the reading by rows, and each job's own steps among them, gathered one
--- after the other, are the history again.
+-- Laws of a history's steps in the order of its rows: their bytes are the reading by rows, and each job's own steps
+-- among them, gathered one after the other, are the history again.
 -- Assumes nothing.
 use mathlib.Core.Path.{_≡_, refl, sym, ap, subst, _∙_}
 use mathlib.Core.Logic.{_≢_}
@@ -150,7 +150,8 @@ all-below n p (m ∷ ms) climbs =
     only-in (isBelow n) m ms (lt-ltb (m .round) n (climbs .1))
     ∙ ap (λ (l : List Mark). m ∷ l) (all-below n (m .round) ms (climbs .2))
 
--- the steps below round n + 1 are those below n and then those of round n: where the first is in round n, before it or behind it
+-- the steps below round n + 1 are those below n and then those of round n: where the first is in round n, before it
+-- or behind it
 abbrev Splits : ℕ → List Mark → Type 0
 Splits n ms = only (isBelow (suc n)) ms ≡ only (isBelow n) ms ++ inRound n ms
 

@@ -1,5 +1,5 @@
--- One step more of an order keeps its trace, by the effect of its instruction: within the round while the step's job goes on, and into the
--- next round, whose guess is the store left, when the job has ended.
+-- One step more of an order keeps its trace, by the effect of its instruction: within the round while the step's job
+-- goes on, and into the next round, whose guess is the store left, when the job has ended.
 -- Assumes nothing.
 use mathlib.Core.Path.{_≡_, sym, ap, _∙_}
 use mathlib.Core.Logic.{_⊎_, inl, inr}
@@ -13,7 +13,7 @@ use lib.Dec.{eqb}
 use lib.Seq.{getD-set-same, getD-set-other}
 use borrow.Author.Tests.{eq-eqb}
 use Rattle.notation.specs.Lists.{any}
-use Rattle.notation.specs.Laws.TestLaws.{or-left, or-right, decided, not-both}
+use Rattle.notation.specs.Laws.TestLaws.{or-left, or-right, test-decided, not-both}
 use Rattle.timing.specs.Accepted.{Accepted}
 use Rattle.timing.specs.Code.IsAccepted.{IsAccepted}
 use Rattle.timing.specs.Relations.{base}
@@ -73,7 +73,7 @@ module _ {a : Accepted} (ok : IsAccepted a) {s : State} (inv : Invariant a s) {r
   -- a job that has not begun by then has no step
   not-begun : (y : ℕ) → (y ≡ x → ⊥) → hasBegun after (job y) ≡ false → hasBegun s (job y) ≡ false
   unfolding job
-  not-begun y apart e = elim (decided (hasBegun s (job y))) [
+  not-begun y apart e = elim (test-decided (hasBegun s (job y))) [
     | inl begun ↦ absurd (not-both (hasBegun after (job y)) (begun-stays ok inv good effect (job y) apart begun) e)
     | inr none ↦ none
   ]

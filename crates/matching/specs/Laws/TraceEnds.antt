@@ -1,5 +1,5 @@
--- How a history ends where an order's trace ends with all rounds over: its last store is the state's, and the flags of its failed columns
--- are the state's failed jobs.
+-- How a history ends where an order's trace ends with all rounds over: its last store is the state's, and the flags
+-- of its failed columns are the state's failed jobs.
 -- Assumes nothing.
 use mathlib.Core.Path.{_≡_, refl, sym, ap, _∙_}
 use Prim.Native.Nat.{ℕ, zero, suc, _+_, _≤_, _<_, _/_}

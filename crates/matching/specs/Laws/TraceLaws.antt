@@ -19,7 +19,7 @@ use Rattle.machine.specs.Instructions.{Store, perform}
 use Rattle.order.specs.Code.Invariant.{Invariant}
 use Rattle.order.specs.Orders.{nextOf, step}
 use Rattle.order.specs.States.{State, initial, hasEnded}
-use Rattle.order.specs.Laws.StepLaws.{GoodTurn, no-flag, good-turn, afterEffect, Step, step-says}
+use Rattle.order.specs.Laws.StepLaws.{GoodTurn, no-flag, good-turn, afterEffect, AllowedStep, step-says}
 use Rattle.plan.specs.Runs.{jobTotal}
 use Rattle.matching.specs.Laws.ColumnLaws.{columns-none}
 use Rattle.matching.specs.Laws.EndedLaws.{ended-none}
@@ -71,7 +71,7 @@ byte-parts : (byte task : ℕ) → task ≡ byte / 16 → 16 * task + byte % 16 
 byte-parts byte task e = omega arith
 
 module _ {a : Accepted} (ok : IsAccepted a) {s : State} (inv : Invariant a s) {r : ℕ} {guesses : List Store} {h : Marks} {done : List ℕ}
-    (t : Traced a s r guesses h done) {byte : ℕ} {after : State} (made : Step a s byte after) where
+    (t : Traced a s r guesses h done) {byte : ℕ} {after : State} (made : AllowedStep a s byte after) where
   abbrev pub stepJob : Job
   stepJob = made .turn .frame .job
 

@@ -8,7 +8,7 @@ use mathlib.Core.Bool.{false}
 use mathlib.Core.List.{List, [], _∷_, _++_}
 use mathlib.Core.Option.{some, bind, bind-eq-some-iff}
 use Rattle.notation.specs.Lists.{if_then_else_}
-use Rattle.notation.specs.Laws.TestLaws.{decided}
+use Rattle.notation.specs.Laws.TestLaws.{test-decided}
 use Rattle.timing.specs.declared.Job.{Job}
 use Rattle.timing.specs.Accepted.{Accepted}
 use Rattle.timing.specs.Code.IsAccepted.{IsAccepted}
@@ -16,7 +16,7 @@ use Rattle.machine.specs.Instructions.{perform}
 use Rattle.order.specs.Code.Invariant.{Invariant}
 use Rattle.order.specs.Orders.{nextOf, step, run}
 use Rattle.order.specs.States.{State, hasEnded}
-use Rattle.order.specs.Laws.StepLaws.{GoodTurn, good-turn, ended-other, Step, step-says, step-keeps}
+use Rattle.order.specs.Laws.StepLaws.{GoodTurn, good-turn, ended-other, AllowedStep, step-says, step-keeps}
 use Rattle.matching.specs.Laws.EndedLaws.{ended-same, ended-more}
 use Rattle.matching.specs.Laws.Histories.{job}
 use Rattle.matching.specs.PlannedSteps.{endedCount}
@@ -68,7 +68,7 @@ more-invariant ok bytes inv ran byte e =
 unfoldable pub roundAfter : ℕ → State → Job → ℕ
 roundAfter r after x = if hasEnded after x then suc r else r
 
-module _ {a : Accepted} (ok : IsAccepted a) {s : State} (inv : Invariant a s) {byte : ℕ} {after : State} (made : Step a s byte after) where
+module _ {a : Accepted} (ok : IsAccepted a) {s : State} (inv : Invariant a s) {byte : ℕ} {after : State} (made : AllowedStep a s byte after) where
   abbrev x : Job
   x = made .turn .frame .job
 
@@ -95,7 +95,7 @@ module _ {a : Accepted} (ok : IsAccepted a) {s : State} (inv : Invariant a s) {b
   pub round-kept : roundAfter (endedCount a s) after x ≡ endedCount a after
   unfolding roundAfter if_then_else_
   round-kept =
-      elim (decided (hasEnded after x)) [
+      elim (test-decided (hasEnded after x)) [
         | inl ended ↦ rw ended (sym (ended-more a s after x (good .running .job) (good .running .unended) ended (λ y isJob apart. others-same y apart)))
         | inr goes ↦ rw goes (sym (ended-same a s after (λ y isJob. all-same goes y)))
       ]
@@ -103,7 +103,7 @@ module _ {a : Accepted} (ok : IsAccepted a) {s : State} (inv : Invariant a s) {b
 -- ---- the trace
 
 -- the trace after the first step
-pub trace-first : (a : Accepted) (s : State) (r : ℕ) (t : Trace) (byte : ℕ) (bytes : List ℕ) {after : State} → (made : Step a s byte after)
+pub trace-first : (a : Accepted) (s : State) (r : ℕ) (t : Trace) (byte : ℕ) (bytes : List ℕ) {after : State} → (made : AllowedStep a s byte after)
     → let x = made .turn .frame .job in
     traceFrom a s r t (byte ∷ bytes)
     ≡ traceFrom a after (roundAfter r after x) (traced r (x .0) (byte % 16) (hasEnded after x) (after .store) t) bytes

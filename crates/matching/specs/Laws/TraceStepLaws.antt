@@ -1,5 +1,5 @@
--- Laws of an order's trace: it holds the steps and the stores of the order's history, each in its place, so the plan that the
--- order is written as is the one with the trace's guesses and marks.
+-- Laws of an order's trace: it holds the steps and the stores of the order's history, each in its place, so the plan
+-- that the order is written as is the one with the trace's guesses and marks.
 -- Assumes nothing.
 use mathlib.Core.Path.{_≡_, refl, sym, ap, _∙_}
 use mathlib.Core.Logic.{_≢_}
@@ -25,7 +25,7 @@ use Rattle.plan.specs.Runs.{jobTotal}
 use Rattle.matching.specs.Conversions.{OrderStep, OrderRounds, noting, roundsFrom, jobBytes, planOf}
 use Rattle.matching.specs.Laws.Histories.{Mark, Marks, job, marked}
 use Rattle.matching.specs.Laws.PlanReading.{marksBytes, written}
-use Rattle.matching.specs.Laws.PlanReadingLaws.{numbered}
+use Rattle.matching.specs.Laws.PlanReadingLaws.{numbers-from}
 use Rattle.matching.specs.Laws.TraceSteps.{Trace, noted, traced, traceFrom, firstGuess, startTrace, traceOf}
 
 -- ---- lists
@@ -219,7 +219,7 @@ module _ (a : Accepted) (order : List ℕ) where
   jobs-written =
       let steps : List OrderStep = roundsFrom a (initial a) 0 order .steps in
       let marks : Marks = traceOf a order .marks in
-      ap (λ (xs : List Job). each xs (jobBytes steps)) (numbered a (length marks) marks-whole)
+      ap (λ (xs : List Job). each xs (jobBytes steps)) (numbers-from a (length marks) marks-whole)
       ∙ each-map job (from 0 (length marks)) (jobBytes steps)
       ∙ each-numbered 0 marks [] marksBytes (λ x. jobBytes steps (job x)) (λ k lt. rw (place k)
       (bytes-noted steps k ∙ ap marksBytes (sym (marks-noted k (omega (arith, marks-whole))))))

@@ -1,5 +1,6 @@
--- The guesses and the marks that an order makes, step by step: a step adds its mark to its job's, and a step that is an End also
--- sets the guess of the next round to the store that it leaves. They are the parts of the plan that the order is written as.
+-- The guesses and the marks that an order makes, step by step: a step adds its mark to its job's, and a step that is
+-- an End also sets the guess of the next round to the store that it leaves. They are the parts of the plan that the
+-- order is written as.
 -- Assumes nothing.
 use Prim.Native.Nat.{ℕ, zero, suc, _/_, _%_}
 use mathlib.Core.Bool.{Bool}

@@ -1,5 +1,6 @@
--- An order so far, beside the history that it makes: what holds of both after each step. The history's reading by rows is the order; its
--- reading by columns gives each active job's own state, which jobs have ended and failed, and the stores that the rounds left.
+-- An order so far, beside the history that it makes: what holds of both after each step. The history's reading by
+-- rows is the order; its reading by columns gives each active job's own state, which jobs have ended and failed, and
+-- the stores that the rounds left.
 -- Assumes nothing.
 use mathlib.Core.Path.{_≡_}
 use Prim.Native.Nat.{ℕ, suc, _+_, _<_}

@@ -1,5 +1,5 @@
--- What the turn of a byte is to the active jobs: the one started last, or a fresh start over them all; and the active jobs other than the
--- turn's have lower numbers. A step is what the turn's instruction does.
+-- What the turn of a byte is to the active jobs: the one started last, or a fresh start over them all; and the active
+-- jobs other than the turn's have lower numbers. A step is what the turn's instruction does.
 -- Assumes nothing.
 use mathlib.Core.Path.{_≡_, refl, sym, ap, subst, _∙_}
 use mathlib.Core.Logic.{_⊎_, inl, inr}
@@ -13,7 +13,7 @@ use lib.ListN.{getD}
 use borrow.Author.Tests.{eqb-true}
 use Rattle.notation.specs.Lists.{if_then_else_, any, firstWith}
 use Rattle.notation.specs.Ordered.{Every}
-use Rattle.notation.specs.Laws.TestLaws.{both, either}
+use Rattle.notation.specs.Laws.TestLaws.{and-both, or-either}
 use Rattle.timing.specs.declared.Job.{Job}
 use Rattle.timing.specs.Accepted.{Accepted}
 use Rattle.timing.specs.Code.IsAccepted.{IsAccepted}
@@ -22,10 +22,10 @@ use Rattle.timing.specs.Laws.RelationLaws.{preempts-lower}
 use Rattle.timing.specs.Relations.{base, jobNumbers}
 use Rattle.machine.specs.Instructions.{fresh, perform}
 use Rattle.order.specs.declared.Frame.{Frame}
-use Rattle.order.specs.Code.Invariant.{Over, Running, hasBegun}
+use Rattle.order.specs.Code.Invariant.{Over, IsRunning, hasBegun}
 use Rattle.order.specs.Orders.{Turn, startOf, turnAmong, turnOf, nextOf}
 use Rattle.order.specs.States.{State, isActive, mayStart}
-use Rattle.order.specs.Laws.StepLaws.{GoodTurn, start-says, map-some, Step, afterEffect, performed-is, flag-other}
+use Rattle.order.specs.Laws.StepLaws.{GoodTurn, start-says, map-some, AllowedStep, afterEffect, performed-is, flag-other}
 
 -- the turn of the active job started last
 abbrev pub GoesOn : State → Turn → Type 0
@@ -43,7 +43,7 @@ module _ (a : Accepted) (s : State) (i : ℕ) where
   start-kind {turn} e =
       let found = map-some _ (firstWith (λ y. eqb (base a y) i && mayStart a s y) (jobNumbers a)) e in
       let job = first-job a (λ y. eqb (base a y) i && mayStart a s y) (found .1) in
-      let start = start-says a s (found .0) (both (eqb (base a (found .0)) i) _ (job .1) .1) in
+      let start = start-says a s (found .0) (and-both (eqb (base a (found .0)) i) _ (job .1) .1) in
       subst (Starts s) (found .2) (record { unbegun = start .unbegun; isFresh = refl; all = refl })
 
   among-kind : (active : List Frame) → s .active ≡ active → {turn : Turn} → turnAmong a s i active ≡ some turn → GoesOn s turn ⊎ Starts s turn
@@ -67,14 +67,14 @@ module _ (a : Accepted) (s : State) (i : ℕ) where
 found-lower : (y n : ℕ) (fs : List Frame) → Every (λ f. f .job .0 < n) fs → any (λ f. eqb (f .job .0) y) fs ≡ true → y < n
 unfolding any
 found-lower y n [] lower h = absurd (false≢true h)
-found-lower y n (f ∷ fs) lower h = elim (either (eqb (f .job .0) y) _ h) [
+found-lower y n (f ∷ fs) lower h = elim (or-either (eqb (f .job .0) y) _ h) [
   | inl here ↦ omega (arith, lower .0, eqb-true (f .job .0) y here)
   | inr later ↦ found-lower y n fs (lower .1) later
 ]
 
 module _ {a : Accepted} (ok : IsAccepted a) {s : State} {turn : Turn} (good : GoodTurn a s turn) where
   -- those under the turn's job have lower numbers
-  lower-all : (fs : List Frame) → Every (Running a s) fs → Every (Over a (turn .frame)) fs → Every (λ f. f .job .0 < turn .frame .job .0) fs
+  lower-all : (fs : List Frame) → Every (IsRunning a s) fs → Every (Over a (turn .frame)) fs → Every (λ f. f .job .0 < turn .frame .job .0) fs
   lower-all [] running over = tt
   lower-all (f ∷ fs) running over =
       (preempts-lower (ok .isTimed) (turn .frame .job) (f .job) (running .0 .job) (over .0 .preempts) .1, lower-all fs (running .1) (over .1))
@@ -88,7 +88,7 @@ module _ {a : Accepted} (ok : IsAccepted a) {s : State} {turn : Turn} (good : Go
 
 -- ---- a step by its turn
 
-module _ {a : Accepted} {s : State} {byte : ℕ} {after : State} (made : Step a s byte after) where
+module _ {a : Accepted} {s : State} {byte : ℕ} {after : State} (made : AllowedStep a s byte after) where
   -- the step is what its instruction does to the state
   pub step-after : afterEffect s (made .turn) (perform (nextOf a (made .turn .frame)) (byte % 16) (made .turn .frame .local) (s .store)) ≡ after
   step-after = sym (performed-is a s (byte % 16) (made .turn)) ∙ made .made

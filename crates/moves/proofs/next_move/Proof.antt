@@ -1,5 +1,5 @@
--- `moves::next_move` meets its contract. The loop's invariant: no byte from `byte` up to `at` is a step. The measure is the number of
--- bytes left.
+-- `moves::next_move` meets its contract. The loop's invariant: no byte from `byte` up to `at` is a step. The measure
+-- is the number of bytes left.
 -- Assumes nothing.
 use mathlib.Core.Path.{refl, sym, _∙_}
 use mathlib.Core.Logic.{inl, inr}

@@ -1,5 +1,5 @@
--- Laws of a task's turn: where the quick test whether it may have come fails, it has not, nor has that of a task below that of the active job
--- started last.
+-- Laws of a task's turn: where the quick test whether it may have come fails, it has not, nor has that of a task
+-- below that of the active job started last.
 -- Assumes nothing.
 use mathlib.Core.Path.{_≡_, refl, sym, ap, _∙_}
 use mathlib.Core.Logic.{_⊎_, inl, inr}
@@ -14,7 +14,7 @@ use borrow.Author.Tests.{ltb-true, eqb-true, eq-eqb, ne-eqb}
 use Rattle.taskfile.specs.declared.Ceilings.{Ceilings}
 use Rattle.notation.specs.Lists.{if_then_else_, all}
 use Rattle.notation.specs.Laws.QuantifierLaws.{all-at}
-use Rattle.notation.specs.Laws.TestLaws.{both, or-left, or-right, or-second, decided, not-both}
+use Rattle.notation.specs.Laws.TestLaws.{and-both, or-left, or-right, or-second, test-decided, not-both}
 use Rattle.snapshots.specs.Code.Snapshots.{Snapshot}
 use Rattle.snapshots.specs.Code.SnapshotSteps.{ownerIn, arrivalIn, latestIn, preemptsIn, ownedBy, waits, goesOver, stackOf, nobody, startsIn, startIn, beyond, topOf, runsIn, turnIn}
 use Rattle.moves.specs.Code.MoveParts.{topJob, maybeDue}
@@ -45,8 +45,8 @@ module _ (program times : List ℕ) (locks : Ceilings) (p : Snapshot) (i : ℕ) 
   runs-owned : runsIn program p i ≡ true → ownedBy program i (topJob p) ≡ true
   unfolding runsIn
   runs-owned h =
-      let parts = both (ltb i 8 && ltb 0 (p .depth)) _ h in
-      let deep = ltb-true 0 (p .depth) (both (ltb i 8) _ (parts .0) .1) in
+      let parts = and-both (ltb i 8 && ltb 0 (p .depth)) _ h in
+      let deep = ltb-true 0 (p .depth) (and-both (ltb i 8) _ (parts .0) .1) in
       ap (ownedBy program i) (sym (top-some p (λ e. omega arith))) ∙ parts .1
 
   -- or the first job of task i not yet begun is one of it, and goes over every active job
@@ -55,17 +55,17 @@ module _ (program times : List ℕ) (locks : Ceilings) (p : Snapshot) (i : ℕ) 
   unfolding startsIn
   starts-owned h =
       let y = getD (p .upcoming) i 0 in
-      let e4 = both (ltb i 8 && ltb (p .depth) 8 && ownedBy program i y && not (waits program times (p .upcoming) y)) _ h in
-      let e3 = both (ltb i 8 && ltb (p .depth) 8 && ownedBy program i y) _ (e4 .0) in
-      (both (ltb i 8 && ltb (p .depth) 8) _ (e3 .0) .1, e4 .1)
+      let e4 = and-both (ltb i 8 && ltb (p .depth) 8 && ownedBy program i y && not (waits program times (p .upcoming) y)) _ h in
+      let e3 = and-both (ltb i 8 && ltb (p .depth) 8 && ownedBy program i y) _ (e4 .0) in
+      (and-both (ltb i 8 && ltb (p .depth) 8) _ (e3 .0) .1, e4 .1)
 
   -- a turn that is due is one or the other
   turn-cases : turnIn program times locks p i .due ≡ true → (runsIn program p i ≡ true) ⊎ (startsIn program times locks p i ≡ true)
   unfolding turnIn startIn if_then_else_ nobody
   turn-cases h =
-      elim (decided (runsIn program p i)) [
+      elim (test-decided (runsIn program p i)) [
         | inl runs ↦ inl runs
-        | inr other ↦ elim (decided (startsIn program times locks p i)) [
+        | inr other ↦ elim (test-decided (startsIn program times locks p i)) [
           | inl starts ↦ inr starts
           | inr none-starts ↦ absurd (let nothing : nobody .due ≡ true = rw (other, none-starts) at h in true≢false (sym nothing))
         ]
@@ -83,7 +83,7 @@ module _ (program times : List ℕ) (locks : Ceilings) (p : Snapshot) (i : ℕ) 
   -- and where that fails, nobody's turn has come
   pub not-due : {top : ℕ} {b : Bool} → top ≡ topJob p → b ≡ maybeDue program (p .upcoming) top i → b ≡ false → turnIn program times locks p i .due ≡ false
   not-due {top} is e fails =
-      elim (decided (turnIn program times locks p i .due)) [
+      elim (test-decided (turnIn program times locks p i .due)) [
         | inl due ↦ absurd (not-both _ (turn-maybe due) (sym (e ∙ ap (λ (x : ℕ). maybeDue program (p .upcoming) x i) is) ∙ fails))
         | inr idle ↦ idle
       ]
@@ -92,7 +92,7 @@ module _ (program times : List ℕ) (locks : Ceilings) (p : Snapshot) (i : ℕ) 
 
   owner-says : (y : ℕ) → ownedBy program i y ≡ true → ownerIn program y ≡ i
   unfolding ownedBy
-  owner-says y h = eqb-true _ _ (both (ltb y 32) _ h .1)
+  owner-says y h = eqb-true _ _ (and-both (ltb y 32) _ h .1)
 
   -- what goes over every active job goes over the one started last
   over-top : (y : ℕ) → all (goesOver program times locks y) (stackOf p) ≡ true → (p .depth ≡ 0 → ⊥) → goesOver program times locks y (topOf p) ≡ true
@@ -107,10 +107,10 @@ module _ (program times : List ℕ) (locks : Ceilings) (p : Snapshot) (i : ℕ) 
   unfolding goesOver preemptsIn
   over-higher y h =
       let x = topOf p .job .0 in
-      let e2 = both (ltb x 32 && (ltb (ownerIn program x) (ownerIn program y) && ltb (arrivalIn times x) (arrivalIn times y) && ltb (arrivalIn times y) (latestIn times x))) _ h in
-      let e1 = both (ltb x 32) _ (e2 .0) in
-      let e0 = both (ltb (ownerIn program x) (ownerIn program y) && ltb (arrivalIn times x) (arrivalIn times y)) _ (e1 .1) in
-      ltb-true _ _ (both (ltb (ownerIn program x) (ownerIn program y)) _ (e0 .0) .0)
+      let e2 = and-both (ltb x 32 && (ltb (ownerIn program x) (ownerIn program y) && ltb (arrivalIn times x) (arrivalIn times y) && ltb (arrivalIn times y) (latestIn times x))) _ h in
+      let e1 = and-both (ltb x 32) _ (e2 .0) in
+      let e0 = and-both (ltb (ownerIn program x) (ownerIn program y) && ltb (arrivalIn times x) (arrivalIn times y)) _ (e1 .1) in
+      ltb-true _ _ (and-both (ltb (ownerIn program x) (ownerIn program y)) _ (e0 .0) .0)
 
   starts-high : startsIn program times locks p i ≡ true → (p .depth ≡ 0 → ⊥) → ownerIn program (topJob p) ≤ i
   starts-high starts deep =
@@ -131,7 +131,7 @@ module _ (program times : List ℕ) (locks : Ceilings) (p : Snapshot) (i : ℕ) 
 
   pub low-due : {top : ℕ} → top ≡ topJob p → top < 32 → i < ownerIn program top → turnIn program times locks p i .due ≡ false
   low-due is active low =
-      elim (decided (turnIn program times locks p i .due)) [
+      elim (test-decided (turnIn program times locks p i .due)) [
         | inl due ↦
             let high = turn-high due (omega arith) in
             let same = ap (ownerIn program) is in

@@ -11,7 +11,7 @@ use lib.ListN.{length}
 use borrow.Author.Tests.{ltb-true, lt-ltb, le-ltb}
 use Rattle.taskfile.specs.declared.Ceilings.{Ceilings}
 use Rattle.notation.specs.Lists.{if_then_else_}
-use Rattle.notation.specs.Laws.TestLaws.{both, decided}
+use Rattle.notation.specs.Laws.TestLaws.{and-both, test-decided}
 use Rattle.snapshots.specs.Code.Snapshots.{Snapshot, Stepped}
 use Rattle.snapshots.specs.Code.SnapshotSteps.{ownerIn, stepIn}
 use Rattle.snapshots.specs.Laws.TurnLaws.{step-none}
@@ -55,11 +55,11 @@ module _ (program times : List ℕ) (locks : Ceilings) (p : Snapshot) (le : p .d
   unfolding firstByte if_then_else_
   first-passed byte {at} from small =
       let owner = ownerIn program top in
-      elim (decided (ltb top 32 && ltb owner 8 && ltb byte (16 * owner))) [
+      elim (test-decided (ltb top 32 && ltb owner 8 && ltb byte (16 * owner))) [
         | inl e ↦
-            let parts = both (ltb top 32 && ltb owner 8) _ e in
-            let active = ltb-true top 32 (both (ltb top 32) _ (parts .0) .0) in
-            let near = ltb-true owner 8 (both (ltb top 32) _ (parts .0) .1) in
+            let parts = and-both (ltb top 32 && ltb owner 8) _ e in
+            let active = ltb-true top 32 (and-both (ltb top 32) _ (parts .0) .0) in
+            let near = ltb-true owner 8 (and-both (ltb top 32) _ (parts .0) .1) in
             let low = ltb-true byte (16 * owner) (parts .1) in
             let raised : at ≡ 16 * owner = rw e at from in
             subst (Passed byte) (sym raised) (omega arith, omega arith, λ k least most. low-idle k active (omega arith))

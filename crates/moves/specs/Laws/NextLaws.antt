@@ -1,5 +1,5 @@
--- Laws of the next move: after a byte that is no step, which bytes of its task are none either, and after a step, where the next may be.
--- And what the walk comes to at a complete order.
+-- Laws of the next move: after a byte that is no step, which bytes of its task are none either, and after a step,
+-- where the next may be. And what the walk comes to at a complete order.
 -- Assumes nothing.
 use mathlib.Core.Path.{_≡_, refl, sym, ap, subst, _∙_}
 use mathlib.Core.Logic.{inl, inr}
@@ -13,7 +13,7 @@ use borrow.Author.Tests.{ltb-false, leb-false, eqb-false, eq-eqb, ne-eqb, lt-ltb
 use Rattle.taskfile.specs.declared.Ceilings.{Ceilings}
 use Rattle.taskfile.specs.declared.Instruction.{Instruction}
 use Rattle.notation.specs.Lists.{if_then_else_, member}
-use Rattle.notation.specs.Laws.TestLaws.{and-holds, and-first, and-last, other-fails, decided}
+use Rattle.notation.specs.Laws.TestLaws.{and-holds, and-first, and-last, other-fails, test-decided}
 use Rattle.machine.specs.Instructions.{values}
 use Rattle.machine.specs.Laws.ValueLaws.{pick-offers, zero-offered}
 use Rattle.snapshots.specs.declared.Due.{Due}
@@ -52,7 +52,7 @@ module _ (program : List ℕ) (f : Frame) (i : ℕ) where
   unfolding offeredIn
   none-offered v w le h =
       let o = instructionIn program i (f .local .next) in
-      elim (decided (ltb (f .local .next) 16)) [
+      elim (test-decided (ltb (f .local .next) 16)) [
         | inl inside ↦ and-last (ltb (f .local .next) 16) _ (none-above o v w le (other-fails (ltb (f .local .next) 16) _ h inside))
         | inr past ↦ and-first (ltb (f .local .next) 16) _ past
       ]
@@ -119,7 +119,7 @@ unfolding if_then_else_
 after-onward program f byte small =
     let o = instructionIn program (byte / 16) (f .local .next) in
     let front = eqb (o .operation) 8 && ltb (byte % 16) (o .b) in
-    elim (decided (front && ltb (byte % 16) 15)) [
+    elim (test-decided (front && ltb (byte % 16) 15)) [
       | inl e ↦
           subst (Onward o byte) (after-test program f byte refl true e) (omega arith, omega arith, λ k low high. absurd (omega arith))
       | inr e ↦
@@ -128,7 +128,7 @@ after-onward program f byte small =
             omega arith,
             λ k low high. (
               omega arith,
-              elim (decided front) [
+              elim (test-decided front) [
                 | inl holds ↦ let last = ltb-false (byte % 16) 15 (other-fails front _ e holds) in absurd (omega arith)
                 | inr fails ↦ past-last o (byte % 16) (k % 16) (omega arith) fails
               ],

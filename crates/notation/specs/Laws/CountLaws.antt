@@ -1,5 +1,6 @@
--- Counting the values of a function on the numbers below k. Where they are below k and no two are the same, each number below k is
--- one of them, and r of them are below r. And counting the elements of a list of which a test holds.
+-- Counting the values of a function on the numbers below k. Where they are below k and no two are the same, each
+-- number below k is one of them, and r of them are below r. And counting the elements of a list of which a test
+-- holds.
 -- Assumes nothing.
 use mathlib.Core.Path.{_≡_, refl, sym, ap, _∙_}
 use mathlib.Core.Logic.{inl, inr}
@@ -12,7 +13,7 @@ use lib.ListN.{length, getD}
 use lib.Dec.{ltb, eqb}
 use borrow.Author.Tests.{eqb-true, lt-ltb, le-ltb, eq-eqb, ne-eqb}
 use Rattle.notation.specs.Lists.{if_then_else_, only}
-use Rattle.notation.specs.Laws.TestLaws.{decided}
+use Rattle.notation.specs.Laws.TestLaws.{test-decided}
 
 -- one more where the test holds
 unfoldable pub counted : Bool → ℕ → ℕ
@@ -78,7 +79,7 @@ pub countAt-once : (f : ℕ → ℕ) (r k : ℕ) → Distinct f k → countAt f 
 unfolding countAt
 countAt-once f r zero distinct = omega arith
 countAt-once f r (suc k) distinct =
-    elim (decided (eqb (f k) r)) [
+    elim (test-decided (eqb (f k) r)) [
       | inl e ↦
           let none = countAt-none f r k (λ x lt same. omega (arith, distinct x k (omega arith) (omega arith) (same ∙ sym (eqb-true _ _ e)))) in
           omega (arith, counted-in _ (countAt f r k) e, none)
@@ -92,7 +93,7 @@ pub countAt-some : (f : ℕ → ℕ) (r k : ℕ) → 0 < countAt f r k → (x : 
 unfolding countAt
 countAt-some f r zero h = absurd (omega arith)
 countAt-some f r (suc k) h =
-    elim (decided (eqb (f k) r)) [
+    elim (test-decided (eqb (f k) r)) [
       | inl e ↦ (k, omega arith, eqb-true _ _ e)
       | inr e ↦
           let found = countAt-some f r k (omega (arith, counted-out _ (countAt f r k) e)) in

@@ -1,5 +1,5 @@
--- Laws of lists beside those of the task file's: the first and the last element, one element more at the end, the elements of which a
--- test holds, and parts listed by number.
+-- Laws of lists beside those of the task file's: the first and the last element, one element more at the end, the
+-- elements of which a test holds, and parts listed by number.
 -- Assumes nothing.
 use mathlib.Core.Path.{_≡_, refl, sym, ap, _∙_}
 use mathlib.Core.Logic.{_⊎_, inl, inr}

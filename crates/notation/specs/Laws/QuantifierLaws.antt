@@ -9,15 +9,15 @@ use mathlib.Core.List.{List, [], _∷_, map}
 use mathlib.Core.Option.{Option, none, some}
 use lib.ListN.{length, getD}
 use Rattle.notation.specs.Lists.{if_then_else_, all, any, firstWith}
-use Rattle.notation.specs.Laws.TestLaws.{both, either, and-holds, or-left, or-right, neither}
+use Rattle.notation.specs.Laws.TestLaws.{and-both, or-either, and-holds, or-left, or-right, or-neither}
 
 module _ {A : Type 0} (test : A → Bool) where
   -- a test that holds of all holds at each index, and the other way round
   pub all-at : (xs : List A) (k : ℕ) (d : A) → all test xs ≡ true → k < length xs → test (getD xs k d) ≡ true
   unfolding all
   all-at [] k d h lt = absurd (omega arith)
-  all-at (x ∷ xs) zero d h lt = both (test x) _ h .0
-  all-at (x ∷ xs) (suc k) d h lt = all-at xs k d (both (test x) _ h .1) (omega arith)
+  all-at (x ∷ xs) zero d h lt = and-both (test x) _ h .0
+  all-at (x ∷ xs) (suc k) d h lt = all-at xs k d (and-both (test x) _ h .1) (omega arith)
 
   pub at-all : (xs : List A) (d : A) → ((k : ℕ) → k < length xs → test (getD xs k d) ≡ true) → all test xs ≡ true
   unfolding all
@@ -28,7 +28,7 @@ module _ {A : Type 0} (test : A → Bool) where
   pub any-at : (xs : List A) (d : A) → any test xs ≡ true → (k : ℕ) × (k < length xs) × (test (getD xs k d) ≡ true)
   unfolding any
   any-at [] d h = absurd (true≢false (sym h))
-  any-at (x ∷ xs) d h = elim (either (test x) _ h) [
+  any-at (x ∷ xs) d h = elim (or-either (test x) _ h) [
     | inl e ↦ (0, omega arith, e)
     | inr e ↦ let found = any-at xs d e in (suc (found .0), omega (arith, found .1), found .2)
   ]
@@ -43,8 +43,8 @@ module _ {A : Type 0} (test : A → Bool) where
   pub none-at : (xs : List A) (k : ℕ) (d : A) → any test xs ≡ false → k < length xs → test (getD xs k d) ≡ false
   unfolding any
   none-at [] k d h lt = absurd (omega arith)
-  none-at (x ∷ xs) zero d h lt = neither (test x) _ h .0
-  none-at (x ∷ xs) (suc k) d h lt = none-at xs k d (neither (test x) _ h .1) (omega arith)
+  none-at (x ∷ xs) zero d h lt = or-neither (test x) _ h .0
+  none-at (x ∷ xs) (suc k) d h lt = none-at xs k d (or-neither (test x) _ h .1) (omega arith)
 
   pub at-none : (xs : List A) (d : A) → ((k : ℕ) → k < length xs → test (getD xs k d) ≡ false) → any test xs ≡ false
   unfolding any

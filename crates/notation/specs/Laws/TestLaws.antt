@@ -4,17 +4,17 @@ use mathlib.Core.Path.{_≡_, refl}
 use mathlib.Core.Logic.{_⊎_, inl, inr}
 use mathlib.Core.Bool.{Bool, true, false, not, _&&_, _||_, true≢false, false≢true}
 
-pub both : (p q : Bool) → (p && q) ≡ true → (p ≡ true) × (q ≡ true)
-both true q h = (refl, h)
-both false q h = absurd (false≢true h)
+pub and-both : (p q : Bool) → (p && q) ≡ true → (p ≡ true) × (q ≡ true)
+and-both true q h = (refl, h)
+and-both false q h = absurd (false≢true h)
 
 pub and-holds : (p q : Bool) → p ≡ true → q ≡ true → (p && q) ≡ true
 and-holds true q h k = k
 and-holds false q h k = h
 
-pub either : (p q : Bool) → (p || q) ≡ true → (p ≡ true) ⊎ (q ≡ true)
-either true q h = inl refl
-either false q h = inr h
+pub or-either : (p q : Bool) → (p || q) ≡ true → (p ≡ true) ⊎ (q ≡ true)
+or-either true q h = inl refl
+or-either false q h = inr h
 
 pub or-left : (p q : Bool) → p ≡ true → (p || q) ≡ true
 or-left true q h = refl
@@ -25,18 +25,18 @@ or-right true q h = refl
 or-right false q h = h
 
 -- a test holds or it does not
-pub decided : (p : Bool) → (p ≡ true) ⊎ (p ≡ false)
-decided true = inl refl
-decided false = inr refl
+pub test-decided : (p : Bool) → (p ≡ true) ⊎ (p ≡ false)
+test-decided true = inl refl
+test-decided false = inr refl
 
 pub not-both : (p : Bool) → p ≡ true → p ≡ false → ⊥
 not-both true h k = true≢false k
 not-both false h k = false≢true h
 
 -- where neither of two tests joined by `||` holds
-pub neither : (p q : Bool) → (p || q) ≡ false → (p ≡ false) × (q ≡ false)
-neither true q h = absurd (true≢false h)
-neither false q h = (refl, h)
+pub or-neither : (p q : Bool) → (p || q) ≡ false → (p ≡ false) × (q ≡ false)
+or-neither true q h = absurd (true≢false h)
+or-neither false q h = (refl, h)
 
 -- where one of two tests joined by `&&` holds and not both, the other does not
 pub other-fails : (p q : Bool) → (p && q) ≡ false → p ≡ true → q ≡ false

@@ -1,7 +1,8 @@
--- `operations::end_job` meets its contract: the position moved on and the locks left out, in either order, are one state.
+-- `operations::end_job` meets its contract: the position moved on and the locks left out, in either order, are one
+-- state.
 -- Assumes nothing.
 use borrow.Author.Needs.{needs}
-use Rattle.machine.specs.Instructions.{end, skipping, withHeld}
+use Rattle.machine.specs.Instructions.{endJob, skipping, withHeld}
 use Rattle.operations.proofs.end_job.Statement.{statement}
 use Rattle.operations.proofs.end_job.Tie as tie
 
@@ -15,7 +16,7 @@ with-held-requires : tie.Need-with-held-requires
 with-held-requires c κs = search needs
 
 returns : tie.Need-returns
-unfolding end skipping withHeld
+unfolding endJob skipping withHeld
 returns c = rw (c .with-held .ensures, c .before .no-locks .ensures, c .before .before .skipping-some .ensures)
 
 pub end-job-spec : {M : Type 1} → statement M

@@ -1,7 +1,7 @@
 -- `operations::load_variable` meets its contract: the value taken is what `variable_of` gives.
 -- Assumes nothing.
 use borrow.Author.Needs.{needs}
-use Rattle.machine.specs.Instructions.{load}
+use Rattle.machine.specs.Instructions.{loadVariable}
 use Rattle.operations.proofs.load_variable.Statement.{statement}
 use Rattle.operations.proofs.load_variable.Tie as tie
 
@@ -12,7 +12,7 @@ register-taken-requires : tie.Need-register-taken-requires
 register-taken-requires c κs = search needs
 
 returns : tie.Need-returns
-unfolding load
+unfolding loadVariable
 returns c = rw (c .before .variable-of .ensures) at (c .register-taken .ensures)
 
 pub load-variable-spec : {M : Type 1} → statement M

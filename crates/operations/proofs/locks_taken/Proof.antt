@@ -1,4 +1,5 @@
--- `operations::locks_taken` meets its contract: the position moved on and the locks changed, in either order, are one state.
+-- `operations::locks_taken` meets its contract: the position moved on and the locks changed, in either order, are one
+-- state.
 -- Assumes nothing.
 use borrow.Author.Needs.{needs}
 use Rattle.machine.specs.Instructions.{skipping, withHeld}

@@ -1,4 +1,5 @@
--- `operations::register_taken` meets its contract: the position moved on and a register changed, in either order, are one state.
+-- `operations::register_taken` meets its contract: the position moved on and a register changed, in either order, are
+-- one state.
 -- Assumes nothing.
 use borrow.Author.Needs.{needs}
 use Rattle.machine.specs.Instructions.{skipping, withRegister}

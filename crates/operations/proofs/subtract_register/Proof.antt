@@ -1,5 +1,5 @@
--- `operations::subtract_register` meets its contract: the value taken is the one that the second register's value, added to
--- it, wraps back to the first's.
+-- `operations::subtract_register` meets its contract: the value taken is the one that the second register's value,
+-- added to it, wraps back to the first's.
 -- Assumes nothing.
 use borrow.Author.Needs.{needs}
 use Rattle.machine.specs.Instructions.{subtract}

@@ -18,7 +18,7 @@ pub record Over (a : Accepted) (f g : Frame) : Type 0 where
   pub above : presentPriority a g < base a (f .job)
 
 -- an active job: it is one of the table's, it has not ended, and its next instruction is inside its task's body
-pub record Running (a : Accepted) (s : State) (f : Frame) : Type 0 where
+pub record IsRunning (a : Accepted) (s : State) (f : Frame) : Type 0 where
   pub job : IsJob a (f .job)
   pub unended : hasEnded s (f .job) ≡ false
   pub inside : f .local .next < length (bodyOf (taskOf (a .table) (jobAt a (f .job) .task)))
@@ -29,6 +29,6 @@ hasBegun s x = hasEnded s x || isActive s x
 -- each active job was started over all that were active then, and whatever comes before a job that has begun has ended
 pub record Invariant (a : Accepted) (s : State) : Type 0 where
   pub flags : length (s .ended) ≡ 32
-  pub running : Every (Running a s) (s .active)
+  pub running : Every (IsRunning a s) (s .active)
   pub stacked : Ordered (Over a) (s .active)
   pub preceded : (x y : Job) → IsJob a x → IsJob a y → before a x y ≡ true → hasBegun s y ≡ true → hasEnded s x ≡ true

@@ -1,5 +1,5 @@
--- A replay accepts exactly the complete orders, and passes their end on: no byte of a complete order comes after all jobs have
--- ended, and an order that the replay accepts is short enough by itself.
+-- A replay accepts exactly the complete orders, and passes their end on: no byte of a complete order comes after all
+-- jobs have ended, and an order that the replay accepts is short enough by itself.
 -- Assumes nothing.
 use mathlib.Core.Path.{_≡_, refl, sym, ap, _∙_}
 use mathlib.Core.Logic.{inl, inr}
@@ -13,7 +13,7 @@ use lib.Dec.{T}
 use Rattle.notation.specs.Checked.{passed, require}
 use Rattle.notation.specs.Laws.CheckedLaws.{refused-passed, passed-same, bind-passed, then-passed, require-passed}
 use Rattle.taskfile.specs.Laws.CheckSteps.{require-holds, bind-goes}
-use Rattle.notation.specs.Laws.TestLaws.{decided, not-both}
+use Rattle.notation.specs.Laws.TestLaws.{test-decided, not-both}
 use Rattle.timing.specs.Accepted.{Accepted}
 use Rattle.timing.specs.Code.IsAccepted.{IsAccepted}
 use Rattle.timing.specs.Laws.JobFacts.{jobs-few}
@@ -22,7 +22,7 @@ use Rattle.machine.specs.Ends.{End}
 use Rattle.machine.specs.Buffers.{orderRoom}
 use Rattle.order.specs.Code.Invariant.{Invariant}
 use Rattle.order.specs.Laws.LengthLaws.{order-short}
-use Rattle.order.specs.Orders.{step, run, endOf, Complete}
+use Rattle.order.specs.Orders.{step, run, orderEnd, Complete}
 use Rattle.order.specs.Replay.{legal, replayFrom, replay}
 use Rattle.order.specs.States.{State, initial, hasEnded, allEnded}
 use Rattle.order.specs.Laws.StepLaws.{good-turn, step-says, step-keeps, initial-invariant}
@@ -62,7 +62,7 @@ module _ {a : Accepted} (ok : IsAccepted a) where
   step-unended {s} inv byte e =
       let made = step-says a s byte e in
       let running = good-turn ok inv (byte / 16) (made .due) .0 .running in
-      elim (decided (allEnded a s)) [
+      elim (test-decided (allEnded a s)) [
         | inl ended ↦ absurd (not-both (hasEnded s (made .turn .frame .job)) (all-jobs a (hasEnded s) ended (made .turn .frame .job) (running .job)) (running .unended))
         | inr going ↦ going
       ]
@@ -91,15 +91,15 @@ module _ {a : Accepted} (ok : IsAccepted a) where
   pub complete-replays : {order : List ℕ} {s : State} → Complete a order s → replayFrom a (initial a) 0 order ≡ passed s
   complete-replays {order} whole = run-replays order (initial-invariant a) 0 (whole .allowed) (whole .finished)
 
-  pub complete-ends : {order : List ℕ} {s : State} → Complete a order s → replay a order ≡ passed (endOf s)
+  pub complete-ends : {order : List ℕ} {s : State} → Complete a order s → replay a order ≡ passed (orderEnd s)
   unfolding replay
   complete-ends whole = bind-goes _ (complete-replays whole)
 
   -- an order that passes the replay is complete, and has that end
-  pub replay-complete : (order : List ℕ) {e : End} → replay a order ≡ passed e → (s : State) × Complete a order s × (endOf s ≡ e)
+  pub replay-complete : (order : List ℕ) {e : End} → replay a order ≡ passed e → (s : State) × Complete a order s × (orderEnd s ≡ e)
   unfolding replay
   replay-complete order h =
-      let parts = bind-passed (replayFrom a (initial a) 0 order) (λ s. passed (endOf s)) h in
+      let parts = bind-passed (replayFrom a (initial a) 0 order) (λ s. passed (orderEnd s)) h in
       let runs = replay-runs a order (initial a) 0 (parts .1) in
       let few : length order ≤ orderRoom = omega (arith, order-short ok order (runs .0), jobs-few (ok .isTimed)) in
       (parts .0, record { allowed = runs .0; finished = runs .1; short = few }, passed-same (parts .2))

@@ -1,5 +1,6 @@
--- Every order of an accepted table has at most 16 steps a job. Left of a job are 16 steps where it has not begun, what its
--- position leaves of 16 where it is active, and none where it has ended; each step lowers that for the job that steps alone.
+-- Every order of an accepted table has at most 16 steps a job. Left of a job are 16 steps where it has not begun,
+-- what its position leaves of 16 where it is active, and none where it has ended; each step lowers that for the job
+-- that steps alone.
 -- Assumes nothing.
 use mathlib.Core.Path.{_≡_, refl, sym, ap, subst, _∙_}
 use mathlib.Core.Logic.{inl, inr}
@@ -18,7 +19,7 @@ use Rattle.taskfile.specs.Laws.JudgingLaws.{body-length, tasks-length, taskOf-e
 use Rattle.taskfile.specs.Code.JudgingParts.{Shaped}
 use Rattle.notation.specs.Lists.{if_then_else_, any, firstWith, sum}
 use Rattle.taskfile.specs.Tables.{noTask, tasksOf, taskOf, bodyOf}
-use Rattle.notation.specs.Laws.TestLaws.{both, neither, decided}
+use Rattle.notation.specs.Laws.TestLaws.{and-both, or-neither, test-decided}
 use Rattle.timing.specs.declared.Job.{Job}
 use Rattle.timing.specs.Accepted.{Accepted}
 use Rattle.timing.specs.Relations.{base, jobAt, jobNumbers}
@@ -74,7 +75,7 @@ unfolding left leftOf if_then_else_
 left-most a s = omega (arith, sum-most (leftOf s) most (jobNumbers a), jobs-length a)
   where
     most : (x : Job) → leftOf s x ≤ 16
-    most x = elim (decided (hasEnded s x)) [ inl e ↦ rw e (omega arith) | inr e ↦ rw e (omega arith) ]
+    most x = elim (test-decided (hasEnded s x)) [ inl e ↦ rw e (omega arith) | inr e ↦ rw e (omega arith) ]
 
 -- ---- positions
 
@@ -83,7 +84,7 @@ idle-position : (fs : List Frame) (x : Job) → any (λ f. eqb (f .job .0) (x .0
 unfolding any position if_then_else_
 idle-position [] x h = refl
 idle-position (f ∷ fs) x h =
-    let parts = neither (eqb (f .job .0) (x .0)) _ h in
+    let parts = or-neither (eqb (f .job .0) (x .0)) _ h in
     rw (parts .0) (idle-position fs x (parts .1))
 
 top-position : (f : Frame) (fs : List Frame) → position (f ∷ fs) (f .job) ≡ f .local .next
@@ -105,10 +106,10 @@ module _ (a : Accepted) (s : State) where
   start-placed i e =
       let found = map-some _ (firstWith (λ y. eqb (base a y) i && mayStart a s y) (jobNumbers a)) e in
       let job = first-job a (λ y. eqb (base a y) i && mayStart a s y) (found .1) in
-      let start = start-says a s (found .0) (both (eqb (base a (found .0)) i) _ (job .1) .1) in
+      let start = start-says a s (found .0) (and-both (eqb (base a (found .0)) i) _ (job .1) .1) in
       subst (Placed s) (found .2)
       (record {
-        here = idle-position (s .active) (found .0) (neither (hasEnded s (found .0)) _ (start .unbegun) .1);
+        here = idle-position (s .active) (found .0) (or-neither (hasEnded s (found .0)) _ (start .unbegun) .1);
         others = λ y apart. refl;
       })
 
@@ -156,7 +157,7 @@ module _ {a : Accepted} (ok : IsAccepted a) {s : State} (inv : Invariant a s) {t
   left-other y apart = rw (ended-other ok inv good effect y apart, stands)
     where
       stands : position (afterEffect s turn effect .active) y ≡ position (s .active) y
-      stands = elim (decided (effect .ended)) [
+      stands = elim (test-decided (effect .ended)) [
         | inl ended ↦ ap (λ (fs : List Frame). position fs y) (active-ended ok inv good effect ended) ∙ placed .others y apart
         | inr goes ↦
             ap (λ (fs : List Frame). position fs y) (active-goes ok inv good effect goes)
@@ -170,7 +171,7 @@ module _ {a : Accepted} (ok : IsAccepted a) {s : State} (inv : Invariant a s) {t
     left-here =
         let x : Job = turn .frame .job in
         let was = left-unended s x (good .running .unended) in
-        elim (decided (effect .ended)) [
+        elim (test-decided (effect .ended)) [
           | inl ended ↦
               let flag = flag-here (effect .ended) (x .0) (s .ended) (flagged-here ok inv good effect) in
               omega (arith, was, placed .here, left-ended (afterEffect s turn effect) x (flag ∙ rw ended refl))

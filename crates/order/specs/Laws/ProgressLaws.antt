@@ -1,5 +1,6 @@
--- From every state that an order can reach and that is not complete some byte is a step: the running job may step, and where
--- none is active the job that arrived first, and of those that arrived together the one with the highest base, may start.
+-- From every state that an order can reach and that is not complete some byte is a step: the running job may step,
+-- and where none is active the job that arrived first, and of those that arrived together the one with the highest
+-- base, may start.
 -- Assumes nothing.
 use mathlib.Core.Path.{_≡_, refl, sym, ap, subst, _∙_}
 use mathlib.Core.Logic.{_⊎_, inl, inr}
@@ -15,7 +16,7 @@ use borrow.Author.Tests.{eq-eqb, not-true, not-false}
 use Rattle.taskfile.specs.declared.Instruction.{Instruction}
 use Rattle.taskfile.specs.Laws.JudgingLaws.{tasks-length}
 use Rattle.notation.specs.Lists.{if_then_else_, from, upTo, member, all, any, firstWith}
-use Rattle.notation.specs.Laws.TestLaws.{and-holds, decided, not-both}
+use Rattle.notation.specs.Laws.TestLaws.{and-holds, test-decided, not-both}
 use Rattle.timing.specs.declared.Job.{Job}
 use Rattle.timing.specs.Accepted.{Accepted}
 use Rattle.timing.specs.Laws.RelationLaws.{before-raises}
@@ -50,7 +51,7 @@ running-turn a s f under same =
 -- the value 0 is always on offer
 pub values-zero : (i : Instruction) → member 0 (values i) ≡ true
 unfolding values member upTo from if_then_else_
-values-zero i = elim (decided (eqb (i .operation) 8)) [ inl e ↦ rw e refl | inr e ↦ rw e refl ]
+values-zero i = elim (test-decided (eqb (i .operation) 8)) [ inl e ↦ rw e refl | inr e ↦ rw e refl ]
 
 -- ---- the least of some numbers
 
@@ -69,7 +70,7 @@ module _ (test : ℕ → Bool) (measure : ℕ → ℕ) where
   -- the test holds of none, or there is a least
   least-of : (n : ℕ) → ((k : ℕ) → k < n → test k ≡ false) ⊎ Least test measure n
   least-of zero = inl (λ k lt. absurd (omega arith))
-  least-of (suc n) = go (decided (test n)) (least-of n)
+  least-of (suc n) = go (test-decided (test n)) (least-of n)
     where
       go : (test n ≡ true) ⊎ (test n ≡ false) → ((k : ℕ) → k < n → test k ≡ false) ⊎ Least test measure n
           → ((k : ℕ) → k < suc n → test k ≡ false) ⊎ Least test measure (suc n)
@@ -187,8 +188,8 @@ module _ {a : Accepted} (ok : IsAccepted a) (s : State) where
       (base a (f .job), record { frame = f; under = under }, running-turn a s f under same)
 
 -- from every state that is not complete some byte is a step
-pub progress : {a : Accepted} → IsAccepted a → {s : State} → Invariant a s → allEnded a s ≡ false
+pub state-progresses : {a : Accepted} → IsAccepted a → {s : State} → Invariant a s → allEnded a s ≡ false
     → (byte : ℕ) × (after : State) × (step a s byte ≡ some after)
-progress {a} ok {s} inv undone =
+state-progresses {a} ok {s} inv undone =
     let found = turn-found ok s (s .active) refl undone in
     (_, _, turn-step a s (found .0) 0 (found .2) (omega arith) (values-zero _))

@@ -1,4 +1,5 @@
--- Every step keeps the invariant: the state that an order starts from has it, and so has the state after each allowed step.
+-- Every step keeps the invariant: the state that an order starts from has it, and so has the state after each allowed
+-- step.
 -- Assumes nothing.
 use mathlib.Core.Path.{_≡_, refl, sym, ap, subst, _∙_}
 use mathlib.Core.Logic.{_⊎_, inl, inr}
@@ -18,7 +19,7 @@ use Rattle.notation.specs.Lists.{if_then_else_, all, any, firstWith, member}
 use Rattle.notation.specs.Laws.PairLaws.{every-imp}
 use Rattle.notation.specs.Ordered.{Every, Ordered}
 use Rattle.taskfile.specs.Tables.{tasksOf, taskOf, bodyOf}
-use Rattle.notation.specs.Laws.TestLaws.{both, either, and-holds, or-left, or-right, or-second, decided, not-both, neither}
+use Rattle.notation.specs.Laws.TestLaws.{and-both, or-either, and-holds, or-left, or-right, or-second, test-decided, not-both, or-neither}
 use Rattle.timing.specs.declared.Job.{Job}
 use Rattle.timing.specs.Accepted.{Accepted}
 use Rattle.timing.specs.Code.IsAccepted.{IsAccepted}
@@ -30,7 +31,7 @@ use Rattle.machine.specs.declared.Local.{Local}
 use Rattle.machine.specs.Ends.{Flags, flagged, noFlags}
 use Rattle.machine.specs.Instructions.{fresh, perform, values}
 use Rattle.order.specs.declared.Frame.{Frame}
-use Rattle.order.specs.Code.Invariant.{Over, Running, hasBegun, Invariant}
+use Rattle.order.specs.Code.Invariant.{Over, IsRunning, hasBegun, Invariant}
 use Rattle.timing.specs.Laws.JobFacts.{job-task, jobs-few}
 use Rattle.order.specs.Orders.{Turn, startOf, turnAmong, turnOf, nextOf, performed, stepWith, step}
 use Rattle.timing.specs.Laws.JobNumberLaws.{all-jobs, jobs-all, first-job}
@@ -68,9 +69,9 @@ flag-stays test x y flags lt e =
 
 -- whose turn it is: a job that runs or has just started over those under it
 pub record GoodTurn (a : Accepted) (s : State) (turn : Turn) : Type 0 where
-  pub running : Running a s (turn .frame)
+  pub running : IsRunning a s (turn .frame)
   pub over : Every (Over a (turn .frame)) (turn .under)
-  pub under : Every (Running a s) (turn .under)
+  pub under : Every (IsRunning a s) (turn .under)
   pub stacked : Ordered (Over a) (turn .under)
   pub within : (y : Job) → any (λ f. eqb (f .job .0) (y .0)) (turn .under) ≡ true → isActive s y ≡ true
   pub kept : (y : Job) → (y .0 ≡ turn .frame .job .0 → ⊥) → isActive s y ≡ true → any (λ f. eqb (f .job .0) (y .0)) (turn .under) ≡ true
@@ -96,9 +97,9 @@ second-of false q h e = absurd (true≢false (sym e))
 pub start-says : (a : Accepted) (s : State) (y : Job) → mayStart a s y ≡ true → Startable a s y
 unfolding mayStart hasBegun
 start-says a s y h =
-    let third = both (not (hasEnded s y || isActive s y) && all (λ x. not (before a x y) || hasEnded s x) (jobNumbers a) && all (λ f. mayPreempt a y (f .job)) (s .active)) _ h in
-    let second = both (not (hasEnded s y || isActive s y) && all (λ x. not (before a x y) || hasEnded s x) (jobNumbers a)) _ (third .0) in
-    let first = both (not (hasEnded s y || isActive s y)) _ (second .0) in
+    let third = and-both (not (hasEnded s y || isActive s y) && all (λ x. not (before a x y) || hasEnded s x) (jobNumbers a) && all (λ f. mayPreempt a y (f .job)) (s .active)) _ h in
+    let second = and-both (not (hasEnded s y || isActive s y) && all (λ x. not (before a x y) || hasEnded s x) (jobNumbers a)) _ (third .0) in
+    let first = and-both (not (hasEnded s y || isActive s y)) _ (second .0) in
     record {
       unbegun = not-true _ (first .0);
       preceded = λ x isJob e. second-of (before a x y) _ (all-jobs a (λ x. not (before a x y) || hasEnded s x) (first .1) x isJob) e;
@@ -112,8 +113,8 @@ over-all : (a : Accepted) (y : Job) (l : Local) (fs : List Frame) → all (λ f.
 unfolding all
 over-all a y l [] p q = tt
 over-all a y l (f ∷ fs) p q =
-    let first = both (mayPreempt a y (f .job)) _ p in
-    let second = both (ltb (presentPriority a f) (base a y)) _ q in
+    let first = and-both (mayPreempt a y (f .job)) _ p in
+    let second = and-both (ltb (presentPriority a f) (base a y)) _ q in
     (record { preempts = first .0; above = ltb-true _ _ (second .0) }, over-all a y l fs (first .1) (second .1))
 
 -- a turn made of a job that was found
@@ -133,7 +134,7 @@ module _ {a : Accepted} (ok : IsAccepted a) {s : State} (inv : Invariant a s) wh
   start-good y isJob h =
       let start = start-says a s y h in
       record {
-        running = record { job = isJob; unended = neither (hasEnded s y) _ (start .unbegun) .0; inside = fresh-inside y isJob };
+        running = record { job = isJob; unended = or-neither (hasEnded s y) _ (start .unbegun) .0; inside = fresh-inside y isJob };
         over = over-all a y fresh (s .active) (start .preempts) (start .above);
         under = inv .running;
         stacked = inv .stacked;
@@ -148,7 +149,7 @@ module _ {a : Accepted} (ok : IsAccepted a) {s : State} (inv : Invariant a s) wh
   good-start i {turn} e =
       let found = map-some _ (firstWith (λ y. eqb (base a y) i && mayStart a s y) (jobNumbers a)) e in
       let job = first-job a (λ y. eqb (base a y) i && mayStart a s y) (found .1) in
-      let tests = both (eqb (base a (found .0)) i) _ (job .1) in
+      let tests = and-both (eqb (base a (found .0)) i) _ (job .1) in
       subst (λ (t : Turn). GoodTurn a s t × (base a (t .frame .job) ≡ i)) (found .2)
       (start-good (found .0) (job .0) (tests .1), eqb-true _ _ (tests .0))
 
@@ -161,7 +162,7 @@ module _ {a : Accepted} (ok : IsAccepted a) {s : State} (inv : Invariant a s) wh
     where
       top : GoodTurn a s (record { frame = f; under = under })
       top =
-          let running = subst (Every (Running a s)) same (inv .running) in
+          let running = subst (Every (IsRunning a s)) same (inv .running) in
           let stacked = subst (Ordered (Over a)) same (inv .stacked) in
           let active : any (λ g. eqb (g .job .0) (f .job .0)) (s .active) ≡ true =
           ap (any (λ g. eqb (g .job .0) (f .job .0))) same ∙ or-left (eqb (f .job .0) (f .job .0)) (any (λ g. eqb (g .job .0) (f .job .0)) under) (eq-eqb (f .job .0) (f .job .0) refl) in
@@ -243,7 +244,7 @@ module _ {a : Accepted} (ok : IsAccepted a) {s : State} (inv : Invariant a s) {t
   pub begun-before : (y : Job) → (y .0 ≡ x .0 → ⊥) → hasBegun (afterEffect s turn effect) y ≡ true → hasBegun s y ≡ true
   unfolding hasBegun isActive afterEffect
   begun-before y apart h =
-      elim (either (hasEnded (afterEffect s turn effect) y) _ h) [
+      elim (or-either (hasEnded (afterEffect s turn effect) y) _ h) [
         | inl ended ↦ or-left (hasEnded s y) _ (sym (ended-other y apart) ∙ ended)
         | inr active ↦ or-right (hasEnded s y) _ (good .within y (under-has y apart (effect .ended) active))
       ]
@@ -258,7 +259,7 @@ module _ {a : Accepted} (ok : IsAccepted a) {s : State} (inv : Invariant a s) {t
   pub begun-stays : (y : Job) → (y .0 ≡ x .0 → ⊥) → hasBegun s y ≡ true → hasBegun (afterEffect s turn effect) y ≡ true
   unfolding hasBegun isActive afterEffect
   begun-stays y apart h =
-      elim (either (hasEnded s y) _ h) [
+      elim (or-either (hasEnded s y) _ h) [
         | inl ended ↦ or-left (hasEnded (afterEffect s turn effect) y) _ (ended-stays y ended)
         | inr active ↦ or-right (hasEnded (afterEffect s turn effect) y) _ (under-kept y (effect .ended) (good .kept y apart active))
       ]
@@ -283,7 +284,7 @@ module _ {a : Accepted} (ok : IsAccepted a) {s : State} (inv : Invariant a s) {t
       ])
 
   -- those under it run on
-  over-apart : (f : Frame) → Running a s f → Over a (turn .frame) f → Running a (afterEffect s turn effect) f
+  over-apart : (f : Frame) → IsRunning a s f → Over a (turn .frame) f → IsRunning a (afterEffect s turn effect) f
   over-apart f running over =
       let lower = preempts-lower (ok .isTimed) x (f .job) (running .job) (over .preempts) in
       record {
@@ -292,7 +293,7 @@ module _ {a : Accepted} (ok : IsAccepted a) {s : State} (inv : Invariant a s) {t
         inside = running .inside;
       }
 
-  under-runs : (fs : List Frame) → Every (Running a s) fs → Every (Over a (turn .frame)) fs → Every (Running a (afterEffect s turn effect)) fs
+  under-runs : (fs : List Frame) → Every (IsRunning a s) fs → Every (Over a (turn .frame)) fs → Every (IsRunning a (afterEffect s turn effect)) fs
   under-runs [] runs over = tt
   under-runs (f ∷ fs) runs over = (over-apart f (runs .0) (over .0), under-runs fs (runs .1) (over .1))
 
@@ -313,7 +314,7 @@ module _ {a : Accepted} (ok : IsAccepted a) {s : State} (inv : Invariant a s) {t
   -- the invariant holds after it
   pub effect-keeps : StaysInside a turn effect → Invariant a (afterEffect s turn effect)
   effect-keeps inside =
-      elim (decided (effect .ended)) [
+      elim (test-decided (effect .ended)) [
         | inl ended ↦ keeps (turn .under) (active-ended ended) under (good .stacked)
         | inr goes ↦
             keeps _ (active-goes goes)
@@ -321,14 +322,14 @@ module _ {a : Accepted} (ok : IsAccepted a) {s : State} (inv : Invariant a s) {t
             (every-imp (Over a (turn .frame)) (Over a _) (λ f over. record { preempts = over .preempts; above = over .above }) (turn .under) (good .over), good .stacked)
       ]
     where
-      under : Every (Running a (afterEffect s turn effect)) (turn .under)
+      under : Every (IsRunning a (afterEffect s turn effect)) (turn .under)
       under = under-runs (turn .under) (good .under) (good .over)
 
-      keeps : (fs : List Frame) → afterEffect s turn effect .active ≡ fs → Every (Running a (afterEffect s turn effect)) fs
+      keeps : (fs : List Frame) → afterEffect s turn effect .active ≡ fs → Every (IsRunning a (afterEffect s turn effect)) fs
           → Ordered (Over a) fs → Invariant a (afterEffect s turn effect)
       keeps fs e runs stacked = record {
         flags = flags-kept;
-        running = subst (Every (Running a (afterEffect s turn effect))) (sym e) runs;
+        running = subst (Every (IsRunning a (afterEffect s turn effect))) (sym e) runs;
         stacked = subst (Ordered (Over a)) (sym e) stacked;
         preceded = preceded-after;
       }
@@ -348,7 +349,7 @@ module _ {a : Accepted} (ok : IsAccepted a) {s : State} (inv : Invariant a s) wh
   performed-keeps v {turn} good = rw (performed-is a s v turn) (effect-keeps ok inv good _ (turn-inside v good))
 
 -- what an allowed step is: a turn with a value on offer
-pub record Step (a : Accepted) (s : State) (byte : ℕ) (after : State) : Type 0 where
+pub record AllowedStep (a : Accepted) (s : State) (byte : ℕ) (after : State) : Type 0 where
   pub turn : Turn
   pub due : turnOf a s (byte / 16) ≡ some turn
   pub offered : member (byte % 16) (values (nextOf a (turn .frame))) ≡ true
@@ -357,17 +358,17 @@ pub record Step (a : Accepted) (s : State) (byte : ℕ) (after : State) : Type 0
 module _ {a : Accepted} {s : State} {byte : ℕ} {after : State} where
   offered-says : (turn : Turn) → turnOf a s (byte / 16) ≡ some turn → (b : Bool)
       → member (byte % 16) (values (nextOf a (turn .frame))) ≡ b
-      → (if b then some (performed a s (byte % 16) turn) else none) ≡ some after → Step a s byte after
+      → (if b then some (performed a s (byte % 16) turn) else none) ≡ some after → AllowedStep a s byte after
   unfolding if_then_else_
   offered-says turn due true o h = record { turn = turn; due = due; offered = o; made = cc }
   offered-says turn due false o h = absurd (let z : _≡_ {A = ℕ} 0 1 = cc in omega arith)
 
-  turn-says : (o : Option Turn) → turnOf a s (byte / 16) ≡ o → bind o (stepWith a s (byte % 16)) ≡ some after → Step a s byte after
+  turn-says : (o : Option Turn) → turnOf a s (byte / 16) ≡ o → bind o (stepWith a s (byte % 16)) ≡ some after → AllowedStep a s byte after
   unfolding stepWith bind
   turn-says none due h = absurd (let z : _≡_ {A = ℕ} 0 1 = cc in omega arith)
   turn-says (some turn) due h = offered-says turn due (member (byte % 16) (values (nextOf a (turn .frame)))) refl h
 
-pub step-says : (a : Accepted) (s : State) (byte : ℕ) {after : State} → step a s byte ≡ some after → Step a s byte after
+pub step-says : (a : Accepted) (s : State) (byte : ℕ) {after : State} → step a s byte ≡ some after → AllowedStep a s byte after
 unfolding step
 step-says a s byte e = turn-says (turnOf a s (byte / 16)) refl e
 

@@ -1,5 +1,5 @@
--- `outcomes::clear_from` meets its contract. The loop's invariant: the bytes up to i are cleared. The measure is the number of bytes
--- left. Assumes nothing.
+-- `outcomes::clear_from` meets its contract. The loop's invariant: the bytes up to i are cleared. The measure is the
+-- number of bytes left. Assumes nothing.
 use Prim.Native.Nat.{_-_}
 use native.Mathlib.Omega.{arith}
 use Rattle.notation.specs.Laws.ClearLaws.{Cleared, cleared-none, cleared-length, cleared-more, cleared-all}

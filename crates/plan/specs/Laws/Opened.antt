@@ -9,6 +9,6 @@ unfolding Runs.guess Runs.jobTotal Runs.roundNumbers Runs.stepBytes Runs.stepEff
     Runs.runJobs Runs.runStart Runs.runPlan Legality.stepsOf Legality.roundsOf Legality.start Legality.end
     Legality.beforeRule Legality.apart Legality.nested Legality.noStepWithin Legality.preemptRule
     Legality.priorityAt Legality.lockRule Legality.pairs Legality.orderFault Legality.lockFault
-    Legality.dueStore Legality.guessFault Legality.legality Plans.legalRun Plans.endOf Plans.checkPlan
+    Legality.dueStore Legality.guessFault Legality.legality Plans.legalRun Plans.planEnd Plans.checkPlan
     Plans.checked Plans.planAnswer
 plansOpened = tt

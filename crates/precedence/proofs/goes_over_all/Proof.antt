@@ -1,5 +1,5 @@
--- `precedence::goes_over_all` meets its contract. The loop's invariant: y may start over every active job if it may over those
--- from k on. The measure is the number of active jobs left.
+-- `precedence::goes_over_all` meets its contract. The loop's invariant: y may start over every active job if it may
+-- over those from k on. The measure is the number of active jobs left.
 -- Assumes nothing.
 use Prim.Native.Nat.{_≤_, _-_}
 use native.Mathlib.Omega.{arith}

@@ -1,5 +1,5 @@
--- `precedence::must_wait` meets its contract. The loop's invariant: y must wait for a task's job if it must for one of a task
--- from k on. The measure is the number of tasks left.
+-- `precedence::must_wait` meets its contract. The loop's invariant: y must wait for a task's job if it must for one
+-- of a task from k on. The measure is the number of tasks left.
 -- Assumes nothing.
 use Prim.Native.Nat.{_≤_, _-_}
 use native.Mathlib.Omega.{arith}

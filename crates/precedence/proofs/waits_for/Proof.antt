@@ -1,6 +1,6 @@
 -- `precedence::waits_for` meets its contract: each return is one case of the definition's test.
 -- Assumes nothing.
-use Rattle.states.specs.Laws.StateReads.{owned-job, waits-unowned, waits-itself, waits-other}
+use Rattle.states.specs.Laws.StateReads.{owned-read, waits-unowned, waits-itself, waits-other}
 use borrow.Author.Needs.{needs}
 use Rattle.precedence.proofs.waits_for.Statement.{statement}
 use Rattle.precedence.proofs.waits_for.Tie as tie
@@ -25,7 +25,7 @@ returns-2 c = waits-itself _ _ _ _ _ (c .before .before .before .before .before 
 
 comes-before-requires : tie.Need-comes-before-requires
 comes-before-requires c κs = (
-  owned-job _ _ _ (c .before .before .before .before .owned-by .ensures) (c .before .before .before .if1 .left),
+  owned-read _ _ _ (c .before .before .before .before .owned-by .ensures) (c .before .before .before .if1 .left),
   c .before .before .before .before .before .before .before .pre .0,
 )
 

@@ -1,4 +1,5 @@
--- `programs::owned_by` meets its contract: a number from 32 on is no job's, and below that the test is the definition's.
+-- `programs::owned_by` meets its contract: a number from 32 on is no job's, and below that the test is the
+-- definition's.
 -- Assumes nothing.
 use mathlib.Core.Path.{sym}
 use borrow.Author.Tests.{lt-ltb, le-ltb}

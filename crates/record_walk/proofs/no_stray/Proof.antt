@@ -1,5 +1,5 @@
--- `record_walk::no_stray` meets its contract. The loop's invariant: `r` is at most the number of records, and each record below it is
--- marked. The measure is what is left of the records. Assumes nothing.
+-- `record_walk::no_stray` meets its contract. The loop's invariant: `r` is at most the number of records, and each
+-- record below it is marked. The measure is what is left of the records. Assumes nothing.
 use mathlib.Core.Path.{_≡_}
 use Prim.Native.Nat.{ℕ, _≤_, _<_, _-_, _/_}
 use native.Mathlib.Omega.{arith}
@@ -7,8 +7,8 @@ use mathlib.Core.Bool.{true, false}
 use lib.ListN.{length, getD}
 use borrow.Author.Count.{below-more}
 use borrow.Author.Tests.{not-true, not-false}
-use Rattle.taskfile.specs.Laws.ChainCases.{stray, stray-none}
-use Rattle.taskfile.specs.Laws.CheckSteps.{comes}
+use Rattle.taskfile.specs.Laws.ChainCases.{record-stray, stray-none}
+use Rattle.taskfile.specs.Laws.CheckSteps.{check-comes}
 use Rattle.taskfile.specs.Code.Reading.{checkOf}
 use Rattle.taskfile.specs.Records.{records}
 use Rattle.record_walk.proofs.no_stray.Statement.{statement}
@@ -32,7 +32,7 @@ cast-t11 c = omega arith
 returns : tie.Need-returns Inv-loop μ-loop
 unfolding checkOf records
 returns c reached marked =
-    comes (stray _ reached marked _ (omega arith) _ (omega arith) (c .before .before .loop .inv .1) (not-true _ (c .if1 .taken)))
+    check-comes (record-stray _ reached marked _ (omega arith) _ (omega arith) (c .before .before .loop .inv .1) (not-true _ (c .if1 .taken)))
 
 add-r : tie.Need-add-r Inv-loop μ-loop
 add-r c = omega arith
@@ -46,7 +46,7 @@ loop-again c = (omega arith, below-more _ _ (c .before .before .loop .inv .1) (n
 returns-2 : tie.Need-returns-2 Inv-loop μ-loop
 unfolding checkOf records
 returns-2 c reached marked =
-    comes (stray-none _ reached marked _ (omega arith) (λ k below. c .before .loop .inv .1 k (omega arith)))
+    check-comes (stray-none _ reached marked _ (omega arith) (λ k below. c .before .loop .inv .1 k (omega arith)))
 
 pub no-stray-spec : {M : Type 1} → statement M
 no-stray-spec =

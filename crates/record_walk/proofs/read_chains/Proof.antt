@@ -1,5 +1,5 @@
--- `record_walk::read_chains` meets its contract. Each return is one check of `chainsOf`: the header, a first task, the tasks, the locks,
--- and no record left over. At first the header's mark alone is set.
+-- `record_walk::read_chains` meets its contract. Each return is one check of `chainsOf`: the header, a first task,
+-- the tasks, the locks, and no record left over. At first the header's mark alone is set.
 -- Assumes nothing.
 use borrow.Author.Needs.{needs}
 use Rattle.taskfile.specs.Laws.ChainReading.{header-fails, no-tasks, tasks-fail, locks-fail, chains-read}

@@ -1,4 +1,5 @@
--- `byte_at` meets its contract: a byte of the file is read where the definition reads it, and past the file's end both are 0.
+-- `byte_at` meets its contract: a byte of the file is read where the definition reads it, and past the file's end
+-- both are 0.
 -- Assumes nothing.
 use mathlib.Core.Path.{refl, sym}
 use borrow.Author.Needs.{needs}

@@ -1,5 +1,5 @@
--- `replaying::replay_from` meets its contract: each outcome is one case of the replay. The loop's invariant: the whole replay is the
--- replay of the bytes left, from the state in hand. The measure is the number of bytes left.
+-- `replaying::replay_from` meets its contract: each outcome is one case of the replay. The loop's invariant: the
+-- whole replay is the replay of the bytes left, from the state in hand. The measure is the number of bytes left.
 -- Assumes nothing.
 use mathlib.Core.Path.{refl, ap, _∙_}
 use Prim.Native.Nat.{_-_}

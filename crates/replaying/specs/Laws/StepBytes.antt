@@ -1,4 +1,5 @@
--- A byte of an order that a step on a state's bytes was made for: the replay is at fault, or goes on from the bytes after it.
+-- A byte of an order that a step on a state's bytes was made for: the replay is at fault, or goes on from the bytes
+-- after it.
 -- Assumes nothing.
 use mathlib.Core.Path.{_≡_, refl, sym, ap, ap₂, _∙_}
 use Prim.Native.Nat.{ℕ, _+_, _<_}

@@ -1,6 +1,6 @@
--- `response::response_of` meets its contract. Where the tasks above need the whole processor, no interval is a solution;
--- else the start is a lower bound of the solutions, from which the climb finds the least, or, where the tasks above meet their
--- periods, a short climb and the search.
+-- `response::response_of` meets its contract. Where the tasks above need the whole processor, no interval is a
+-- solution; else the start is a lower bound of the solutions, from which the climb finds the least, or, where the
+-- tasks above meet their periods, a short climb and the search.
 -- Assumes nothing.
 use mathlib.Core.Path.{sym, ap}
 use Prim.Native.Nat.{ℕ, _-_, _^_}

@@ -1,5 +1,6 @@
--- `response::responses_of` meets its contract. The loop's invariant: the tasks from task i on all meet their periods, and
--- their response times are in the array, or the lowest of them that has none is known. The measure is i. Assumes nothing.
+-- `response::responses_of` meets its contract. The loop's invariant: the tasks from task i on all meet their periods,
+-- and their response times are in the array, or the lowest of them that has none is known. The measure is i. Assumes
+-- nothing.
 use mathlib.Core.Path.{_≡_, refl, sym, _∙_}
 use Prim.Native.Nat.{suc, _-_, _≤_}
 use native.Mathlib.Omega.{arith}

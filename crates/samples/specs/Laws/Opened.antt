@@ -26,7 +26,7 @@ unfolding Checked._>>=_ Checked._>>_ Checked.require Checked.noneOf Checked.plac
 notationOpened = tt
 
 unfoldable pub recordsOpened : Unit {0}
-unfolding Records.records Records.byteAt Records.wideAt Records.next Records.kindNumber Records.operations
+unfolding Records.records Records.byteAt Records.wideAt Records.next Records.kindNumber Records.operationUses
     Records.usesOf Records.tidyField Records.fieldInRange Records.instructionAt Records.tidyInstruction
     Records.instructionInRange Records.zeroFrom Records.tidy Records.inRange
 recordsOpened = tt
@@ -67,10 +67,10 @@ endsOpened = tt
 unfoldable pub instructionsOpened : Unit {0}
 unfolding Held.noLocks Held.holds Held.acquire Held.release Held.raised Held.priority Instructions.fresh
     Instructions.values Instructions.register Instructions.skipping Instructions.withRegister
-    Instructions.withHeld Instructions.plus Instructions.minus Instructions.end Instructions.load
+    Instructions.withHeld Instructions.plus Instructions.minus Instructions.endJob Instructions.loadVariable
     Instructions.store Instructions.setNumber Instructions.add Instructions.subtract Instructions.skipLess
     Instructions.skipEqual Instructions.pick Instructions.acquireLock Instructions.releaseLock
-    Instructions.assert Instructions.operations Instructions.perform
+    Instructions.assert Instructions.operationEffects Instructions.perform
 instructionsOpened = tt
 
 unfoldable pub opened : Unit {0}

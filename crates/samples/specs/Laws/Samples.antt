@@ -85,8 +85,8 @@ pickTable =
     table 1 0
     (task 1 1 0 (instruction 8 0 2 0 ∷ instruction 7 0 1 1 ∷ instruction 11 1 0 0 ∷ endInstruction ∷ []) ∷ []) []
 
-unfoldable pub pick : Accepted
-pick = record { table = pickTable; responses = 1 ∷ []; jobs = job 0 0 1 ∷ [] }
+unfoldable pub pickUpTo : Accepted
+pickUpTo = record { table = pickTable; responses = 1 ∷ []; jobs = job 0 0 1 ∷ [] }
 
 -- One task that arrives when the window ends, so no job. Variable 0 is 5 at first.
 unfoldable pub idleTable : Table
@@ -97,16 +97,16 @@ idle = record { table = idleTable; responses = 1 ∷ []; jobs = [] }
 
 -- one name for all of them
 unfoldable pub samplesOpened : Unit {0}
-unfolding nestTable nest pairTable pair pickTable pick idleTable idle
+unfolding nestTable nest pairTable pair pickTable pickUpTo idleTable idle
 samplesOpened = tt
 
 -- these are the accepted tables that their tables' own times and jobs make
-pub record Timed : Type 0 where
+pub record TimedAs : Type 0 where
   pub nestTimed : timed nestTable ≡ passed nest
   pub pairTimed : timed pairTable ≡ passed pair
-  pub pickTimed : timed pickTable ≡ passed pick
+  pub pickTimed : timed pickTable ≡ passed pickUpTo
   pub idleTimed : timed idleTable ≡ passed idle
 
-pub all-timed : Timed
+pub all-timed : TimedAs
 unfolding opened responseOf samplesOpened
 all-timed = record { nestTimed = refl; pairTimed = refl; pickTimed = refl; idleTimed = refl }

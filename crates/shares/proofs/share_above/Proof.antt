@@ -1,5 +1,6 @@
--- `shares::share_above` meets its contract. The loop's invariant: the share has at most cap parts, and is one that the tasks from
--- k₀ = i + 1 on need at least without those from k on, for any table of these times. The measure is the number of tasks left.
+-- `shares::share_above` meets its contract. The loop's invariant: the share has at most cap parts, and is one that
+-- the tasks from k₀ = i + 1 on need at least without those from k on, for any table of these times. The measure is
+-- the number of tasks left.
 -- Assumes nothing.
 use Prim.Native.Nat.{_≤_, _-_}
 use native.Mathlib.Omega.{arith}

@@ -6,7 +6,7 @@ use native.Mathlib.Omega.{arith}
 use borrow.Author.Needs.{needs}
 use Prim.Native.Nat.{_-_, _/_, _^_, _≤_}
 use Rattle.timing.specs.Laws.ResponseLaws.{roundedUp-positive}
-use Rattle.timing.specs.Laws.ShareLaws.{Grouped, grouped, rounded-product, rounded-fits, rounded-most}
+use Rattle.timing.specs.Laws.ShareLaws.{Grouped, quotient-grouped, rounded-product, rounded-fits, rounded-most}
 use Rattle.shares.proofs.with_rounded.Statement.{statement}
 use Rattle.shares.proofs.with_rounded.Tie as tie
 
@@ -19,7 +19,7 @@ group : (c : tie.After-struct-known)
     → Grouped (c .before .before .before .args .s .whole) ((2 ^ 64 - 1) / c .before .before .before .args .c)
     (c .before .before .rounded-up .result) (c .before .rounded-up2 .result)
 group c =
-    grouped _ _ (omega arith) (room (c .before .before .before)) (c .before .before .rounded-up .ensures) (c .before .rounded-up2 .ensures)
+    quotient-grouped _ _ (omega arith) (room (c .before .before .before)) (c .before .before .rounded-up .ensures) (c .before .rounded-up2 .ensures)
 
 div-rounded-up : tie.Need-div-rounded-up
 div-rounded-up c = search needs

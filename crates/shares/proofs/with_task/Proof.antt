@@ -1,5 +1,5 @@
--- `shares::with_task` meets its contract: the two shares are added over the least common multiple of their wholes, where
--- that is at most cap; else they are rounded down.
+-- `shares::with_task` meets its contract: the two shares are added over the least common multiple of their wholes,
+-- where that is at most cap; else they are rounded down.
 -- Assumes nothing.
 use Prim.Native.Nat.{_*_, _/_, _≤_}
 use native.Mathlib.Omega.{arith}

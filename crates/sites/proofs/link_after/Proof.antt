@@ -1,5 +1,5 @@
--- `sites::link_after` meets its contract. The loop's invariant: as many links as are left lead from the record at hand to the
--- record that n links lead to from `index`. The measure is how many are left.
+-- `sites::link_after` meets its contract. The loop's invariant: as many links as are left lead from the record at
+-- hand to the record that n links lead to from `index`. The measure is how many are left.
 -- Assumes nothing.
 use Prim.Native.Nat.{ℕ, _≤_, _<_, _-_}
 use native.Mathlib.Omega.{arith}

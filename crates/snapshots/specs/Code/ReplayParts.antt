@@ -16,13 +16,13 @@ use Rattle.snapshots.specs.Code.Shows.{Shows}
 use Rattle.snapshots.specs.Code.Snapshots.{Snapshot, ReplayEnd}
 
 -- a replay's outcome on snapshots is the outcome on states
-abbrev pub EndsAs : Accepted → ReplayEnd → Checked ℕ State → Type 0
-EndsAs a e (refused number place) = (e .number ≡ number) × (e .place ≡ place)
-EndsAs a e (passed s) = (e .number ≡ 0) × (e .place ≡ 0) × Shows a (e .state) s
+abbrev pub ReplayEndsAs : Accepted → ReplayEnd → Checked ℕ State → Type 0
+ReplayEndsAs a e (refused number place) = (e .number ≡ number) × (e .place ≡ place)
+ReplayEndsAs a e (passed s) = (e .number ≡ 0) × (e .place ≡ 0) × Shows a (e .state) s
 
 -- the end with this number at this place
-abbrev pub endAt : ℕ → ℕ → Snapshot → ReplayEnd
-endAt number place p = record { number = number; place = place; state = p }
+abbrev pub replayEndAt : ℕ → ℕ → Snapshot → ReplayEnd
+replayEndAt number place p = record { number = number; place = place; state = p }
 
 -- what is kept of it
 unfoldable pub replayedOf : ReplayEnd → Replayed

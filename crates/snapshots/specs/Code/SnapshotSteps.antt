@@ -25,8 +25,8 @@ use Rattle.snapshots.specs.Code.Snapshots.{Snapshot, Stepped, ReplayEnd}
 abbrev pub Program : Type 0
 Program = List ℕ
 
-abbrev pub Times : Type 0
-Times = List ℕ
+abbrev pub LentTimes : Type 0
+LentTimes = List ℕ
 
 -- the task of job x
 unfoldable pub ownerIn : Program → ℕ → ℕ
@@ -41,20 +41,20 @@ instructionIn program i p =
       c = getD program (64 * i + 4 * p + 3) 0;
     }
 
-unfoldable pub arrivalIn : Times → ℕ → ℕ
+unfoldable pub arrivalIn : LentTimes → ℕ → ℕ
 arrivalIn times x = getD times x 0
 
-unfoldable pub latestIn : Times → ℕ → ℕ
+unfoldable pub latestIn : LentTimes → ℕ → ℕ
 latestIn times x = getD times (32 + x) 0
 
 -- does job x come before job y, another job?
-unfoldable pub beforeIn : Program → Times → ℕ → ℕ → Bool
+unfoldable pub beforeIn : Program → LentTimes → ℕ → ℕ → Bool
 beforeIn program times x y =
     leb (latestIn times x) (arrivalIn times y)
     || leb (arrivalIn times x) (arrivalIn times y) && leb (ownerIn program y) (ownerIn program x)
 
 -- may job y preempt job x?
-unfoldable pub preemptsIn : Program → Times → ℕ → ℕ → Bool
+unfoldable pub preemptsIn : Program → LentTimes → ℕ → ℕ → Bool
 preemptsIn program times y x =
     ltb (ownerIn program x) (ownerIn program y)
     && ltb (arrivalIn times x) (arrivalIn times y)
@@ -67,17 +67,17 @@ unfoldable pub ownedBy : Program → ℕ → ℕ → Bool
 ownedBy program k x = ltb x 32 && eqb (ownerIn program x) k
 
 -- must job y wait for task k's first job not yet begun?
-unfoldable pub waitsFor : Program → Times → List ℕ → ℕ → ℕ → Bool
+unfoldable pub waitsFor : Program → LentTimes → List ℕ → ℕ → ℕ → Bool
 waitsFor program times upcoming y k =
     let x = getD upcoming k 0 in
     ownedBy program k x && not (eqb x y) && beforeIn program times x y
 
 -- must it wait for any?
-unfoldable pub waits : Program → Times → List ℕ → ℕ → Bool
+unfoldable pub waits : Program → LentTimes → List ℕ → ℕ → Bool
 waits program times upcoming y = any (waitsFor program times upcoming y) (upTo 8)
 
 -- may job y start over an active job?
-unfoldable pub goesOver : Program → Times → Ceilings → ℕ → Frame → Bool
+unfoldable pub goesOver : Program → LentTimes → Ceilings → ℕ → Frame → Bool
 goesOver program times locks y f =
     ltb (f .job .0) 32
     && preemptsIn program times y (f .job .0)
@@ -96,7 +96,7 @@ unfoldable pub nobody : Due
 nobody = record { due = false; frame = noFrame; under = 0 }
 
 -- may task i's first job not yet begun start?
-unfoldable pub startsIn : Program → Times → Ceilings → Snapshot → ℕ → Bool
+unfoldable pub startsIn : Program → LentTimes → Ceilings → Snapshot → ℕ → Bool
 startsIn program times locks p i =
     let y = getD (p .upcoming) i 0 in
     ltb i 8
@@ -105,7 +105,7 @@ startsIn program times locks p i =
     && not (waits program times (p .upcoming) y)
     && all (goesOver program times locks y) (stackOf p)
 
-unfoldable pub startIn : Program → Times → Ceilings → Snapshot → ℕ → Due
+unfoldable pub startIn : Program → LentTimes → Ceilings → Snapshot → ℕ → Due
 startIn program times locks p i =
     let first : Frame = record { job = record { 0 = getD (p .upcoming) i 0 }; local = fresh } in
     if startsIn program times locks p i
@@ -126,7 +126,7 @@ topOf p = getD (p .stack) (p .depth - 1) beyond
 unfoldable pub runsIn : Program → Snapshot → ℕ → Bool
 runsIn program p i = ltb i 8 && ltb 0 (p .depth) && ownedBy program i (topOf p .job .0)
 
-unfoldable pub turnIn : Program → Times → Ceilings → Snapshot → ℕ → Due
+unfoldable pub turnIn : Program → LentTimes → Ceilings → Snapshot → ℕ → Due
 turnIn program times locks p i =
     if runsIn program p i
     then record { due = true; frame = topOf p; under = p .depth - 1 }
@@ -163,7 +163,7 @@ unfoldable pub dueStep : Program → Snapshot → ℕ → ℕ → Due → Steppe
 dueStep program p i v d =
     if d .due then stepWithIn program p (d .frame) (d .under) i v else record { allowed = false; state = p }
 
-unfoldable pub stepIn : Program → Times → Ceilings → Snapshot → ℕ → Stepped
+unfoldable pub stepIn : Program → LentTimes → Ceilings → Snapshot → ℕ → Stepped
 stepIn program times locks p byte = dueStep program p (byte / 16) (byte % 16) (turnIn program times locks p (byte / 16))
 
 -- ---- the replay
@@ -176,7 +176,7 @@ unfoldable pub finishedIn : Program → Snapshot → Bool
 finishedIn program p = eqb (p .depth) 0 && not (any (hasUpcoming program (p .upcoming)) (upTo 8))
 
 -- the bytes from `index` on
-unfoldable pub replayIn : Program → Times → Ceilings → Snapshot → ℕ → List ℕ → ReplayEnd
+unfoldable pub replayIn : Program → LentTimes → Ceilings → Snapshot → ℕ → List ℕ → ReplayEnd
 replayIn program times locks p index [] =
     record {
       number = if finishedIn program p then 0 else 31;

@@ -1,4 +1,5 @@
--- The lent arrays, as they are filled: instruction by instruction, job by job. Filled from an accepted table's parts, they hold that table.
+-- The lent arrays, as they are filled: instruction by instruction, job by job. Filled from an accepted table's parts,
+-- they hold that table.
 -- Assumes nothing.
 use mathlib.Core.Path.{_≡_, refl, sym, ap, subst, _∙_}
 use Prim.Native.Nat.{ℕ, zero, suc, _+_, _*_, _/_, _%_, _≤_, _<_}
@@ -245,11 +246,11 @@ body-lent {a} ok owners i p known inside =
     ∙ ap (λ (x : TaskEntry). getD (bodyOf x) p endInstruction) same
 
 -- filled from an accepted table's parts, the arrays hold the table
-pub lent : {a : Accepted} → IsAccepted a → {list : JobList} → list ≡ jobListOf (a .jobs) → {program times : List ℕ}
+pub arrays-lent : {a : Accepted} → IsAccepted a → {list : JobList} → list ≡ jobListOf (a .jobs) → {program times : List ℕ}
     → OwnersTo (a .table) list (list .count) program → TimesTo list 32 times
     → Lends a program times (record { count = a .table .locks; ceilings = a .table .ceilings })
 unfolding ceilingsOf base jobListOf
-lent {a} ok {list} listed {program} {times} owners held =
+arrays-lent {a} ok {list} listed {program} {times} owners held =
     let few = jobs-few (ok .isTimed) in
     let counted : list .count ≡ length (a .jobs) = ap (λ (l : JobList). l .count) listed in
     record {

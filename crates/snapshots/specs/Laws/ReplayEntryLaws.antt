@@ -10,7 +10,7 @@ use Rattle.taskfile.specs.Laws.CheckSteps.{bind-refused, bind-goes}
 use Rattle.taskfile.specs.Records.{File}
 use Rattle.timing.specs.declared.AcceptAnswer.{AcceptAnswer}
 use Rattle.timing.specs.Accepted.{Accepted, accept}
-use Rattle.timing.specs.Laws.AcceptedLaws.{accepted}
+use Rattle.timing.specs.Laws.AcceptedLaws.{file-accepted}
 use Rattle.timing.specs.Code.IsAccepted.{IsAccepted}
 use Rattle.timing.specs.Laws.AcceptLaws.{accepted-refused, accepted-passed}
 use Rattle.timing.specs.Code.AcceptParts.{AcceptedParts, AcceptedAs}
@@ -19,7 +19,7 @@ use Rattle.machine.specs.Buffers.{runAnswer, unwritten}
 use Rattle.snapshots.specs.declared.Replayed.{Replayed}
 use Rattle.timing.specs.Laws.JobFacts.{jobs-few}
 use Rattle.order.specs.Laws.LengthLaws.{left-most}
-use Rattle.order.specs.Orders.{endOf}
+use Rattle.order.specs.Orders.{orderEnd}
 use Rattle.order.specs.Replay.{replayFrom, replay, replayed, replayAnswer}
 use Rattle.snapshots.specs.Laws.ReplayLaws.{replay-fault}
 use Rattle.snapshots.specs.Code.ReplayParts.{ReplayedAs, ReplayOf}
@@ -40,7 +40,7 @@ module _ (f : File) (x : AcceptAnswer) (says : AcceptedAs x (accept f)) where
     a = found .0
 
     ok : IsAccepted a
-    ok = accepted f (found .1)
+    ok = file-accepted f (found .1)
 
     module _ (order : List ℕ) (r : Replayed) (made : ReplayOf (x .table) (x .list) order r) where
       same : ReplayedAs r (replayFrom a (initial a) 0 order)
@@ -74,7 +74,7 @@ module _ (f : File) (x : AcceptAnswer) (says : AcceptedAs x (accept f)) where
       -- what a complete order comes to
       outcome-ended : (c : Checked ℕ State) → replayFrom a (initial a) 0 order ≡ c → ReplayedAs r c → r .number ≡ 0
           → runAnswer (unwritten (passed (record { store = r .store; failed = r .failed }))) ≡ replayAnswer f order
-      unfolding replay endOf
+      unfolding replay orderEnd
       outcome-ended (refused n p) e h clean = let fault = replay-fault ok order (initial-invariant a) 0 e in absurd (omega (arith, fault .numbered, h .0))
       outcome-ended (passed s) e h clean =
           ap (λ (c : Checked ℕ End). runAnswer (unwritten c)) (λ i. passed (record { store = h .2 i; failed = h .3 i }))

@@ -1,5 +1,5 @@
--- The replay on snapshots is the replay of `Replay`: the first snapshot shows the state that an order starts from, and each byte keeps the
--- two together.
+-- The replay on snapshots is the replay of `Replay`: the first snapshot shows the state that an order starts from,
+-- and each byte keeps the two together.
 -- Assumes nothing.
 use mathlib.Core.Path.{_≡_, refl, sym, ap, _∙_}
 use mathlib.Core.Logic.{inl, inr}
@@ -16,7 +16,7 @@ use Rattle.notation.specs.Checked.{Checked, refused, passed}
 use Rattle.taskfile.specs.Laws.CheckSteps.{require-holds, require-fails, bind-refused, bind-goes}
 use Rattle.notation.specs.Laws.ListLaws.{upTo-length, getD-upTo}
 use Rattle.notation.specs.Lists.{any, from, upTo, if_then_else_}
-use Rattle.notation.specs.Laws.TestLaws.{decided}
+use Rattle.notation.specs.Laws.TestLaws.{test-decided}
 use Rattle.timing.specs.declared.Job.{Job}
 use Rattle.timing.specs.Accepted.{Accepted}
 use Rattle.timing.specs.Relations.{IsJob, base}
@@ -35,7 +35,7 @@ use Rattle.snapshots.specs.Code.SnapshotSteps.{ownerIn, stackOf, stepIn,
 use Rattle.timing.specs.Code.IsAccepted.{IsAccepted}
 use Rattle.order.specs.States.{State, initial, hasEnded, isActive, allEnded}
 use Rattle.order.specs.Laws.StepLaws.{step-keeps, no-flag}
-use Rattle.snapshots.specs.Code.ReplayParts.{EndsAs, replayedOf, ReplayedAs}
+use Rattle.snapshots.specs.Code.ReplayParts.{ReplayEndsAs, replayedOf, ReplayedAs}
 
 -- ---- one byte
 
@@ -152,11 +152,11 @@ module _ {a : Accepted} (ok : IsAccepted a) {program times : List ℕ} {locks : 
   -- ---- the replay
 
   replay-end : {p : Snapshot} {s : State} → Invariant a s → Shows a p s → (index : ℕ)
-      → EndsAs a (replayIn program times locks p index []) (replayFrom a s index [])
+      → ReplayEndsAs a (replayIn program times locks p index []) (replayFrom a s index [])
   unfolding replayIn replayFrom if_then_else_
   replay-end {p} {s} inv shows index =
       let same = finished-agreed ok lends inv shows in
-      elim (decided (allEnded a s)) [
+      elim (test-decided (allEnded a s)) [
         | inl e ↦ rw (require-holds (allEnded a s) 31 index (passed s) e, same ∙ e) (refl, refl, shows)
         | inr e ↦ rw (require-fails (allEnded a s) 31 index (passed s) e, same ∙ e) (refl, refl)
       ]
@@ -164,15 +164,15 @@ module _ {a : Accepted} (ok : IsAccepted a) {program times : List ℕ} {locks : 
   -- one byte keeps the two together
   replay-step : {p : Snapshot} {s : State} → Invariant a s → Shows a p s → (index byte : ℕ) (bytes : List ℕ)
       → ((after : State) → Invariant a after → Shows a (stepIn program times locks p byte .state) after
-      → EndsAs a (replayIn program times locks (stepIn program times locks p byte .state) (suc index) bytes) (replayFrom a after (suc index) bytes))
-      → EndsAs a (replayIn program times locks p index (byte ∷ bytes)) (replayFrom a s index (byte ∷ bytes))
+      → ReplayEndsAs a (replayIn program times locks (stepIn program times locks p byte .state) (suc index) bytes) (replayFrom a after (suc index) bytes))
+      → ReplayEndsAs a (replayIn program times locks p index (byte ∷ bytes)) (replayFrom a s index (byte ∷ bytes))
   replay-step {p} {s} inv shows index byte bytes onward =
       let same = finished-agreed ok lends inv shows in
       let agreed = step-agreed ok lends inv shows byte in
-      elim (decided (allEnded a s)) [
+      elim (test-decided (allEnded a s)) [
         | inl e ↦
             rw (extra a s index byte bytes e, replay-extra program times locks p index byte bytes (same ∙ e)) (refl, refl)
-        | inr e ↦ elim (decided (stepIn program times locks p byte .allowed)) [
+        | inr e ↦ elim (test-decided (stepIn program times locks p byte .allowed)) [
           | inl allowed ↦
               let made = agreed .0 allowed in
               rw (goes a s index byte bytes e (made .1), replay-on program times locks p index byte bytes (same ∙ e) allowed)
@@ -183,13 +183,13 @@ module _ {a : Accepted} (ok : IsAccepted a) {program times : List ℕ} {locks : 
       ]
 
   pub replay-agreed : (bytes : List ℕ) {p : Snapshot} {s : State} → Invariant a s → Shows a p s → (index : ℕ)
-      → EndsAs a (replayIn program times locks p index bytes) (replayFrom a s index bytes)
+      → ReplayEndsAs a (replayIn program times locks p index bytes) (replayFrom a s index bytes)
   replay-agreed [] inv shows index = replay-end inv shows index
   replay-agreed (byte ∷ bytes) inv shows index =
       replay-step inv shows index byte bytes (λ after kept shown. replay-agreed bytes kept shown (suc index))
 
 -- what is kept of an outcome
-pub replay-kept : (a : Accepted) (e : ReplayEnd) (c : Checked ℕ State) → EndsAs a e c → ReplayedAs (replayedOf e) c
+pub replay-kept : (a : Accepted) (e : ReplayEnd) (c : Checked ℕ State) → ReplayEndsAs a e c → ReplayedAs (replayedOf e) c
 unfolding replayedOf
 replay-kept a e (refused number place) ends = ends
 replay-kept a e (passed s) ends = (ends .0, ends .1, ends .2 .store, ends .2 .failed)
@@ -212,7 +212,7 @@ module _ {a : Accepted} (ok : IsAccepted a) where
   end-fault : (s : State) (index : ℕ) {number place : ℕ} → replayFrom a s index [] ≡ refused number place → Fault a s index number place
   unfolding replayFrom
   end-fault s index e =
-      elim (decided (allEnded a s)) [
+      elim (test-decided (allEnded a s)) [
         | inl ended ↦ absurd (let clash = sym (require-holds (allEnded a s) 31 index (passed s) ended) ∙ e in let z : _≡_ {A = ℕ} 0 1 = cc in omega arith)
         | inr early ↦ fault-here (sym (require-fails (allEnded a s) 31 index (passed s) early) ∙ e) (omega arith)
       ]
@@ -221,12 +221,12 @@ module _ {a : Accepted} (ok : IsAccepted a) where
       → ((after : State) → Invariant a after → replayFrom a after (suc index) bytes ≡ refused number place → Fault a after (suc index) number place)
       → (o : Option State) → step a s byte ≡ o → replayFrom a s index (byte ∷ bytes) ≡ refused number place → Fault a s index number place
   byte-fault {s} inv index byte bytes later none h e =
-      elim (decided (allEnded a s)) [
+      elim (test-decided (allEnded a s)) [
         | inl ended ↦ fault-here (sym (extra a s index byte bytes ended) ∙ e) (omega arith)
         | inr going ↦ fault-here (sym (illegal a s index byte bytes going h) ∙ e) (omega arith)
       ]
   byte-fault {s} inv index byte bytes later (some after) h e =
-      elim (decided (allEnded a s)) [
+      elim (test-decided (allEnded a s)) [
         | inl ended ↦ fault-here (sym (extra a s index byte bytes ended) ∙ e) (omega arith)
         | inr going ↦
             let fault = later after (step-keeps ok inv byte h) (sym (goes a s index byte bytes going h) ∙ e) in

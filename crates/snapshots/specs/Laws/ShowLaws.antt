@@ -1,5 +1,5 @@
--- Which table the lent arrays hold, which state a snapshot shows, and the first laws of both: the lent relations between jobs are those of
--- the table, and each task's first job not yet begun is where the snapshot says.
+-- Which table the lent arrays hold, which state a snapshot shows, and the first laws of both: the lent relations
+-- between jobs are those of the table, and each task's first job not yet begun is where the snapshot says.
 -- Assumes nothing.
 use mathlib.Core.Path.{_≡_, refl, sym, ap, _∙_}
 use Prim.Native.Nat.{ℕ, _≤_, _<_}
@@ -11,7 +11,7 @@ use lib.ListN.{length, getD}
 use lib.Dec.{ltb, eqb}
 use borrow.Author.Tests.{ltb-true, ltb-false, eqb-true, eq-eqb, ne-eqb, lt-ltb}
 use Rattle.taskfile.specs.declared.Ceilings.{Ceilings}
-use Rattle.notation.specs.Laws.TestLaws.{both, and-holds, and-second}
+use Rattle.notation.specs.Laws.TestLaws.{and-both, and-holds, and-second}
 use Rattle.timing.specs.declared.Job.{Job}
 use Rattle.timing.specs.Accepted.{Accepted}
 use Rattle.timing.specs.Relations.{IsJob, base, before, mayPreempt}
@@ -54,7 +54,7 @@ module _ {a : Accepted} (ok : IsAccepted a) {program times : List ℕ} {locks : 
   pub owned-job : (k x : ℕ) → k < 8 → ownedBy program k x ≡ true → IsJob a (record { 0 = x }) × (base a (record { 0 = x }) ≡ k)
   unfolding ownedBy
   owned-job k x lt h =
-      let tests = both (ltb x 32) _ h in
+      let tests = and-both (ltb x 32) _ h in
       let owner = eqb-true _ _ (tests .1) in
       elim (decLt x (length (a .jobs))) [
         | yes isJob ↦ (isJob, sym (lends .owner (record { 0 = x }) isJob) ∙ owner)

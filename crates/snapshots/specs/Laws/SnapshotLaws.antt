@@ -1,5 +1,5 @@
--- The step on a snapshot is the step of `Orders`: a byte leads from it to a snapshot that shows the state after that step, or is no step
--- of either; and a snapshot is at the end exactly if the state is.
+-- The step on a snapshot is the step of `Orders`: a byte leads from it to a snapshot that shows the state after that
+-- step, or is no step of either; and a snapshot is at the end exactly if the state is.
 -- Assumes nothing.
 use mathlib.Core.Path.{_≡_, refl, sym, ap, subst, _∙_}
 use mathlib.Core.Logic.{inl, inr}
@@ -18,7 +18,7 @@ use Rattle.taskfile.specs.declared.Ceilings.{Ceilings}
 use Rattle.notation.specs.Laws.ListLaws.{getD-upTo}
 use Rattle.notation.specs.Lists.{if_then_else_, any, member, from, upTo}
 use Rattle.notation.specs.Ordered.{Every}
-use Rattle.notation.specs.Laws.TestLaws.{both, and-holds, or-left, decided, not-both}
+use Rattle.notation.specs.Laws.TestLaws.{and-both, and-holds, or-left, test-decided, not-both}
 use Rattle.timing.specs.declared.Job.{Job}
 use Rattle.timing.specs.Accepted.{Accepted}
 use Rattle.timing.specs.Relations.{IsJob, jobAt, base}
@@ -28,7 +28,7 @@ use Rattle.machine.specs.Instructions.{perform, values}
 use Rattle.snapshots.specs.declared.Due.{Due}
 use Rattle.order.specs.declared.Frame.{Frame}
 use Rattle.snapshots.specs.Code.Snapshots.{Snapshot, Stepped}
-use Rattle.order.specs.Code.Invariant.{Running, hasBegun, Invariant}
+use Rattle.order.specs.Code.Invariant.{IsRunning, hasBegun, Invariant}
 use Rattle.timing.specs.Laws.JobFacts.{job-task, same-task}
 use Rattle.order.specs.Laws.LengthLaws.{body-short}
 use Rattle.order.specs.Orders.{Turn, turnOf, nextOf, performed, stepWith, step}
@@ -202,7 +202,7 @@ module _ {a : Accepted} (ok : IsAccepted a) {program times : List ℕ} {locks : 
     pub with-agreed : Agreed byte (stepWithIn program p (turn .frame) under (byte / 16) (byte % 16))
     unfolding if_then_else_
     with-agreed =
-        elim (decided offered) [
+        elim (test-decided offered) [
           | inl e ↦
               let effect = perform (nextOf a (turn .frame)) (byte % 16) (turn .frame .local) (s .store) in
               let is : stepWithIn program p (turn .frame) under (byte / 16) (byte % 16)
@@ -220,7 +220,7 @@ module _ {a : Accepted} (ok : IsAccepted a) {program times : List ℕ} {locks : 
   due-agreed : (byte : ℕ) (d : Due) → Turned ok lends inv shows (byte / 16) d → Agreed byte (dueStep program p (byte / 16) (byte % 16) d)
   unfolding dueStep if_then_else_ step bind
   due-agreed byte d turned =
-      elim (decided (d .due)) [
+      elim (test-decided (d .due)) [
         | inl e ↦
             let shown = turned .0 e in
             let is : stepWithIn program p (shown .turn .frame) (d .under) (byte / 16) (byte % 16) ≡ dueStep program p (byte / 16) (byte % 16) d =
@@ -231,7 +231,8 @@ module _ {a : Accepted} (ok : IsAccepted a) {program times : List ℕ} {locks : 
             subst (Agreed byte) (sym is) (λ h. absurd (true≢false (sym h)), λ h. rw (turned .1 e) refl)
       ]
 
-  -- a byte is an allowed step of the snapshot exactly if it is one of the state, and then leads to what shows the state after it
+  -- a byte is an allowed step of the snapshot exactly if it is one of the state, and then leads to what shows the
+  -- state after it
   pub step-agreed : (byte : ℕ) → Agreed byte (stepIn program times locks p byte)
   unfolding stepIn
   step-agreed byte = due-agreed byte (turnIn program times locks p (byte / 16)) (turn-turned ok lends inv shows (byte / 16))
@@ -241,18 +242,18 @@ module _ {a : Accepted} (ok : IsAccepted a) {program times : List ℕ} {locks : 
   module _ (finished : finishedIn program p ≡ true) where
     depth-none : p .depth ≡ 0
     unfolding finishedIn
-    depth-none = eqb-true (p .depth) 0 (both (eqb (p .depth) 0) _ finished .0)
+    depth-none = eqb-true (p .depth) 0 (and-both (eqb (p .depth) 0) _ finished .0)
 
     none-upcoming : (k : ℕ) → k < 8 → hasUpcoming program (p .upcoming) k ≡ false
     unfolding finishedIn upTo from
     none-upcoming k lt =
         ap (hasUpcoming program (p .upcoming)) (sym (getD-upTo 8 k 0 lt))
-        ∙ none-at (hasUpcoming program (p .upcoming)) (upTo 8) k 0 (not-true _ (both (eqb (p .depth) 0) _ finished .1)) lt
+        ∙ none-at (hasUpcoming program (p .upcoming)) (upTo 8) k 0 (not-true _ (and-both (eqb (p .depth) 0) _ finished .1)) lt
 
     -- a job that has not ended is active, or its task has one not yet begun
     finished-ended : (x : Job) → IsJob a x → hasEnded s x ≡ true
     unfolding hasBegun isActive any hasUpcoming
-    finished-ended x isX = elim (decided (hasEnded s x)) [
+    finished-ended x isX = elim (test-decided (hasEnded s x)) [
       | inl ended ↦ ended
       | inr unended ↦
           let idle : isActive s x ≡ false = ap (any (λ f. eqb (f .job .0) (x .0))) (no-active ok lends inv shows depth-none) in
@@ -266,7 +267,7 @@ module _ {a : Accepted} (ok : IsAccepted a) {program times : List ℕ} {locks : 
     ended-flat : p .depth ≡ 0
     ended-flat = elim (decLt 0 (p .depth)) [
       | yes deeper ↦
-          let top = subst (Every (Running a s)) (active-top ok lends inv shows deeper) (inv .running) .0 in
+          let top = subst (Every (IsRunning a s)) (active-top ok lends inv shows deeper) (inv .running) .0 in
           absurd (not-both _ (ended (topOf p .job) (top .job)) (top .unended))
       | no flat ↦ omega arith
     ]

@@ -1,5 +1,5 @@
--- The start on a snapshot is the start of `Orders`: where the test on the snapshot holds for a task, its first job not yet begun is the one
--- that may start, and where it fails none may.
+-- The start on a snapshot is the start of `Orders`: where the test on the snapshot holds for a task, its first job
+-- not yet begun is the one that may start, and where it fails none may.
 -- Assumes nothing.
 use mathlib.Core.Path.{_≡_, refl, sym, ap, _∙_}
 use mathlib.Core.Logic.{inl, inr}
@@ -17,7 +17,7 @@ use Rattle.notation.specs.Laws.ListLaws.{getD-upTo}
 use Rattle.notation.specs.Lists.{all, from, upTo}
 use Rattle.notation.specs.Laws.PairLaws.{every-imp}
 use Rattle.notation.specs.Ordered.{Every, Ordered}
-use Rattle.notation.specs.Laws.TestLaws.{both, and-holds, or-left, decided, not-both}
+use Rattle.notation.specs.Laws.TestLaws.{and-both, and-holds, or-left, test-decided, not-both}
 use Rattle.timing.specs.declared.Job.{Job}
 use Rattle.timing.specs.Accepted.{Accepted}
 use Rattle.timing.specs.Laws.RelationLaws.{before-says, before-or-preempted, before-one-way, preempt-says}
@@ -25,7 +25,7 @@ use Rattle.timing.specs.Relations.{IsJob, base, before, mayPreempt, jobNumbers}
 use Rattle.machine.specs.Instructions.{fresh}
 use Rattle.order.specs.declared.Frame.{Frame}
 use Rattle.snapshots.specs.Code.Snapshots.{Snapshot}
-use Rattle.order.specs.Code.Invariant.{Over, Running, hasBegun, Invariant}
+use Rattle.order.specs.Code.Invariant.{Over, IsRunning, hasBegun, Invariant}
 use Rattle.timing.specs.Laws.JobFacts.{jobs-few, same-task}
 use Rattle.order.specs.Orders.{startOf}
 use Rattle.notation.specs.Laws.QuantifierLaws.{all-at, any-at, none-at, at-none}
@@ -89,7 +89,7 @@ every-preempted : (a : Accepted) (y : Job) (fs : List Frame) → all (λ f. mayP
 unfolding all
 every-preempted a y [] h = tt
 every-preempted a y (f ∷ fs) h =
-    let parts = both (mayPreempt a y (f .job)) _ h in
+    let parts = and-both (mayPreempt a y (f .job)) _ h in
     (preempt-says a y (f .job) (parts .0) .higher, every-preempted a y fs (parts .1))
 
 module _ {a : Accepted} (ok : IsAccepted a) {program times : List ℕ} {locks : Ceilings} (lends : Lends a program times locks)
@@ -107,8 +107,8 @@ module _ {a : Accepted} (ok : IsAccepted a) {program times : List ℕ} {locks : 
         → IsJob a (upcoming k) × (base a (upcoming k) ≡ k) × (before a (upcoming k) y ≡ true)
     unfolding waitsFor
     waits-for k lt h =
-        let parts = both (ownedBy program k (upcoming k .0) && not (eqb (upcoming k .0) (y .0))) _ h in
-        let front = both (ownedBy program k (upcoming k .0)) _ (parts .0) in
+        let parts = and-both (ownedBy program k (upcoming k .0) && not (eqb (upcoming k .0) (y .0))) _ h in
+        let front = and-both (ownedBy program k (upcoming k .0)) _ (parts .0) in
         let owned = owned-job ok lends inv shows k (upcoming k .0) lt (front .0) in
         let apart = eqb-false _ _ (not-true _ (front .1)) in
         (owned .0, owned .1, sym (before-lent lends (upcoming k) y (owned .0) isY apart) ∙ parts .1)
@@ -121,7 +121,7 @@ module _ {a : Accepted} (ok : IsAccepted a) {program times : List ℕ} {locks : 
         (λ k lt. ap (waitsFor program times (p .upcoming) (y .0)) (getD-upTo 8 k 0 lt) ∙ none k lt)
       where
         none : (k : ℕ) → k < 8 → waitsFor program times (p .upcoming) (y .0) k ≡ false
-        none k lt = elim (decided (waitsFor program times (p .upcoming) (y .0) k)) [
+        none k lt = elim (test-decided (waitsFor program times (p .upcoming) (y .0) k)) [
           | inl h ↦ (let w = waits-for k lt h in absurd (first-waits ok lends inv shows k (w .0) (w .1) (ended-begun (upcoming k) (preceded (upcoming k) (w .0) (w .2)))))
           | inr h ↦ h
         ]
@@ -161,9 +161,9 @@ module _ {a : Accepted} (ok : IsAccepted a) {program times : List ℕ} {locks : 
     pub wait-all : waits program times (p .upcoming) (y .0) ≡ false → all (λ f. mayPreempt a y (f .job)) (s .active) ≡ true
         → (x : Job) → IsJob a x → before a x y ≡ true → hasEnded s x ≡ true
     unfolding hasBegun
-    wait-all free over x isX h = elim (decided (hasEnded s x)) [
+    wait-all free over x isX h = elim (test-decided (hasEnded s x)) [
       | inl ended ↦ ended
-      | inr running ↦ absurd (elim (decided (isActive s x)) [
+      | inr running ↦ absurd (elim (test-decided (isActive s x)) [
         | inl active ↦ over-active over x h active
         | inr idle ↦ not-both _ (for-first x isX h (rw (running, idle) refl)) (for-none free (base a x) (base-small ok x isX))
       ])
@@ -171,7 +171,7 @@ module _ {a : Accepted} (ok : IsAccepted a) {program times : List ℕ} {locks : 
 
     -- ---- the two tests agree
 
-    over-each : (fs : List Frame) → Every (Running a s) fs → all (goesOver program times locks (y .0)) fs
+    over-each : (fs : List Frame) → Every (IsRunning a s) fs → all (goesOver program times locks (y .0)) fs
         ≡ (all (λ f. mayPreempt a y (f .job)) fs && all (λ f. ltb (presentPriority a f) (base a y)) fs)
     unfolding all
     over-each [] runs = refl
@@ -197,13 +197,13 @@ module _ {a : Accepted} (ok : IsAccepted a) {program times : List ℕ} {locks : 
   unfolding startsIn mayStart hasBegun
   start-found i h =
       let y = upcoming i in
-      let e4 = both (ltb i 8 && ltb (p .depth) 8 && ownedBy program i (y .0) && not (waits program times (p .upcoming) (y .0))) _ h in
-      let e3 = both (ltb i 8 && ltb (p .depth) 8 && ownedBy program i (y .0)) _ (e4 .0) in
-      let e2 = both (ltb i 8 && ltb (p .depth) 8) _ (e3 .0) in
-      let e1 = both (ltb i 8) _ (e2 .0) in
+      let e4 = and-both (ltb i 8 && ltb (p .depth) 8 && ownedBy program i (y .0) && not (waits program times (p .upcoming) (y .0))) _ h in
+      let e3 = and-both (ltb i 8 && ltb (p .depth) 8 && ownedBy program i (y .0)) _ (e4 .0) in
+      let e2 = and-both (ltb i 8 && ltb (p .depth) 8) _ (e3 .0) in
+      let e1 = and-both (ltb i 8) _ (e2 .0) in
       let owned = owned-job ok lends inv shows i (y .0) (ltb-true i 8 (e1 .0)) (e2 .1) in
-      let over = both (all (λ f. mayPreempt a y (f .job)) (s .active)) _ (sym (goes-over-all y (owned .0) i (owned .1)) ∙ e4 .1) in
-      let unbegun : hasBegun s y ≡ false = elim (decided (hasBegun s y)) [ inl b ↦ absurd (first-waits ok lends inv shows i (owned .0) (owned .1) b) | inr b ↦ b ] in
+      let over = and-both (all (λ f. mayPreempt a y (f .job)) (s .active)) _ (sym (goes-over-all y (owned .0) i (owned .1)) ∙ e4 .1) in
+      let unbegun : hasBegun s y ≡ false = elim (test-decided (hasBegun s y)) [ inl b ↦ absurd (first-waits ok lends inv shows i (owned .0) (owned .1) b) | inr b ↦ b ] in
       let ended = wait-all y (owned .0) i (owned .1) (not-true _ (e3 .1)) (over .0) in (
         owned .0,
         owned .1,
@@ -249,14 +249,14 @@ module _ {a : Accepted} (ok : IsAccepted a) {program times : List ℕ} {locks : 
       ap (Option·map _)
       (only-job a (λ y. eqb (base a y) i && mayStart a s y) (upcoming i) (found .0)
       (and-holds (eqb (base a (upcoming i)) i) _ (eq-eqb _ _ (found .1)) (found .2))
-      (λ x isX t. (let tests = both (eqb (base a x) i) _ t in sym (found-start i x isX (eqb-true _ _ (tests .0)) (tests .1) .0))))
+      (λ x isX t. (let tests = and-both (eqb (base a x) i) _ t in sym (found-start i x isX (eqb-true _ _ (tests .0)) (tests .1) .0))))
 
   pub start-none : (i : ℕ) → startsIn program times locks p i ≡ false → startOf a s i ≡ none
   unfolding startOf
   start-none i h = ap (Option·map _) (no-job a (λ y. eqb (base a y) i && mayStart a s y) refused)
     where
       refused : (x : Job) → IsJob a x → (eqb (base a x) i && mayStart a s x) ≡ false
-      refused x isX = elim (decided (eqb (base a x) i && mayStart a s x)) [
-        | inl t ↦ (let tests = both (eqb (base a x) i) _ t in absurd (not-both _ (found-start i x isX (eqb-true _ _ (tests .0)) (tests .1) .1) h))
+      refused x isX = elim (test-decided (eqb (base a x) i && mayStart a s x)) [
+        | inl t ↦ (let tests = and-both (eqb (base a x) i) _ t in absurd (not-both _ (found-start i x isX (eqb-true _ _ (tests .0)) (tests .1) .1) h))
         | inr f ↦ f
       ]

@@ -1,5 +1,5 @@
--- Laws of the tests that decide a start: each test's answer from one of its parts, and, for the loops, that a test of the
--- elements of a list's front from k on goes by its answer at k.
+-- Laws of the tests that decide a start: each test's answer from one of its parts, and, for the loops, that a test of
+-- the elements of a list's front from k on goes by its answer at k.
 -- Assumes nothing.
 use Prim.Native.Nat.{ℕ, _+_, _≤_, _<_}
 use native.Mathlib.Numerals.{add-one}
@@ -13,12 +13,12 @@ use lib.ListN.{length, getD, take, drop, length-take, drop-of-length-le}
 use lib.Seq.{drop-cons, getD-take, length-take-le}
 use Rattle.taskfile.specs.declared.Ceilings.{Ceilings}
 use Rattle.notation.specs.Lists.{if_then_else_, all}
-use Rattle.notation.specs.Laws.TestLaws.{both, and-holds, and-first, and-second, and-last}
+use Rattle.notation.specs.Laws.TestLaws.{and-both, and-holds, and-first, and-second, and-last}
 use Rattle.machine.specs.Held.{priority}
 use Rattle.machine.specs.Instructions.{fresh}
 use Rattle.order.specs.declared.Frame.{Frame}
 use Rattle.snapshots.specs.Code.Snapshots.{Snapshot}
-use Rattle.snapshots.specs.Code.SnapshotSteps.{Program, Times, ownerIn, arrivalIn, beforeIn, preemptsIn, ownedBy, waitsFor, waits, goesOver, stackOf, nobody, startsIn, startIn}
+use Rattle.snapshots.specs.Code.SnapshotSteps.{Program, LentTimes, ownerIn, arrivalIn, beforeIn, preemptsIn, ownedBy, waitsFor, waits, goesOver, stackOf, nobody, startsIn, startIn}
 
 -- ---- the loops
 
@@ -48,9 +48,9 @@ module _ {A : Type 0} (test : A → Bool) (d : A) (l : List A) (k n : ℕ) where
 -- what a task owns is a job
 pub owned-job : (program : Program) (k x : ℕ) → ownedBy program k x ≡ true → x < 32
 unfolding ownedBy
-owned-job program k x h = ltb-true x 32 (both (ltb x 32) (eqb (ownerIn program x) k) h .0)
+owned-job program k x h = ltb-true x 32 (and-both (ltb x 32) (eqb (ownerIn program x) k) h .0)
 
-module _ (program : Program) (times : Times) where
+module _ (program : Program) (times : LentTimes) where
   -- a job that did not arrive later preempts nothing
   pub preempts-early : (y x : ℕ) → arrivalIn times y ≤ arrivalIn times x → preemptsIn program times y x ≡ false
   unfolding preemptsIn
@@ -80,7 +80,7 @@ module _ (program : Program) (times : Times) where
 
 -- ---- what it may start over
 
-module _ (program : Program) (times : Times) (locks : Ceilings) (y : ℕ) (f : Frame) where
+module _ (program : Program) (times : LentTimes) (locks : Ceilings) (y : ℕ) (f : Frame) where
   pub over-no-job : 32 ≤ f .job .0 → goesOver program times locks y f ≡ false
   unfolding goesOver
   over-no-job h =
@@ -125,7 +125,7 @@ five-last : (a b c d e : Bool) → a ≡ true → b ≡ true → c ≡ true → 
 five-last a b c d e ha hb hc hd =
     and-second (a && b && c && d) e (and-holds (a && b && c) d (and-holds (a && b) c (and-holds a b ha hb) hc) hd)
 
-module _ (program : Program) (times : Times) (locks : Ceilings) (p : Snapshot) (i : ℕ) where
+module _ (program : Program) (times : LentTimes) (locks : Ceilings) (p : Snapshot) (i : ℕ) where
   abbrev y : ℕ
   y = getD (p .upcoming) i 0
 

@@ -1,4 +1,5 @@
--- Laws of the step in two parts: a job with a value on offer is inside its body, and the two parts are what the step does.
+-- Laws of the step in two parts: a job with a value on offer is inside its body, and the two parts are what the step
+-- does.
 -- Assumes nothing.
 use mathlib.Core.Path.{_≡_, refl, sym, _∙_}
 use Prim.Native.Nat.{ℕ, _<_}
@@ -6,7 +7,7 @@ use mathlib.Core.Bool.{Bool, true, false, not}
 use lib.Dec.{ltb}
 use borrow.Author.Tests.{ltb-true, not-false}
 use Rattle.notation.specs.Lists.{if_then_else_}
-use Rattle.notation.specs.Laws.TestLaws.{both}
+use Rattle.notation.specs.Laws.TestLaws.{and-both}
 use Rattle.order.specs.declared.Frame.{Frame}
 use Rattle.snapshots.specs.Code.Snapshots.{Snapshot}
 use Rattle.snapshots.specs.Code.SnapshotSteps.{Program, stepWithIn, offeredIn, madeIn}
@@ -14,7 +15,7 @@ use Rattle.snapshots.specs.Code.SnapshotSteps.{Program, stepWithIn, offe
 -- a job that has a value on offer is inside its body
 pub offered-inside : (program : Program) (f : Frame) (i v : ℕ) → offeredIn program f i v ≡ true → f .local .next < 16
 unfolding offeredIn
-offered-inside program f i v h = ltb-true (f .local .next) 16 (both (ltb (f .local .next) 16) _ h .0)
+offered-inside program f i v h = ltb-true (f .local .next) 16 (and-both (ltb (f .local .next) 16) _ h .0)
 
 pub offered-found : (program : Program) (f : Frame) (i v : ℕ) {b : Bool} → b ≡ offeredIn program f i v → not b ≡ false
     → f .local .next < 16

@@ -1,5 +1,5 @@
--- The turn on a snapshot is the turn of `Orders`: that of the active job started last if it is of the task, and else that of a job that may
--- start, if there is one.
+-- The turn on a snapshot is the turn of `Orders`: that of the active job started last if it is of the task, and else
+-- that of a job that may start, if there is one.
 -- Assumes nothing.
 use mathlib.Core.Path.{_≡_, refl, sym, ap, subst, _∙_}
 use mathlib.Core.Logic.{inl, inr}
@@ -16,14 +16,14 @@ use borrow.Author.Tests.{ltb-true, ne-eqb, lt-ltb}
 use Rattle.taskfile.specs.declared.Ceilings.{Ceilings}
 use Rattle.notation.specs.Lists.{if_then_else_}
 use Rattle.notation.specs.Ordered.{Every}
-use Rattle.notation.specs.Laws.TestLaws.{both, and-holds, decided, not-both, other-fails}
+use Rattle.notation.specs.Laws.TestLaws.{and-both, and-holds, test-decided, not-both, other-fails}
 use Rattle.timing.specs.declared.Job.{Job}
 use Rattle.timing.specs.Accepted.{Accepted}
 use Rattle.timing.specs.Relations.{IsJob, base}
 use Rattle.machine.specs.Instructions.{fresh}
 use Rattle.snapshots.specs.declared.Due.{Due}
 use Rattle.snapshots.specs.Code.Snapshots.{Snapshot}
-use Rattle.order.specs.Code.Invariant.{Running, Invariant}
+use Rattle.order.specs.Code.Invariant.{IsRunning, Invariant}
 use Rattle.timing.specs.Laws.JobFacts.{jobs-few}
 use Rattle.order.specs.Orders.{Turn, startOf, turnAmong, turnOf}
 use Rattle.timing.specs.Laws.BaseLaws.{base-small}
@@ -72,15 +72,15 @@ module _ {a : Accepted} (ok : IsAccepted a) {program times : List ℕ} {locks : 
   unfolding startsIn
   start-depth i h =
       let y = upcoming i .0 in
-      let e4 = both (ltb i 8 && ltb (p .depth) 8 && ownedBy program i y && not (waits program times (p .upcoming) y)) _ h in
-      let e3 = both (ltb i 8 && ltb (p .depth) 8 && ownedBy program i y) _ (e4 .0) in
-      let e2 = both (ltb i 8 && ltb (p .depth) 8) _ (e3 .0) in
-      ltb-true (p .depth) 8 (both (ltb i 8) _ (e2 .0) .1)
+      let e4 = and-both (ltb i 8 && ltb (p .depth) 8 && ownedBy program i y && not (waits program times (p .upcoming) y)) _ h in
+      let e3 = and-both (ltb i 8 && ltb (p .depth) 8 && ownedBy program i y) _ (e4 .0) in
+      let e2 = and-both (ltb i 8 && ltb (p .depth) 8) _ (e3 .0) in
+      ltb-true (p .depth) 8 (and-both (ltb i 8) _ (e2 .0) .1)
 
   start-turned : (i : ℕ) → turnOf a s i ≡ startOf a s i → Turned i (startIn program times locks p i)
   unfolding startIn if_then_else_ nobody stackOf
   start-turned i through =
-      elim (decided (startsIn program times locks p i)) [
+      elim (test-decided (startsIn program times locks p i)) [
         | inl e ↦
             let d : Due = record { due = true; frame = record { job = upcoming i; local = fresh }; under = p .depth } in
             let is : startIn program times locks p i ≡ d = rw e refl in
@@ -94,7 +94,7 @@ module _ {a : Accepted} (ok : IsAccepted a) {program times : List ℕ} {locks : 
 
   -- the active job started last is one of the table's
   top-job : 0 < p .depth → IsJob a (topOf p .job)
-  top-job lt = subst (Every (Running a s)) (active-top lt) (inv .running) .0 .job
+  top-job lt = subst (Every (IsRunning a s)) (active-top lt) (inv .running) .0 .job
 
   top-owned : (i : ℕ) → 0 < p .depth → ownedBy program i (topOf p .job .0) ≡ eqb (base a (topOf p .job)) i
   unfolding ownedBy
@@ -119,8 +119,8 @@ module _ {a : Accepted} (ok : IsAccepted a) {program times : List ℕ} {locks : 
   runs-turned : (i : ℕ) → runsIn program p i ≡ true → Turned i (record { due = true; frame = topOf p; under = p .depth - 1 })
   unfolding runsIn if_then_else_ topTurn
   runs-turned i h =
-      let tests = both (ltb i 8 && ltb 0 (p .depth)) _ h in
-      let lt = ltb-true 0 (p .depth) (both (ltb i 8) _ (tests .0) .1) in
+      let tests = and-both (ltb i 8 && ltb 0 (p .depth)) _ h in
+      let lt = ltb-true 0 (p .depth) (and-both (ltb i 8) _ (tests .0) .1) in
       let own : eqb (base a (topOf p .job)) i ≡ true = sym (top-owned i lt) ∙ tests .1 in
       shown-turned i _ refl
       (record { turn = topTurn; due = turn-top i lt ∙ rw own refl; frame = refl; under = refl; room = omega (arith, shows .depth) })
@@ -146,7 +146,7 @@ module _ {a : Accepted} (ok : IsAccepted a) {program times : List ℕ} {locks : 
   pub turn-turned : (i : ℕ) → Turned i (turnIn program times locks p i)
   unfolding turnIn if_then_else_
   turn-turned i =
-      elim (decided (runsIn program p i)) [
+      elim (test-decided (runsIn program p i)) [
         | inl e ↦
             let is : turnIn program times locks p i ≡ record { due = true; frame = topOf p; under = p .depth - 1 } = rw e refl in
             subst (Turned i) (sym is) (runs-turned i e)

@@ -1,5 +1,5 @@
--- Laws of the turn and the step on a snapshot, a case of their definitions each: what the tests that the code has made come to, and what a
--- turn that is due says of its numbers.
+-- Laws of the turn and the step on a snapshot, a case of their definitions each: what the tests that the code has
+-- made come to, and what a turn that is due says of its numbers.
 -- Assumes nothing.
 use mathlib.Core.Path.{_≡_, refl, sym, ap, subst, _∙_}
 use mathlib.Core.Logic.{inl, inr}
@@ -12,7 +12,7 @@ use lib.Dec.{ltb}
 use borrow.Author.Tests.{ltb-true, lt-ltb, le-ltb, not-true, not-false}
 use Rattle.taskfile.specs.declared.Ceilings.{Ceilings}
 use Rattle.notation.specs.Lists.{if_then_else_}
-use Rattle.notation.specs.Laws.TestLaws.{both, and-holds, and-first, and-second, and-last, decided}
+use Rattle.notation.specs.Laws.TestLaws.{and-both, and-holds, and-first, and-second, and-last, test-decided}
 use Rattle.machine.specs.Instructions.{fresh}
 use Rattle.snapshots.specs.declared.Due.{Due}
 use Rattle.snapshots.specs.Code.Snapshots.{Snapshot, Stepped}
@@ -36,14 +36,14 @@ module _ (program : List ℕ) (p : Snapshot) (i : ℕ) where
 
   owned-low : (x : ℕ) → ownedBy program i x ≡ true → x < 32
   unfolding ownedBy
-  owned-low x h = ltb-true x 32 (both (ltb x 32) _ h .0)
+  owned-low x h = ltb-true x 32 (and-both (ltb x 32) _ h .0)
 
   -- who runs is active, and a job of one of the eight tasks
   pub runs-says : runsIn program p i ≡ true → (i < 8) × (0 < p .depth) × (topOf p .job .0 < 32)
   unfolding runsIn
   runs-says h =
-      let tests = both (ltb i 8 && ltb 0 (p .depth)) _ h in
-      let front = both (ltb i 8) _ (tests .0) in
+      let tests = and-both (ltb i 8 && ltb 0 (p .depth)) _ h in
+      let front = and-both (ltb i 8) _ (tests .0) in
       (ltb-true i 8 (front .0), ltb-true 0 (p .depth) (front .1), owned-low (topOf p .job .0) (tests .1))
 
   pub runs-deep : {b : Bool} → b ≡ runsIn program p i → b ≡ true → 1 ≤ p .depth
@@ -57,10 +57,10 @@ module _ (program times : List ℕ) (locks : Ceilings) (p : Snapshot) (i : ℕ) 
   unfolding startsIn
   starts-says h =
       let y = getD (p .upcoming) i 0 in
-      let e4 = both (ltb i 8 && ltb (p .depth) 8 && ownedBy program i y && not (waits program times (p .upcoming) y)) _ h in
-      let e3 = both (ltb i 8 && ltb (p .depth) 8 && ownedBy program i y) _ (e4 .0) in
-      let e2 = both (ltb i 8 && ltb (p .depth) 8) _ (e3 .0) in
-      let e1 = both (ltb i 8) _ (e2 .0) in
+      let e4 = and-both (ltb i 8 && ltb (p .depth) 8 && ownedBy program i y && not (waits program times (p .upcoming) y)) _ h in
+      let e3 = and-both (ltb i 8 && ltb (p .depth) 8 && ownedBy program i y) _ (e4 .0) in
+      let e2 = and-both (ltb i 8 && ltb (p .depth) 8) _ (e3 .0) in
+      let e1 = and-both (ltb i 8) _ (e2 .0) in
       (ltb-true i 8 (e1 .0), ltb-true (p .depth) 8 (e1 .1), owned-low program p i y (e2 .1))
 
   abbrev Bounded : Due → Type 0
@@ -69,7 +69,7 @@ module _ (program times : List ℕ) (locks : Ceilings) (p : Snapshot) (i : ℕ) 
   start-bounded : Bounded (startIn program times locks p i)
   unfolding startIn if_then_else_ nobody
   start-bounded =
-      elim (decided (startsIn program times locks p i)) [
+      elim (test-decided (startsIn program times locks p i)) [
         | inl e ↦
             let is : startIn program times locks p i
             ≡ record { due = true; frame = record { job = record { 0 = getD (p .upcoming) i 0 }; local = fresh }; under = p .depth } = rw e refl in
@@ -82,7 +82,7 @@ module _ (program times : List ℕ) (locks : Ceilings) (p : Snapshot) (i : ℕ) 
   turn-bounded : p .depth ≤ 8 → Bounded (turnIn program times locks p i)
   unfolding turnIn if_then_else_
   turn-bounded le =
-      elim (decided (runsIn program p i)) [
+      elim (test-decided (runsIn program p i)) [
         | inl e ↦
             let says = runs-says program p i e in
             let is : turnIn program times locks p i ≡ record { due = true; frame = topOf p; under = p .depth - 1 } = rw e refl in

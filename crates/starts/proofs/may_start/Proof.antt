@@ -2,7 +2,7 @@
 -- Assumes nothing.
 use mathlib.Core.Path.{sym}
 use Rattle.snapshots.specs.Laws.StartLaws.{starts-no-task}
-use Rattle.states.specs.Laws.StateReads.{owned-job, starts-full, starts-unowned, starts-waiting, starts-over}
+use Rattle.states.specs.Laws.StateReads.{owned-read, starts-full, starts-unowned, starts-waiting, starts-over}
 use borrow.Author.Needs.{needs}
 use Rattle.starts.proofs.may_start.Statement.{statement}
 use Rattle.starts.proofs.may_start.Tie as tie
@@ -32,7 +32,7 @@ returns-3 : tie.Need-returns-3
 returns-3 c = starts-unowned _ _ _ _ _ (c .before .before .before .before .before .before .if1 .left) (c .before .owned-by .ensures) (c .if3 .taken)
 
 must-wait-requires : tie.Need-must-wait-requires
-must-wait-requires c κs = owned-job _ _ _ (c .before .owned-by .ensures) (c .if3 .left)
+must-wait-requires c κs = owned-read _ _ _ (c .before .owned-by .ensures) (c .if3 .left)
 
 returns-4 : tie.Need-returns-4
 returns-4 c =
@@ -43,7 +43,7 @@ goes-over-all-requires : tie.Need-goes-over-all-requires
 goes-over-all-requires c κs =
     let owned = c .before .before in
     let start = owned .before .before .before .before .before .before .before .before .pre in
-    (start .0, owned-job _ _ _ (owned .before .owned-by .ensures) (owned .if3 .left), start .1)
+    (start .0, owned-read _ _ _ (owned .before .owned-by .ensures) (owned .if3 .left), start .1)
 
 returns-5 : tie.Need-returns-5
 returns-5 c =

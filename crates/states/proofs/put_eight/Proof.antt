@@ -1,18 +1,18 @@
--- `states::put_eight` meets its contract. The loop's invariant: the first k bytes are written. The measure is the number of
--- bytes left.
+-- `states::put_eight` meets its contract. The loop's invariant: the first k bytes are written. The measure is the
+-- number of bytes left.
 -- Assumes nothing.
 use Prim.Native.Nat.{_-_, _≤_}
 use native.Mathlib.Omega.{arith}
 use mathlib.Core.Path.{_≡_}
 use lib.ListN.{length, take}
 use borrow.Author.Needs.{needs}
-use Rattle.states.specs.Code.StateBytes.{Written}
+use Rattle.states.specs.Code.StateBytes.{Replaced}
 use Rattle.states.specs.Laws.StateWrites.{written-none, written-next, written-all}
 use Rattle.states.proofs.put_eight.Statement.{statement}
 use Rattle.states.proofs.put_eight.Tie as tie
 
 abbrev Inv-loop : tie.InvT-loop
-Inv-loop s₀ at new k₀ s k = (k ≤ 8) × Written s₀ s at (take k new)
+Inv-loop s₀ at new k₀ s k = (k ≤ 8) × Replaced s₀ s at (take k new)
 
 abbrev μ-loop : tie.MeasureT-loop
 μ-loop s₀ at new k₀ s k = 8 - k

@@ -55,13 +55,13 @@ pub record IsState (bytes : List ℕ) : Type 0 where
   pub few : getD bytes 48 0 ≤ 8
 
 -- the bytes from a on were replaced by new ones, and no others
-pub record Written (before after : List ℕ) (a : ℕ) (new : List ℕ) : Type 0 where
+pub record Replaced (before after : List ℕ) (a : ℕ) (new : List ℕ) : Type 0 where
   pub same : length after ≡ length before
   pub inside : (k : ℕ) → k < length new → getD after (a + k) 0 ≡ getD new k 0
   pub outside : (k : ℕ) → (k < a) ⊎ (a + length new ≤ k) → getD after k 0 ≡ getD before k 0
 
 -- the active job at position k was replaced, and nothing else
-pub record FrameWritten (before after : List ℕ) (k : ℕ) (f : Frame) : Type 0 where
+pub record FrameReplaced (before after : List ℕ) (k : ℕ) (f : Frame) : Type 0 where
   pub same : length after ≡ length before
   pub inside : frameIn after k ≡ f
   pub outside : (j : ℕ) → (j < frameAt k) ⊎ (frameAt k + 16 ≤ j) → getD after j 0 ≡ getD before j 0

@@ -9,7 +9,7 @@ use lib.ListN.{length, getD}
 use Rattle.timing.specs.declared.Job.{Job}
 use Rattle.machine.specs.declared.Local.{Local}
 use Rattle.order.specs.declared.Frame.{Frame}
-use Rattle.states.specs.Code.StateBytes.{bytesAt, frameAt, frameIn, Written, FrameWritten}
+use Rattle.states.specs.Code.StateBytes.{bytesAt, frameAt, frameIn, Replaced, FrameReplaced}
 use Rattle.states.specs.Laws.StateWrites.{bytes-new, bytes-same}
 use Rattle.notation.specs.Laws.TabulateLaws.{values-of, same-values}
 
@@ -48,8 +48,8 @@ own-register x low high registers (suc (suc (suc (suc k)))) lt = absurd (omega a
 
 -- these written, and then its locks, it is the active job at position k
 pub frame-written : (before own after : List ℕ) (k : ℕ) (x : Job) (local : Local) (low high : ℕ) → low + 256 * high ≡ local .next
-    → length (local .registers) ≡ 4 → length (local .held) ≡ 8 → Written before own (64 + 16 * k) (ownBytes (x .0) low high (local .registers))
-    → Written own after (64 + 16 * k + 8) (local .held) → FrameWritten before after k (record { job = x; local = local })
+    → length (local .registers) ≡ 4 → length (local .held) ≡ 8 → Replaced before own (64 + 16 * k) (ownBytes (x .0) low high (local .registers))
+    → Replaced own after (64 + 16 * k + 8) (local .held) → FrameReplaced before after k (record { job = x; local = local })
 unfolding frameAt ownBytes bytesAt
 frame-written before own after k x local low high next four eight first second = record {
   same = second .same ∙ first .same;
@@ -75,7 +75,7 @@ frame-written before own after k x local low high next four eight first second =
 
 -- the low byte of its next position first
 pub frame-put : (before own after : List ℕ) (k : ℕ) (x : Job) (local : Local) → length (local .registers) ≡ 4 → length (local .held) ≡ 8
-    → Written before own (64 + 16 * k) (ownBytes (x .0) (local .next % 256) (local .next / 256) (local .registers))
-    → Written own after (64 + 16 * k + 8) (local .held) → FrameWritten before after k (record { job = x; local = local })
+    → Replaced before own (64 + 16 * k) (ownBytes (x .0) (local .next % 256) (local .next / 256) (local .registers))
+    → Replaced own after (64 + 16 * k + 8) (local .held) → FrameReplaced before after k (record { job = x; local = local })
 frame-put before own after k x local four eight first second =
     frame-written before own after k x local (local .next % 256) (local .next / 256) (omega arith) four eight first second

@@ -1,5 +1,5 @@
--- Laws of reading a state's bytes: what each part of the snapshot that they hold is, and what the tests that decide a turn come to when
--- they are made on the bytes.
+-- Laws of reading a state's bytes: what each part of the snapshot that they hold is, and what the tests that decide a
+-- turn come to when they are made on the bytes.
 -- Assumes nothing.
 use mathlib.Core.Path.{_≡_, refl, sym, ap, _∙_}
 use Prim.Native.Nat.{ℕ, _+_, _-_, _*_, _≤_, _<_}
@@ -88,8 +88,8 @@ module _ (program times bytes : List ℕ) (y k : ℕ) (small : k < 8) where
       ∙ sym (start.waits-other program times _ y k (owns-first ∙ sym owned ∙ not-false b h) (λ same. apart (sym e ∙ same)))
 
 -- what a task was found to own is a job
-pub owned-job : (program : List ℕ) (k x : ℕ) {b : Bool} → b ≡ ownedBy program k x → not b ≡ false → x < 32
-owned-job program k x {b} owned h = start.owned-job program k x (sym owned ∙ not-false b h)
+pub owned-read : (program : List ℕ) (k x : ℕ) {b : Bool} → b ≡ ownedBy program k x → not b ≡ false → x < 32
+owned-read program k x {b} owned h = start.owned-job program k x (sym owned ∙ not-false b h)
 
 -- ---- what it may start over
 

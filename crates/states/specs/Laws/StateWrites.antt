@@ -1,4 +1,5 @@
--- Laws of the bytes of a state that are written: what a list holds where it was replaced, and that elsewhere it holds what it held.
+-- Laws of the bytes of a state that are written: what a list holds where it was replaced, and that elsewhere it holds
+-- what it held.
 -- Assumes nothing.
 use mathlib.Core.Path.{_≡_, refl, sym, ap, subst, _∙_}
 use mathlib.Core.Logic.{inl, inr}
@@ -8,12 +9,12 @@ use native.Mathlib.Omega.{arith}
 use mathlib.Core.List.{List}
 use lib.ListN.{length, getD, set, take, length-set}
 use lib.Seq.{getD-set-same, getD-set-other, getD-take, length-take-le, take-all}
-use Rattle.states.specs.Code.StateBytes.{bytesAt, Written}
+use Rattle.states.specs.Code.StateBytes.{bytesAt, Replaced}
 use Rattle.notation.specs.Laws.TabulateLaws.{values-of, same-values, set-values}
 
 -- the first k bytes of `new` written, and then the next
-pub written-next : (before now : List ℕ) (at : ℕ) (new : List ℕ) (k : ℕ) → Written before now at (take k new)
-    → k < length new → at + k < length before → Written before (set now (at + k) (getD new k 0)) at (take (k + 1) new)
+pub written-next : (before now : List ℕ) (at : ℕ) (new : List ℕ) (k : ℕ) → Replaced before now at (take k new)
+    → k < length new → at + k < length before → Replaced before (set now (at + k) (getD new k 0)) at (take (k + 1) new)
 written-next before now at new k done lt room = record {
   same = length-set now (at + k) (getD new k 0) ∙ done .same;
   inside = inside;
@@ -45,18 +46,18 @@ written-next before now at new k done lt room = record {
         ]
 
 -- none of them
-pub written-none : (before : List ℕ) (at : ℕ) (new : List ℕ) → Written before before at (take 0 new)
+pub written-none : (before : List ℕ) (at : ℕ) (new : List ℕ) → Replaced before before at (take 0 new)
 written-none before at new = record { same = refl; inside = λ k few. absurd (omega arith); outside = λ k away. refl }
 
 -- and all of them
-pub written-all : (before now : List ℕ) (at : ℕ) (new : List ℕ) (k : ℕ) → Written before now at (take k new) → length new ≤ k
-    → Written before now at new
-written-all before now at new k done all = subst (Written before now at) (take-all k new all) done
+pub written-all : (before now : List ℕ) (at : ℕ) (new : List ℕ) (k : ℕ) → Replaced before now at (take k new) → length new ≤ k
+    → Replaced before now at new
+written-all before now at new k done all = subst (Replaced before now at) (take-all k new all) done
 
 -- ---- what stands where
 
 -- the new bytes stand where they were written
-pub bytes-new : (before after : List ℕ) (at : ℕ) (new : List ℕ) (n : ℕ) → length new ≡ n → Written before after at new → bytesAt after at n ≡ new
+pub bytes-new : (before after : List ℕ) (at : ℕ) (new : List ℕ) (n : ℕ) → length new ≡ n → Replaced before after at new → bytesAt after at n ≡ new
 unfolding bytesAt
 bytes-new before after at new n whole done =
     same-values (λ k. getD after (at + k) 0) (λ k. getD new k 0) n (λ k lt. done .inside k (omega arith)) ∙ values-of new n whole

@@ -1,5 +1,5 @@
--- `steps::put_effect` meets its contract: the effect is noted, whether it failed or not, and then the job leaves the active ones
--- or stays one of them.
+-- `steps::put_effect` meets its contract: the effect is noted, whether it failed or not, and then the job leaves the
+-- active ones or stays one of them.
 -- Assumes nothing.
 use mathlib.Core.Path.{_≡_, sym, subst, _∙_}
 use mathlib.Core.Logic.{inl, inr}

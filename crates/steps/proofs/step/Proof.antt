@@ -1,4 +1,5 @@
--- `steps::step` meets its contract: where the turn is due and the value on offer its job steps, and else nothing changes.
+-- `steps::step` meets its contract: where the turn is due and the value on offer its job steps, and else nothing
+-- changes.
 -- Assumes nothing.
 use borrow.Author.Tests.{not-false}
 use borrow.Author.Needs.{needs}

@@ -1,4 +1,5 @@
--- `steps::step_with` meets its contract: the effect that it writes is the one of the definition's instruction on the state's store.
+-- `steps::step_with` meets its contract: the effect that it writes is the one of the definition's instruction on the
+-- state's store.
 -- Assumes nothing.
 use borrow.Author.Needs.{needs}
 use Rattle.steps.specs.Laws.StepCases.{made-so}

@@ -15,7 +15,7 @@ use Rattle.timing.specs.declared.Job.{Job}
 use Rattle.machine.specs.declared.Effect.{Effect}
 use Rattle.machine.specs.Ends.{flagged}
 use Rattle.snapshots.specs.Code.SnapshotSteps.{afterIn}
-use Rattle.states.specs.Code.StateBytes.{bytesAt, frameAt, frameIn, flagIn, snapshotIn, IsState, Written, FrameWritten}
+use Rattle.states.specs.Code.StateBytes.{bytesAt, frameAt, frameIn, flagIn, snapshotIn, IsState, Replaced, FrameReplaced}
 use Rattle.states.specs.Laws.StateWrites.{bytes-new, bytes-same, bytes-set}
 use Rattle.notation.specs.Laws.TabulateLaws.{same-values, set-values}
 use Rattle.states.specs.Laws.FrameWrites.{frame-same}
@@ -31,7 +31,7 @@ pub record Noted (before after : List ℕ) (x i : ℕ) (effect : Effect) : Type 
   pub rest : (k : ℕ) → 48 ≤ k → getD after k 0 ≡ getD before k 0
 
 module _ (before stored : List ℕ) (x i : ℕ) (effect : Effect) (whole : length before ≡ 192) (eight : length (effect .store) ≡ 8)
-    (done : Written before stored 0 (effect .store)) (task : i < 8) where
+    (done : Replaced before stored 0 (effect .store)) (task : i < 8) where
   abbrev begun : List ℕ
   begun = set stored (8 + i) (x + 1)
 
@@ -120,7 +120,7 @@ module _ {before noted : List ℕ} {x : Job} {i : ℕ} {effect : Effect} (whole 
 
   -- it goes on
   pub effect-goes-on : effect .ended ≡ false → (after : List ℕ)
-      → FrameWritten (set noted 48 (under + 1)) after under (record { job = x; local = effect .local })
+      → FrameReplaced (set noted 48 (under + 1)) after under (record { job = x; local = effect .local })
       → (snapshotIn after ≡ afterIn (snapshotIn before) x under i effect) × IsState after
   unfolding frameAt if_then_else_
   effect-goes-on goes after placed = (

@@ -1,5 +1,5 @@
--- `tables::chain_at` meets its contract. The loop's invariant is `Followed`: the array holds the records passed. The measure is
--- how many more may come.
+-- `tables::chain_at` meets its contract. The loop's invariant is `Followed`: the array holds the records passed. The
+-- measure is how many more may come.
 -- Assumes nothing.
 use Prim.Native.Nat.{_-_}
 use native.Mathlib.Omega.{arith}

@@ -1,5 +1,5 @@
--- `tables::entries_at` meets its contract. The loop's invariant is `Filled`: the array holds the entry of each record passed. The
--- measure is how many are left.
+-- `tables::entries_at` meets its contract. The loop's invariant is `Filled`: the array holds the entry of each record
+-- passed. The measure is how many are left.
 -- Assumes nothing.
 use Prim.Native.Nat.{_-_}
 use native.Mathlib.Omega.{arith}

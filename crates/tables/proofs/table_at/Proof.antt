@@ -1,5 +1,5 @@
--- `tables::table_at` meets its contract, from what the functions that read its parts ensure; the tasks' entries are mapped from
--- their records in one step there and in two in the definition.
+-- `tables::table_at` meets its contract, from what the functions that read its parts ensure; the tasks' entries are
+-- mapped from their records in one step there and in two in the definition.
 -- Assumes nothing.
 use borrow.Author.Needs.{needs}
 use Prim.Native.Nat.{ℕ}

@@ -1,5 +1,5 @@
--- What a table that was loaded is like: its arrays are full, its store has eight bytes, no body is empty, and a Pick offers at
--- most 16 values.
+-- What a table that was loaded is like: its arrays are full, its store has eight bytes, no body is empty, and a Pick
+-- offers at most 16 values.
 -- Assumes nothing.
 use mathlib.Core.Path.{_≡_}
 use Prim.Native.Nat.{ℕ, _≤_, _<_}

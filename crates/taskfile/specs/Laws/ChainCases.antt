@@ -26,9 +26,9 @@ module _ (seen : List Bool) (reached : List ℕ) (marked : seen ≡ marks reache
   reached-at k b h e = ap not (sym (marks-at reached k h) ∙ ap (λ l. getD l k false) (sym marked) ∙ e)
 
   module _ (n : ℕ) (few : n ≤ 256) where
-    pub stray : (r : ℕ) → r < n → ((k : ℕ) → k < r → getD seen k false ≡ true) → getD seen r false ≡ false
+    pub record-stray : (r : ℕ) → r < n → ((k : ℕ) → k < r → getD seen k false ≡ true) → getD seen r false ≡ false
         → noneOf 6 (λ k. not (member k reached)) (upTo n) ≡ refused 6 r
-    stray r below before here =
+    record-stray r below before here =
         noneOf-upTo 6 (λ k. not (member k reached)) n r below (λ k h. reached-at k true (omega arith) (before k h))
         (reached-at r false (omega arith) here)
 
@@ -43,9 +43,9 @@ module _ (kind : Kind) (f : File) (r : ℕ) where
   wrong-kind other = require-fails _ 2 r _ (ne-eqb _ _ other)
 
   module _ (same : byteAt f r 0 ≡ kindNumber kind) where
-    pub untidy : tidy f r kind ≡ false → recordOf kind f r ≡ refused 4 r
+    pub record-untidy : tidy f r kind ≡ false → recordOf kind f r ≡ refused 4 r
     unfolding recordOf require
-    untidy e = require-holds _ 2 r _ (eq-eqb _ _ same) ∙ rw e
+    record-untidy e = require-holds _ 2 r _ (eq-eqb _ _ same) ∙ rw e
 
     pub out-of-range : inRange f r kind ≡ false → recordOf kind f r ≡ refused 4 r
     unfolding recordOf require
@@ -84,7 +84,8 @@ unfolding follow
 follow-allowed kind allowed f again holder index e =
     ltb→lt 0 allowed (require-passed _ 5 index (then-passed _ _ (then-passed _ _ e .2) .1))
 
--- A chain from an index: it ends at 0, it is refused where the index may not be followed, and else it goes on at the next index.
+-- A chain from an index: it ends at 0, it is refused where the index may not be followed, and else it goes on at the
+-- next index.
 module _ (kind : Kind) (f : File) (reached : List ℕ) (holder : ℕ) where
   pub chain-ends : (allowed : ℕ) → chain kind allowed f reached holder 0 ≡ passed []
   unfolding chain

@@ -1,5 +1,5 @@
--- Laws of chains: a chain that passed is the records that its links lead to, so the table read from the chains is the one read by
--- following indices.
+-- Laws of chains: a chain that passed is the records that its links lead to, so the table read from the chains is the
+-- one read by following indices.
 -- Assumes nothing.
 use Prim.Native.Nat.{ℕ, zero, suc, _≤_, _<_}
 use native.Mathlib.Omega.{arith}

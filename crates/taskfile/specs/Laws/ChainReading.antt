@@ -1,5 +1,5 @@
--- Laws of reading the chains: from the marks of the records reached and what each part of the walk came to, what the whole comes to.
--- Each law is one way out of a function that reads.
+-- Laws of reading the chains: from the marks of the records reached and what each part of the walk came to, what the
+-- whole comes to. Each law is one way out of a function that reads.
 -- Assumes nothing.
 use mathlib.Core.Path.{_≡_, refl, sym, ap, _∙_}
 use Prim.Native.Nat.{ℕ, _+_, _-_, _<_}
@@ -16,7 +16,7 @@ use Rattle.taskfile.specs.declared.Kind.{Kind}
 use Rattle.taskfile.specs.declared.Kind.the-variants.{Header, TaskRecord, LockRecord, InstructionRecord}
 use Rattle.taskfile.specs.Laws.ChainCases.{follow-allowed, chain-ends, chain-refused, chain-goes, tasks-end, tasks-refused, tasks-go}
 use Rattle.taskfile.specs.Chains.{Chains, TaskChain, recordOf, follow, chain, bodyChain, taskChains, recordsOf, reachedBy, noStray, chainsOf}
-use Rattle.taskfile.specs.Laws.CheckSteps.{checkOf-passed, checkOf-refused, comes, require-holds, require-fails, bind-refused, bind-goes, then-refused, then-goes, comes-then}
+use Rattle.taskfile.specs.Laws.CheckSteps.{checkOf-passed, checkOf-refused, check-comes, require-holds, require-fails, bind-refused, bind-goes, then-refused, then-goes, comes-then}
 use Rattle.notation.specs.Checked.{Checked, refused, passed, noneOf, _>>=_, _>>_}
 use Rattle.notation.specs.Lists.{upTo, member, each}
 use Rattle.taskfile.specs.Laws.MarksLaws.{marks-at, marks-moved, marks-swapped, marks-more, marks-none}
@@ -202,7 +202,7 @@ afterTasks f tasks = _>>=_ (chain LockRecord 8 f (0 ∷ recordsOf tasks) 0 (byte
 module _ (f : File) (head : Check) (headed : head ≡ checkOf (recordOf Header f 0)) where
   pub header-fails : {number place : ℕ} → head ≡ Refused number place → head ≡ checkOf (chainsOf f)
   unfolding chainsOf checkOf
-  header-fails e = e ∙ comes (then-refused _ (checkOf-refused _ (sym headed ∙ e)))
+  header-fails e = e ∙ check-comes (then-refused _ (checkOf-refused _ (sym headed ∙ e)))
 
   module _ (passes : head ≡ Passed) (first : ℕ) (first-is : first ≡ byteAt f 0 2) where
     header-passes : recordOf Header f 0 ≡ passed tt
@@ -211,7 +211,7 @@ module _ (f : File) (head : Check) (headed : head ≡ checkOf (recordOf Header f
     pub no-tasks : first ≡ 0 → Refused 5 0 ≡ checkOf (chainsOf f)
     unfolding chainsOf checkOf
     no-tasks e =
-        comes (then-goes _ header-passes ∙ require-fails _ 5 0 _ (ap not (eq-eqb _ 0 (sym first-is ∙ e))))
+        check-comes (then-goes _ header-passes ∙ require-fails _ 5 0 _ (ap not (eq-eqb _ 0 (sym first-is ∙ e))))
 
     module _ (some : first ≡ 0 → ⊥) (tasks : Chained)
         (tasksRead : (reached : List ℕ) → set (replicate 256 false) 0 true ≡ marks reached → TasksRead tasks 8 f reached 0 first) where
@@ -225,7 +225,7 @@ module _ (f : File) (head : Check) (headed : head ≡ checkOf (recordOf Header f
 
       pub tasks-fail : {number place : ℕ} → tasks .check ≡ Refused number place → tasks .check ≡ checkOf (chainsOf f)
       unfolding checkOf
-      tasks-fail e = e ∙ comes (chains-start ∙ bind-refused _ (refused-chained _ _ tasks _ _ readTasks e))
+      tasks-fail e = e ∙ check-comes (chains-start ∙ bind-refused _ (refused-chained _ _ tasks _ _ readTasks e))
 
       module _ (tasksPass : tasks .check ≡ Passed) (lock : ℕ) (lock-is : lock ≡ byteAt f 0 3) (locks : Chained)
           (locksRead : (reached : List ℕ) → tasks .seen ≡ marks reached → ChainRead locks LockRecord 8 f reached 0 lock) where
@@ -242,7 +242,7 @@ module _ (f : File) (head : Check) (headed : head ≡ checkOf (recordOf Header f
 
         pub locks-fail : {number place : ℕ} → locks .check ≡ Refused number place → locks .check ≡ checkOf (chainsOf f)
         unfolding checkOf
-        locks-fail e = e ∙ comes (found .1 ∙ bind-refused _ (refused-chained _ _ locks _ _ (found .2) e))
+        locks-fail e = e ∙ check-comes (found .1 ∙ bind-refused _ (refused-chained _ _ locks _ _ (found .2) e))
 
         pub chains-read : locks .check ≡ Passed → (x : Check)
             → ((reached : List ℕ) → locks .seen ≡ marks reached
@@ -253,4 +253,4 @@ module _ (f : File) (head : Check) (headed : head ≡ checkOf (recordOf Header f
             let l = passed-chained _ _ locks _ _ (found .2) locksPass in
             checked (0 ∷ recordsOf (found .0) ++ l .0) (l .3 ∙ marks-swapped (l .0) (0 ∷ recordsOf (found .0)))
             ∙ comes-then _ _
-            ∙ comes (found .1 ∙ bind-goes _ (l .1))
+            ∙ check-comes (found .1 ∙ bind-goes _ (l .1))

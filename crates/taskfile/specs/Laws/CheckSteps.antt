@@ -23,8 +23,8 @@ checkOf-refused (refused n p) e = cc
 checkOf-refused (passed x) e = absurd (let z : _≡_ {A = ℕ} 0 1 = cc in omega arith)
 
 -- equal checks come to the same
-pub comes : {A : Type 0} {c d : Checked ℕ A} → c ≡ d → checkOf d ≡ checkOf c
-comes e = sym (ap checkOf e)
+pub check-comes : {A : Type 0} {c d : Checked ℕ A} → c ≡ d → checkOf d ≡ checkOf c
+check-comes e = sym (ap checkOf e)
 
 -- a requirement that holds leaves the check to what follows, and one that does not decides it
 pub require-holds : {P A : Type 0} (test : Bool) (number : ℕ) (place : P) (rest : Checked P A) → test ≡ true

@@ -15,7 +15,7 @@ use Rattle.notation.specs.Checked.{passed}
 use Rattle.notation.specs.Laws.CheckedLaws.{then-passed, noneOf-passed}
 use Rattle.taskfile.specs.Judgement.{taskNumbers, instructionSites, instructionOf, isEnd, isSkip, ofInstruction, ofTask, bodyFault, rateFault, ceilingFault, judged}
 use Rattle.notation.specs.Laws.ListLaws.{upTo-member, each-member}
-use Rattle.notation.specs.Laws.TestLaws.{neither, other-fails}
+use Rattle.notation.specs.Laws.TestLaws.{or-neither, other-fails}
 use Rattle.taskfile.specs.Tables.{tasksOf, taskOf, bodyOf}
 
 -- every task is among those judged
@@ -55,7 +55,7 @@ module _ (t : Table) (judgement : judged t ≡ passed tt) (i : Task) (known : i 
       let here = instructionOf t i p in
       let last = length (bodyOf (taskOf t i)) - 1 in
       let same : p ≡ last = omega arith in
-      let causes = neither (eqb p last && not (isEnd here)) _ (no-bodyFault p (omega arith)) in
+      let causes = or-neither (eqb p last && not (isEnd here)) _ (no-bodyFault p (omega arith)) in
       not-false (isEnd here) (other-fails (eqb p last) _ (causes .0) (eq-eqb p last same))
 
   -- a skip, if it is taken, lands inside the body
@@ -65,6 +65,6 @@ module _ (t : Table) (judgement : judged t ≡ passed tt) (i : Task) (known : i 
   skip-inside p b skip =
       let here = instructionOf t i p in
       let last = length (bodyOf (taskOf t i)) - 1 in
-      let causes = neither (eqb p last && not (isEnd here)) _ (no-bodyFault p b) in
+      let causes = or-neither (eqb p last && not (isEnd here)) _ (no-bodyFault p b) in
       let inside = ltb-false last (p + 1 + here .c) (other-fails (isSkip here) _ (causes .1) skip) in
       omega arith

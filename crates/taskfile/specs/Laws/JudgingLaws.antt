@@ -1,5 +1,5 @@
--- Laws of the judgement of a table whose arrays are full: what the faults of 7, 8 and 9 are by the arrays, and the sites that
--- each check runs over, task by task.
+-- Laws of the judgement of a table whose arrays are full: what the faults of 7, 8 and 9 are by the arrays, and the
+-- sites that each check runs over, task by task.
 -- Assumes nothing.
 use Prim.Native.Nat.{ℕ, zero, suc, _+_, _-_, _≤_, _<_}
 use native.Mathlib.Omega.{arith}

@@ -31,7 +31,7 @@ use Rattle.taskfile.specs.Code.Reading.{checkOf, judgedOf, linkedChains,
 use Rattle.taskfile.specs.Code.ReadingParts.{siteRecord}
 use Rattle.taskfile.specs.Records.{File}
 use Rattle.taskfile.specs.Tables.{tasksOf, taskOf, bodyOf, tableAt}
-use Rattle.notation.specs.Laws.TestLaws.{both}
+use Rattle.notation.specs.Laws.TestLaws.{and-both}
 
 -- ---- checks as the declared enums, the other way round
 
@@ -101,8 +101,8 @@ fault-in-table t e =
 pub sized-within : (f : File) → sized f ≡ true → (16 ≤ length f) × (length f ≤ 4096)
 unfolding sized
 sized-within f h =
-    let parts = both (leb 1 (length f) && leb (length f) 4096) _ h in
-    let ends = both (leb 1 (length f)) _ (parts .0) in
+    let parts = and-both (leb 1 (length f) && leb (length f) 4096) _ h in
+    let ends = and-both (leb 1 (length f)) _ (parts .0) in
     omega (arith, leb-true 1 (length f) (ends .0), leb-true (length f) 4096 (ends .1), eqb-true (length f % 16) 0 (parts .1))
 
 -- ---- what `load` yields, by the check that decides

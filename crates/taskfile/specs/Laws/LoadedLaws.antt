@@ -1,5 +1,5 @@
--- What a table that was loaded is like: its arrays are full, its store has eight bytes, no body is empty, and a Pick offers at
--- most sixteen values.
+-- What a table that was loaded is like: its arrays are full, its store has eight bytes, no body is empty, and a Pick
+-- offers at most sixteen values.
 -- Assumes nothing.
 use mathlib.Core.Path.{_≡_, sym, ap, subst, _∙_}
 use mathlib.Core.Logic.{_≢_}
@@ -29,17 +29,17 @@ use Rattle.taskfile.specs.Laws.LoadLaws.{load-parts, sized-within}
 use Rattle.notation.specs.Laws.PairLaws.{every-at, every-imp, every-map}
 use Rattle.notation.specs.Ordered.{Every}
 use Rattle.taskfile.specs.Code.Reading.{linked}
-use Rattle.taskfile.specs.Records.{File, byteAt, next, inRange, operations, usesOf, fieldInRange, instructionAt, instructionInRange}
+use Rattle.taskfile.specs.Records.{File, byteAt, next, inRange, operationUses, usesOf, fieldInRange, instructionAt, instructionInRange}
 use Rattle.taskfile.specs.Tables.{tasksOf, taskOf, bodyOf, endInstruction, entryAt, tableAt}
-use Rattle.notation.specs.Laws.TestLaws.{both}
-use Rattle.taskfile.specs.Laws.TimesLaws.{holds, follow-in-range, reached-held}
+use Rattle.notation.specs.Laws.TestLaws.{and-both}
+use Rattle.taskfile.specs.Laws.TimesLaws.{test-holds, follow-in-range, reached-held}
 use Rattle.taskfile.specs.Code.WellMade.{WellMade}
 
 -- ---- the store
 
 load-sized : (f : File) {l : Loaded} → load f ≡ passed l → sized f ≡ true
 unfolding load
-load-sized f e = holds _ (require-passed (sized f) 1 0 (then-passed (require (sized f) 1 0) _ e .1))
+load-sized f e = test-holds _ (require-passed (sized f) 1 0 (then-passed (require (sized f) 1 0) _ e .1))
 
 store-full : (f : File) (c : Chains) → sized f ≡ true → length (tableAt f c .store) ≡ 8
 unfolding tableAt
@@ -67,12 +67,12 @@ abbrev PicksFew : Instruction → Type 0
 PicksFew x = x .operation ≡ 8 → x .b ≤ 15
 
 instruction-picks : (x : Instruction) → instructionInRange x ≡ true → PicksFew x
-unfolding instructionInRange usesOf operations fieldInRange
+unfolding instructionInRange usesOf operationUses fieldInRange
 instruction-picks x h e =
     let u = usesOf (x .operation) in
-    let known = ltb (x .operation) (length operations) in
-    let parts = both (known && fieldInRange (u .a) (x .a) && fieldInRange (u .b) (x .b)) _ h in
-    let inB = both (known && fieldInRange (u .a) (x .a)) _ (parts .0) .1 in
+    let known = ltb (x .operation) (length operationUses) in
+    let parts = and-both (known && fieldInRange (u .a) (x .a) && fieldInRange (u .b) (x .b)) _ h in
+    let inB = and-both (known && fieldInRange (u .a) (x .a)) _ (parts .0) .1 in
     leb-true (x .b) 15 (subst (λ (o : ℕ). fieldInRange (usesOf o .b) (x .b) ≡ true) e inB)
 
 -- what an entry's body is like
@@ -91,7 +91,7 @@ unfolding bodyChain
 body-made f reached r body e =
     let first = byteAt f r 2 in
     let parts = then-passed (require (not (eqb first 0)) 5 r) _ e in
-    let follows : first ≢ 0 = eqb-false first 0 (not-true (eqb first 0) (holds _ (require-passed (not (eqb first 0)) 5 r (parts .1)))) in
+    let follows : first ≢ 0 = eqb-false first 0 (not-true (eqb first 0) (test-holds _ (require-passed (not (eqb first 0)) 5 r (parts .1)))) in
     let links : body ≡ linked f mostInstructions first = chain-linked InstructionRecord mostInstructions f reached r first (parts .2) in
     let more : length body ≡ suc (length (linked f 15 (next f first))) = ap length (links ∙ linked-more f 15 first follows) in
     let few : length body ≤ mostInstructions = omega (arith, ap length links, linked-length f mostInstructions first) in

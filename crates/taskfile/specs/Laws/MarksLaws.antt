@@ -1,4 +1,5 @@
--- Laws of marks: which records a list of reached records marks, when two lists mark the same, and how one mark more is set.
+-- Laws of marks: which records a list of reached records marks, when two lists mark the same, and how one mark more
+-- is set.
 -- Assumes nothing.
 use mathlib.Core.Path.{_≡_, refl, sym, ap, fun-ext, _∙_}
 use Prim.Native.Nat.{ℕ, zero, suc, _<_}

@@ -1,5 +1,5 @@
--- Laws of the records of a task file: bytes past the file's end, zero bytes one by one, the largest values of all fields as
--- one list, and what its largest value says of a field.
+-- Laws of the records of a task file: bytes past the file's end, zero bytes one by one, the largest values of all
+-- fields as one list, and what its largest value says of a field.
 -- Assumes nothing.
 use Prim.Native.Nat.{ℕ, zero, suc, _+_, _*_, _-_, _≤_, _<_}
 use native.Mathlib.Numerals.{add-one}
@@ -12,8 +12,8 @@ use lib.Dec.{leb, ltb}
 use borrow.Author.Tests.{eq-eqb, ne-eqb, le-leb, ltb-true}
 use Rattle.notation.specs.Lists.{from, all, each}
 use Rattle.taskfile.specs.Code.RecordFields.{fieldOf, limitOf}
-use Rattle.taskfile.specs.Records.{File, byteAt, zeroFrom, Use, unused, most, lockNumber, Uses, uses, operations, usesOf, tidyField, fieldInRange}
-use Rattle.notation.specs.Laws.TestLaws.{both}
+use Rattle.taskfile.specs.Records.{File, byteAt, zeroFrom, Use, unused, most, lockNumber, Uses, uses, operationUses, usesOf, tidyField, fieldInRange}
+use Rattle.notation.specs.Laws.TestLaws.{and-both}
 
 -- past the file's end every byte is 0
 pub byteAt-past : (f : File) (r k : ℕ) → length f ≤ 16 * r + k → byteAt f r k ≡ 0
@@ -48,9 +48,9 @@ noUses-field zero = refl
 noUses-field (suc zero) = refl
 noUses-field (suc (suc n)) = refl
 
-pub limit-past : (o field : ℕ) → length operations ≤ o → limitOf (fieldOf field (usesOf o)) ≡ 0
+pub limit-past : (o field : ℕ) → length operationUses ≤ o → limitOf (fieldOf field (usesOf o)) ≡ 0
 unfolding usesOf limitOf
-limit-past o field h = rw (List·getD-eq-default operations noUses h, noUses-field field)
+limit-past o field h = rw (List·getD-eq-default operationUses noUses h, noUses-field field)
 
 -- the largest values of the fields a, b and c of each operation, in one list
 unfoldable pub limits : List Uses → List ℕ
@@ -73,8 +73,8 @@ pub all-getD : {A : Type 0} (test : A → Bool) (xs : List A) (k : ℕ) (d : A) 
     → test (getD xs k d) ≡ true
 unfolding all
 all-getD test [] k d h default = default
-all-getD test (x ∷ xs) zero d h default = both (test x) (all test xs) h .0
-all-getD test (x ∷ xs) (suc k) d h default = all-getD test xs k d (both (test x) (all test xs) h .1) default
+all-getD test (x ∷ xs) zero d h default = and-both (test x) (all test xs) h .0
+all-getD test (x ∷ xs) (suc k) d h default = all-getD test xs k d (and-both (test x) (all test xs) h .1) default
 
 -- a used field has a largest value above 0
 bounded : Use → Bool
@@ -85,19 +85,19 @@ bounded lockNumber = true
 allBounded : Uses → Bool
 allBounded u = bounded (u .a) && (bounded (u .b) && bounded (u .c))
 
-operations-bounded : all allBounded operations ≡ true
-unfolding all operations allBounded bounded
+operations-bounded : all allBounded operationUses ≡ true
+unfolding all operationUses allBounded bounded
 operations-bounded = refl
 
 usesOf-bounded : (o : ℕ) → allBounded (usesOf o) ≡ true
 unfolding usesOf allBounded bounded
-usesOf-bounded o = all-getD allBounded operations o noUses operations-bounded refl
+usesOf-bounded o = all-getD allBounded operationUses o noUses operations-bounded refl
 
 field-bounded : (field : ℕ) (u : Uses) → allBounded u ≡ true → bounded (fieldOf field u) ≡ true
 unfolding fieldOf allBounded
-field-bounded zero u h = both (bounded (u .a)) _ h .0
-field-bounded (suc zero) u h = both (bounded (u .b)) _ (both (bounded (u .a)) _ h .1) .0
-field-bounded (suc (suc n)) u h = both (bounded (u .b)) _ (both (bounded (u .a)) _ h .1) .1
+field-bounded zero u h = and-both (bounded (u .a)) _ h .0
+field-bounded (suc zero) u h = and-both (bounded (u .b)) _ (and-both (bounded (u .a)) _ h .1) .0
+field-bounded (suc (suc n)) u h = and-both (bounded (u .b)) _ (and-both (bounded (u .a)) _ h .1) .1
 
 bounded-unused : (u : Use) → bounded u ≡ true → limitOf u ≡ 0 → u ≡ unused
 unfolding bounded limitOf

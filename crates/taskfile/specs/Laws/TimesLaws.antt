@@ -1,5 +1,5 @@
--- The times of a file that was read are in range: "1 ≤ C ≤ P". What holds of each task as it is reached holds of each task of
--- the table: `reached-held`.
+-- The times of a file that was read are in range: "1 ≤ C ≤ P". What holds of each task as it is reached holds of each
+-- task of the table: `reached-held`.
 -- Assumes nothing.
 use mathlib.Core.Path.{_≡_, refl, sym, ap, subst, _∙_}
 use Prim.Native.Nat.{ℕ, zero, suc, _≤_, _<_}
@@ -25,18 +25,18 @@ use Rattle.notation.specs.Ordered.{Every}
 use Rattle.taskfile.specs.Code.Reading.{linked, linkedTask, linkedChains}
 use Rattle.taskfile.specs.Records.{File, byteAt, wideAt, next, kindNumber, tidy, inRange}
 use Rattle.taskfile.specs.Tables.{tasksOf, taskOf, noTask, entryAt, tableAt}
-use Rattle.notation.specs.Laws.TestLaws.{both}
+use Rattle.notation.specs.Laws.TestLaws.{and-both}
 
-pub holds : (b : Bool) → T b → b ≡ true
-holds true t = refl
-holds false t = absurd t
+pub test-holds : (b : Bool) → T b → b ≡ true
+test-holds true t = refl
+test-holds false t = absurd t
 
 -- a record that passed has its values in range
 record-in-range : (kind : Kind) (f : File) (r : ℕ) {u : Unit {0}} → recordOf kind f r ≡ passed u → inRange f r kind ≡ true
 unfolding recordOf
 record-in-range kind f r e =
     let test = then-passed _ (require (tidy f r kind && inRange f r kind) 4 r) e in
-    both (tidy f r kind) _ (holds _ (require-passed (tidy f r kind && inRange f r kind) 4 r (test .2))) .1
+    and-both (tidy f r kind) _ (test-holds _ (require-passed (tidy f r kind && inRange f r kind) 4 r (test .2))) .1
 
 pub follow-in-range : (kind : Kind) (allowed : ℕ) (f : File) (again : Bool) (holder index : ℕ) {u : Unit {0}}
     → follow kind allowed f again holder index ≡ passed u → inRange f index kind ≡ true
@@ -98,7 +98,7 @@ TimesInRange e = (1 ≤ e .execution) × (e .execution ≤ e .period)
 entry-in-range : (f : File) (c : TaskChain) → inRange f (c .taskRecord) TaskRecord ≡ true → TimesInRange (entryAt f c)
 unfolding inRange entryAt
 entry-in-range f c h =
-    let parts = both (leb 1 (wideAt f (c .taskRecord) 4)) _ h in
+    let parts = and-both (leb 1 (wideAt f (c .taskRecord) 4)) _ h in
     (leb-true _ _ (parts .0), leb-true _ _ (parts .1))
 
 -- every task of a file that was read has 1 ≤ C ≤ P

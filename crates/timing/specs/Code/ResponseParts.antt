@@ -45,7 +45,7 @@ unfoldable pub periodAt : Table → ℕ → ℕ
 periodAt t k = taskOf t (numbered k) .period
 
 -- execution times and periods of n tasks with 1 ≤ C ≤ P, in 32 bits
-pub record Times (Cs Ps : List ℕ) (n : ℕ) : Type 0 where
+pub record BoundedTimes (Cs Ps : List ℕ) (n : ℕ) : Type 0 where
   pub few : n ≤ 8
   pub positive : (k : ℕ) → k < n → 1 ≤ getD Cs k 0
   pub within : (k : ℕ) → k < n → getD Cs k 0 ≤ getD Ps k 0

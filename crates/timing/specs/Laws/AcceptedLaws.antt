@@ -14,9 +14,9 @@ use Rattle.timing.specs.Accepted.{Accepted, accept, timed}
 use Rattle.timing.specs.Laws.JobLaws.{timed-passed}
 use Rattle.timing.specs.Code.IsAccepted.{IsAccepted}
 
-pub accepted : (f : File) {a : Accepted} → accept f ≡ passed a → IsAccepted a
+pub file-accepted : (f : File) {a : Accepted} → accept f ≡ passed a → IsAccepted a
 unfolding accept
-accepted f {a} e =
+file-accepted f {a} e =
     let parts = bind-passed (load f) (λ loaded. placedBy (recordAt (loaded .chains)) (timed (loaded .table))) e in
     let table = parts .0 .table in
     let timing = timed-passed table (placed-passed (recordAt (parts .0 .chains)) (timed table) (parts .2)) in

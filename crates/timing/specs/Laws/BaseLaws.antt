@@ -1,5 +1,5 @@
--- Laws of a job's base: it rises with the job's number and is below 8; and whatever a later job of a task comes before, an earlier
--- one does too.
+-- Laws of a job's base: it rises with the job's number and is below 8; and whatever a later job of a task comes
+-- before, an earlier one does too.
 -- Assumes nothing.
 use Rattle.timing.specs.Laws.RelationLaws as relations
 use mathlib.Core.Path.{_≡_, ap, _∙_}
@@ -22,7 +22,7 @@ pub base-rises : {a : Accepted} (ok : IsAccepted a) (x y : Job) → x .0 ≤ y .
 base-rises {a} ok x y le isJob =
     elim (ℕ-discrete (x .0) (y .0)) [
       | yes same ↦ let equal : base a x ≡ base a y = ap (λ (n : ℕ). base a (record { 0 = n })) same in omega arith
-      | no apart ↦ elim (relations.numbered (ok .isTimed) x y (omega arith) isJob) [ inl h ↦ omega arith | inr h ↦ omega arith ]
+      | no apart ↦ elim (relations.jobs-by-number (ok .isTimed) x y (omega arith) isJob) [ inl h ↦ omega arith | inr h ↦ omega arith ]
     ]
 
 pub base-small : {a : Accepted} (ok : IsAccepted a) (x : Job) → IsJob a x → base a x < 8
@@ -40,7 +40,7 @@ earlier-too {a} ok u x y le isX same apart h =
           let lasted = job-lasts (ok .isTimed) u isU in
           let rest : getD (a .responses) (base a u) 0 ≡ getD (a .responses) (base a x) 0 = ap (λ (n : ℕ). getD (a .responses) n 0) same in
           let arrives : jobAt a u .arrival ≤ jobAt a x .arrival =
-          elim (relations.numbered (ok .isTimed) u x (omega arith) isX) [ inl g ↦ absurd (omega arith) | inr g ↦ omega arith ] in
+          elim (relations.jobs-by-number (ok .isTimed) u x (omega arith) isX) [ inl g ↦ absurd (omega arith) | inr g ↦ omega arith ] in
           before-holds a u y apart
           (elim (before-says a x y h .1) [ inl g ↦ inl (omega arith) | inr g ↦ inr (omega arith) ])
     ]

@@ -1,5 +1,6 @@
--- Laws of the climb to the response time: where it starts, that each step keeps a lower bound of the solutions, and where it ends.
--- The start rests on R × part ≤ I × whole, for a share that the tasks above need and I their interference in an interval of length R.
+-- Laws of the climb to the response time: where it starts, that each step keeps a lower bound of the solutions, and
+-- where it ends. The start rests on R × part ≤ I × whole, for a share that the tasks above need and I their
+-- interference in an interval of length R.
 -- Assumes nothing.
 use mathlib.Core.Path.{_≡_, sym, ap}
 use Prim.Native.Nat.{ℕ, _+_, _-_, _*_, _≤_, _<_}

@@ -1,6 +1,7 @@
--- Laws of the test by scheduling points, after Bini and Buttazzo: whether base and the listed tasks are done in some interval of
--- length at most b, where each of these tasks meets its own period. Since the interference of two intervals together is at most
--- their sum, a period more has room for an execution time more, and so the last multiple of a period stands for the earlier ones.
+-- Laws of the test by scheduling points, after Bini and Buttazzo: whether base and the listed tasks are done in some
+-- interval of length at most b, where each of these tasks meets its own period. Since the interference of two
+-- intervals together is at most their sum, a period more has room for an execution time more, and so the last
+-- multiple of a period stands for the earlier ones.
 -- Assumes nothing.
 use mathlib.Core.Path.{_≡_, refl, sym, ap}
 use mathlib.Core.Logic.{_↔_, _⊎_, inl, inr, ⊎-elim}

@@ -1,5 +1,5 @@
--- Laws of the search for the response time by halving: some interval of length at most b is long enough exactly if the response
--- equation has a solution up to b, and between a lower bound and such a b each look halves what is left.
+-- Laws of the search for the response time by halving: some interval of length at most b is long enough exactly if
+-- the response equation has a solution up to b, and between a lower bound and such a b each look halves what is left.
 -- Assumes nothing.
 use mathlib.Core.Path.{_≡_}
 use mathlib.Core.Logic.{_↔_}
@@ -29,7 +29,8 @@ abbrev pub SolvedBy : Table → Task → ℕ → Type 0
 SolvedBy t i b = (Q : ℕ) × (1 ≤ Q) × (Q ≤ b) × (Q ≡ demand t i Q)
 
 module _ (t : Table) (i : Task) (positive : 1 ≤ taskOf t i .execution) where
-  -- below an interval that is long enough there is a solution: the demand at each that is none is shorter, and long enough too
+  -- below an interval that is long enough there is a solution: the demand at each that is none is shorter, and long
+  -- enough too
   solution-below : (n x : ℕ) → x ≤ n → 1 ≤ x → demand t i x ≤ x → SolvedBy t i x
   unfolding demand
   solution-below zero x le one enough = absurd (omega arith)

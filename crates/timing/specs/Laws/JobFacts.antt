@@ -1,5 +1,5 @@
--- What the listing of an accepted table's jobs says of one job: its task is one of the table's, its latest finish is its arrival and its
--- task's response time, and there are at most 32.
+-- What the listing of an accepted table's jobs says of one job: its task is one of the table's, its latest finish is
+-- its arrival and its task's response time, and there are at most 32.
 -- Assumes nothing.
 use mathlib.Core.Path.{_≡_, refl, sym, ap, _∙_, fun-ext}
 use mathlib.Core.Logic.{_⊎_, inl, inr}
@@ -98,4 +98,4 @@ jobs-few {a} timed = omega (arith, timed .few, ap (λ (l : List JobRecord). leng
 pub same-task : {a : Accepted} → Timed a → (x y : Job) → x .0 < y .0 → IsJob a y → base a x ≡ base a y → before a x y ≡ true
 same-task {a} timed x y lt isJob same =
     before-holds a x y (λ e. omega arith)
-    (elim (relations.numbered timed x y lt isJob) [ inl below ↦ absurd (omega arith) | inr later ↦ inr (omega arith) ])
+    (elim (relations.jobs-by-number timed x y lt isJob) [ inl below ↦ absurd (omega arith) | inr later ↦ inr (omega arith) ])

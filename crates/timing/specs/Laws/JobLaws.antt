@@ -1,4 +1,5 @@
--- Laws of an accepted table's jobs: "Jobs are numbered by task, then by arrival", and a job's latest finish is after its arrival.
+-- Laws of an accepted table's jobs: "Jobs are numbered by task, then by arrival", and a job's latest finish is after
+-- its arrival.
 -- Assumes nothing.
 use mathlib.Core.Path.{_≡_, refl, subst}
 use mathlib.Core.Logic.{_⊎_, inl, inr}

@@ -15,7 +15,7 @@ use Rattle.taskfile.specs.Judgement.{numbered}
 use Rattle.taskfile.specs.Tables.{tasksOf}
 use Rattle.timing.specs.Response.{roundedUp, interference}
 use Rattle.timing.specs.Laws.ResponseLaws.{roundedUp-tight}
-use Rattle.timing.specs.Code.ResponseParts.{Timeable, Column, executionAt, periodAt, Times, TimesOf}
+use Rattle.timing.specs.Code.ResponseParts.{Timeable, Column, executionAt, periodAt, BoundedTimes, TimesOf}
 use Rattle.timing.specs.Laws.TimeableLaws.{TimesRead, task-read, interference-next, interference-end}
 
 -- ---- an array is filled
@@ -77,7 +77,7 @@ module _ {t : Table} {Cs Ps : List ℕ} {n : ℕ} (times : TimesOf t Cs Ps n) wh
         within = omega (arith, times .timeable .within i below);
       }
 
-  pub lent-times : Times Cs Ps n
+  pub lent-times : BoundedTimes Cs Ps n
   lent-times = record {
     few = omega (arith, times .count, times .timeable .shaped .tasksWithin);
     positive = λ k lt. lent-read (numbered k) lt .positive;
@@ -94,7 +94,7 @@ module _ {t : Table} {Cs Ps : List ℕ} {n : ℕ} (times : TimesOf t Cs Ps n) wh
   lent-end k r le = interference-end (times .timeable) k r (omega (arith, times .count))
 
 -- what a task adds to the interference fits
-pub lent-fits : {Cs Ps : List ℕ} {n : ℕ} → Times Cs Ps n → (k r : ℕ) {u : ℕ} → k < n → r < 2 ^ 32 → u ≡ roundedUp r (getD Ps k 0)
+pub lent-fits : {Cs Ps : List ℕ} {n : ℕ} → BoundedTimes Cs Ps n → (k r : ℕ) {u : ℕ} → k < n → r < 2 ^ 32 → u ≡ roundedUp r (getD Ps k 0)
     → u * getD Cs k 0 < 2 ^ 33
 lent-fits {Cs} {Ps} times k r {u} lt small e =
     let within = times .within k lt in

@@ -1,4 +1,5 @@
--- The four laws of before and may preempt, for the jobs of an accepted table. All that is proved of orders and plans goes by them.
+-- The four laws of before and may preempt, for the jobs of an accepted table. All that is proved of orders and plans
+-- goes by them.
 -- Assumes nothing.
 use mathlib.Core.Path.{_≡_, ap}
 use mathlib.Core.Logic.{_⊎_, inl, inr}
@@ -9,7 +10,7 @@ use mathlib.Core.Bool.{true, not, _&&_}
 use lib.Dec.{leb, ltb, eqb}
 use borrow.Author.Tests.{ltb-true, leb-true, eqb-false, lt-ltb, le-leb, ne-eqb, not-true}
 use Rattle.notation.specs.Laws.PairLaws.{every-at, ordered-at}
-use Rattle.notation.specs.Laws.TestLaws.{both, either, and-holds, or-left, or-right}
+use Rattle.notation.specs.Laws.TestLaws.{and-both, or-either, and-holds, or-left, or-right}
 use Rattle.timing.specs.declared.Job.{Job}
 use Rattle.timing.specs.Accepted.{Accepted}
 use Rattle.timing.specs.Laws.JobLaws.{Earlier, jobs-last, jobs-numbered}
@@ -25,12 +26,12 @@ IsBefore a x y =
 pub before-says : (a : Accepted) (x y : Job) → before a x y ≡ true → (x .0 ≡ y .0 → ⊥) × IsBefore a x y
 unfolding before
 before-says a x y h =
-    let parts = both (not (eqb (x .0) (y .0))) _ h in (
+    let parts = and-both (not (eqb (x .0) (y .0))) _ h in (
       eqb-false (x .0) (y .0) (not-true _ (parts .0)),
-      elim (either (leb (jobAt a x .latest) (jobAt a y .arrival)) _ (parts .1)) [
+      elim (or-either (leb (jobAt a x .latest) (jobAt a y .arrival)) _ (parts .1)) [
         | inl first ↦ inl (leb-true _ _ first)
         | inr second ↦
-            let orders = both (leb (jobAt a x .arrival) (jobAt a y .arrival)) _ second in
+            let orders = and-both (leb (jobAt a x .arrival) (jobAt a y .arrival)) _ second in
             inr (leb-true _ _ (orders .0), leb-true _ _ (orders .1))
       ],
     )
@@ -52,8 +53,8 @@ pub record Preempts (a : Accepted) (y x : Job) : Type 0 where
 pub preempt-says : (a : Accepted) (y x : Job) → mayPreempt a y x ≡ true → Preempts a y x
 unfolding mayPreempt
 preempt-says a y x h =
-    let parts = both (ltb (base a x) (base a y) && ltb (jobAt a x .arrival) (jobAt a y .arrival)) _ h in
-    let front = both (ltb (base a x) (base a y)) _ (parts .0) in
+    let parts = and-both (ltb (base a x) (base a y) && ltb (jobAt a x .arrival) (jobAt a y .arrival)) _ h in
+    let front = and-both (ltb (base a x) (base a y)) _ (parts .0) in
     record { higher = ltb-true _ _ (front .0); later = ltb-true _ _ (front .1); during = ltb-true _ _ (parts .1) }
 
 pub preempt-holds : (a : Accepted) (y x : Job) → Preempts a y x → mayPreempt a y x ≡ true
@@ -64,24 +65,24 @@ preempt-holds a y x h =
 -- ---- jobs by number
 
 -- a job's latest finish is after its arrival
-pub lasts : {a : Accepted} → Timed a → (x : Job) → IsJob a x → jobAt a x .arrival < jobAt a x .latest
+pub finish-after : {a : Accepted} → Timed a → (x : Job) → IsJob a x → jobAt a x .arrival < jobAt a x .latest
 unfolding jobAt
-lasts {a} timed x isJob = every-at (λ j. j .arrival < j .latest) (a .jobs) (x .0) noJob (jobs-last timed) isJob
+finish-after {a} timed x isJob = every-at (λ j. j .arrival < j .latest) (a .jobs) (x .0) noJob (jobs-last timed) isJob
 
 -- "Jobs are numbered by task, then by arrival."
-pub numbered : {a : Accepted} → Timed a → (x y : Job) → x .0 < y .0 → IsJob a y
+pub jobs-by-number : {a : Accepted} → Timed a → (x y : Job) → x .0 < y .0 → IsJob a y
     → (base a x < base a y) ⊎ ((base a x ≡ base a y) × (jobAt a x .arrival < jobAt a y .arrival))
 unfolding base jobAt
-numbered {a} timed x y lt isJob = ordered-at Earlier (a .jobs) (x .0) (y .0) noJob (jobs-numbered timed) lt isJob
+jobs-by-number {a} timed x y lt isJob = ordered-at Earlier (a .jobs) (x .0) (y .0) noJob (jobs-numbered timed) lt isJob
 
 -- ---- the four laws
 
 -- Law 1: of two jobs one comes before the other, or the one with the higher number may preempt the one with the lower.
-pub related : {a : Accepted} → Timed a → (x y : Job) → x .0 < y .0 → IsJob a y
+pub jobs-related : {a : Accepted} → Timed a → (x y : Job) → x .0 < y .0 → IsJob a y
     → (before a x y ≡ true) ⊎ (before a y x ≡ true) ⊎ (mayPreempt a y x ≡ true)
-related {a} timed x y lt isJob =
+jobs-related {a} timed x y lt isJob =
     let apart : x .0 ≡ y .0 → ⊥ = λ e. omega arith in
-    elim (numbered timed x y lt isJob) [
+    elim (jobs-by-number timed x y lt isJob) [
       | inr same ↦ inl (before-holds a x y apart (inr (omega arith)))
       | inl below ↦
           elim (decLe (jobAt a x .latest) (jobAt a y .arrival)) [
@@ -99,8 +100,8 @@ arrive-apart : {a : Accepted} → Timed a → (x y : Job) → IsJob a x → IsJo
     → base a x ≡ base a y → jobAt a x .arrival ≡ jobAt a y .arrival → ⊥
 arrive-apart {a} timed x y isX isY apart same together =
     elim (decLt (x .0) (y .0)) [
-      | yes below ↦ elim (numbered timed x y below isY) [ inl h ↦ omega arith | inr h ↦ omega arith ]
-      | no above ↦ elim (numbered timed y x (omega arith) isX) [ inl h ↦ omega arith | inr h ↦ omega arith ]
+      | yes below ↦ elim (jobs-by-number timed x y below isY) [ inl h ↦ omega arith | inr h ↦ omega arith ]
+      | no above ↦ elim (jobs-by-number timed y x (omega arith) isX) [ inl h ↦ omega arith | inr h ↦ omega arith ]
     ]
 
 -- Law 4: before has no cycle, since it raises the arrival or, at one arrival, lowers the base.
@@ -109,7 +110,7 @@ pub before-raises : {a : Accepted} → Timed a → (x y : Job) → IsJob a x →
 before-raises {a} timed x y isX isY h =
     let says = before-says a x y h in
     elim (says .1) [
-      | inl finished ↦ inl (omega (arith, lasts timed x isX))
+      | inl finished ↦ inl (omega (arith, finish-after timed x isX))
       | inr orders ↦
           elim (decLt (jobAt a x .arrival) (jobAt a y .arrival)) [
             | yes raised ↦ inl raised
@@ -130,7 +131,7 @@ preempts-lower {a} timed y x isX h =
         | no above ↦
             elim (ℕ-discrete (x .0) (y .0)) [
               | yes same ↦ absurd (let equal : base a x ≡ base a y = ap (λ (n : ℕ). base a (record { 0 = n })) same in omega arith)
-              | no apart ↦ absurd (elim (numbered timed y x (omega arith) isX) [ inl g ↦ omega arith | inr g ↦ omega arith ])
+              | no apart ↦ absurd (elim (jobs-by-number timed y x (omega arith) isX) [ inl g ↦ omega arith | inr g ↦ omega arith ])
             ]
       ],
     )
@@ -151,4 +152,4 @@ before-or-preempted a x y h k =
 pub before-or-preempts : {a : Accepted} → Timed a → (x y : Job) → IsJob a y → before a y x ≡ true → mayPreempt a y x ≡ true → ⊥
 before-or-preempts {a} timed x y isY h k =
     let p = preempt-says a y x k in
-    elim (before-says a y x h .1) [ inl g ↦ omega (arith, lasts timed y isY) | inr g ↦ omega arith ]
+    elim (before-says a y x h .1) [ inl g ↦ omega (arith, finish-after timed y isY) | inr g ↦ omega arith ]

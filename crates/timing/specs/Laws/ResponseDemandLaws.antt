@@ -24,7 +24,7 @@ use Rattle.notation.specs.Laws.PaddedLaws.{padded-any}
 use Rattle.taskfile.specs.Records.{File}
 use Rattle.taskfile.specs.Laws.TableLaws.{taskNumbers-length, taskNumbers-at}
 use Rattle.timing.specs.Accepted.{Accepted, mostJobs, bounded, responsesOf, timed, accept}
-use Rattle.timing.specs.Laws.AcceptedLaws.{accepted}
+use Rattle.timing.specs.Laws.AcceptedLaws.{file-accepted}
 use Rattle.timing.specs.Laws.AcceptLaws.{loaded-timeable, responses-length}
 use Rattle.timing.specs.Laws.JobLaws.{response-of}
 use Rattle.timing.specs.Jobs.{jobCount, jobsOf}
@@ -221,7 +221,7 @@ module _ (f : File) {a : Accepted} (e : accept f ≡ passed a) where
   answer-response : (i : Task) → responseIn (readAnswer f) i ≡ getD (a .responses) (i .0) 0
   unfolding readAnswer readAnswerOf
   answer-response i =
-      let ok = accepted f e in
+      let ok = file-accepted f e in
       let shaped = ok .isMade .shaped in
       let long = responses-length (a .table) (taskNumbers (a .table)) (ok .isTimed .found) in
       let few : length (a .responses) ≤ 8 =
@@ -230,13 +230,13 @@ module _ (f : File) {a : Accepted} (e : accept f ≡ passed a) where
 
   response-meets : (i : Task) → i .0 < a .table .tasks → MeetsPeriod (a .table) i (responseIn (readAnswer f) i)
   response-meets i lt =
-      let ok = accepted f e in
+      let ok = file-accepted f e in
       let found = response-of (ok .isTimed) i (omega (arith, tasks-length (ok .isMade .shaped))) in
       rw (answer-response i) (record { response = found .0; within = found .1 })
 
   response-past : (i : Task) → a .table .tasks ≤ i .0 → responseIn (readAnswer f) i ≡ 0
   response-past i le =
-      let ok = accepted f e in
+      let ok = file-accepted f e in
       let long = responses-length (a .table) (taskNumbers (a .table)) (ok .isTimed .found) in
       answer-response i
       ∙ List·getD-eq-default (a .responses) 0

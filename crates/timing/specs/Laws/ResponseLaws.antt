@@ -1,4 +1,5 @@
--- What `Response` and `Jobs` say: the rounded-up quotient, the response time and the search for it, the jobs in the window.
+-- What `Response` and `Jobs` say: the rounded-up quotient, the response time and the search for it, the jobs in the
+-- window.
 -- Assumes nothing.
 use mathlib.Core.Path.{_≡_, refl, ap, subst}
 use mathlib.Core.Logic.{_↔_}

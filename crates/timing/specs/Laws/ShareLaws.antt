@@ -1,5 +1,5 @@
--- Laws of the share of the processor that tasks need: two shares are added over a common whole, exactly or rounded down, and each
--- task above adds its own, since C × R ≤ C × P × ceil(R / P).
+-- Laws of the share of the processor that tasks need: two shares are added over a common whole, exactly or rounded
+-- down, and each task above adds its own, since C × R ≤ C × P × ceil(R / P).
 -- Assumes nothing.
 use mathlib.Core.Path.{_≡_, ap}
 use Prim.Native.Nat.{ℕ, _+_, _-_, _*_, _/_, _^_, _≤_, _<_, _∣_}
@@ -36,8 +36,8 @@ pub record Grouped (d m u w : ℕ) : Type 0 where
   pub few : w ≤ d
   pub room : w ≤ m
 
-pub grouped : (d m : ℕ) {u w : ℕ} → 1 ≤ d → 1 ≤ m → u ≡ roundedUp d m → w ≡ roundedUp d u → Grouped d m u w
-grouped d m {u} {w} some more eu ew =
+pub quotient-grouped : (d m : ℕ) {u w : ℕ} → 1 ≤ d → 1 ≤ m → u ≡ roundedUp d m → w ≡ roundedUp d u → Grouped d m u w
+quotient-grouped d m {u} {w} some more eu ew =
     let unit : 1 ≤ u = rw eu (roundedUp-positive d m some) in
     let enough : d ≤ u * m = rw eu (roundedUp-covers d m more) in
     let under : (k : ℕ) → k < w → k * u < d = λ k l. roundedUp-below d u k unit .0 (rw ew at l) in

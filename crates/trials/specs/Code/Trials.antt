@@ -14,7 +14,7 @@ use Rattle.order.specs.Code.Invariant.{Invariant}
 use Rattle.snapshots.specs.Code.Shows.{Lends, Shows}
 use Rattle.order.specs.States.{State}
 use Rattle.walk.specs.Moves.{moves}
-use Rattle.walk.specs.Walks.{Found, Walked, trial, walkFrom}
+use Rattle.walk.specs.Walks.{EndedOrder, Walked, trial, walkFrom}
 use Rattle.outcomes.specs.declared.Outcome.{Outcome}
 
 -- the buffer so far: the path to the state, and what stands beyond the room of an order
@@ -23,9 +23,9 @@ pub record Path (at : ℕ) (before now : List ℕ) : Type 0 where
   pub beyond : drop 512 now ≡ drop 512 before
 
 -- how the walk ended that made `total` moves in all, on a path of `at` bytes
-abbrev pub EndsAs : Option Found → ℕ → ℕ → List ℕ → Outcome → Type 0
-EndsAs none total at buffer r = (r .found ≡ false) × (r .count ≡ total)
-EndsAs (some f) total at buffer r =
+abbrev pub WalkEndsAs : Option EndedOrder → ℕ → ℕ → List ℕ → Outcome → Type 0
+WalkEndsAs none total at buffer r = (r .found ≡ false) × (r .count ≡ total)
+WalkEndsAs (some f) total at buffer r =
     (r .found ≡ true) × (r .count ≡ total) × (r .length ≡ at + length (f .bytes))
     × (take (at + length (f .bytes)) buffer ≡ take at buffer ++ f .bytes)
     × (r .store ≡ f .ending .store) × (r .failed ≡ f .ending .failed)
@@ -37,7 +37,7 @@ pub record Came (walked : Walked) (count allowance at : ℕ) (before after : Lis
   pub beyond : drop 512 after ≡ drop 512 before
   pub cut : allowance < count + walked .count → (r .stopped ≡ true) × (r .found ≡ false)
   pub whole : count + walked .count ≤ allowance
-      → (r .stopped ≡ false) × EndsAs (walked .failing) (count + walked .count) at after r
+      → (r .stopped ≡ false) × WalkEndsAs (walked .failing) (count + walked .count) at after r
 
 -- what a trial leaves beside its outcome
 abbrev pub Left : ℕ → ℕ → List ℕ → List ℕ → Outcome → Type 0

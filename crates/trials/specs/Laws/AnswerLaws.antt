@@ -1,5 +1,5 @@
--- The answers of the code of the trial and of the walk: each outcome, with what is left in the buffer, is as the contract says. And the
--- bounds of a move.
+-- The answers of the code of the trial and of the walk: each outcome, with what is left in the buffer, is as the
+-- contract says. And the bounds of a move.
 -- Assumes nothing.
 use mathlib.Core.Path.{_≡_, refl, sym, ap, subst, _∙_}
 use Prim.Native.Nat.{ℕ, _+_, _-_, _/_, _%_, _≤_, _<_}

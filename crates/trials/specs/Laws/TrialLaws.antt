@@ -1,4 +1,5 @@
--- The trial of the moves of a state, one after the other: what is left of it at a byte, and what it comes to by what the walk below finds.
+-- The trial of the moves of a state, one after the other: what is left of it at a byte, and what it comes to by what
+-- the walk below finds.
 -- Assumes nothing.
 use mathlib.Core.Path.{_≡_, refl, sym, ap, subst, _∙_}
 use Prim.Native.Nat.{ℕ, suc, _+_, _-_, _≤_, _<_}
@@ -20,10 +21,11 @@ use Rattle.walk.specs.Laws.ByteLaws.{stepsFrom, moves-steps, steps-skip, steps-
 use Rattle.outcomes.specs.declared.Outcome.{Outcome}
 use Rattle.walk.specs.Moves.{Move, moves}
 use Rattle.outcomes.specs.Code.Outcomes.{heldAt, stoppedAt}
-use Rattle.trials.specs.Code.Trials.{Path, EndsAs, Came}
-use Rattle.walk.specs.Walks.{Found, Walked, starting, afterMove, trial, walkFrom}
+use Rattle.trials.specs.Code.Trials.{Path, WalkEndsAs, Came}
+use Rattle.walk.specs.Walks.{EndedOrder, Walked, starting, afterMove, trial, walkFrom}
 
--- the moves from a byte on are what is left of all moves: nothing failed before, and `made` moves were made with `count` before the trial
+-- the moves from a byte on are what is left of all moves: nothing failed before, and `made` moves were made with
+-- `count` before the trial
 pub record Rest (a : Accepted) (s : State) (left count made byte : ℕ) : Type 0 where
   pub failing : trial (walkFrom a left) (moves a s) .failing ≡ trial (walkFrom a left) (stepsFrom a s byte (128 - byte)) .failing
   pub total : count + trial (walkFrom a left) (moves a s) .count ≡ made + trial (walkFrom a left) (stepsFrom a s byte (128 - byte)) .count
@@ -69,13 +71,13 @@ move-holds : (byte : ℕ) (below others : Walked) → below .failing ≡ none
 unfolding afterMove
 move-holds byte below others e = rw (e, afterMove) (refl, refl)
 
-move-fails : (byte : ℕ) (below others : Walked) {f : Found} → below .failing ≡ some f
+move-fails : (byte : ℕ) (below others : Walked) {f : EndedOrder} → below .failing ≡ some f
     → (afterMove byte below others .failing ≡ some (starting byte f)) × (afterMove byte below others .count ≡ 1 + below .count)
 unfolding afterMove
 move-fails byte below others e = rw (e, afterMove) (refl, refl)
 
 -- it counts itself and all below it
-move-counts : (byte : ℕ) (below others : Walked) (o : Option Found) → below .failing ≡ o → 1 + below .count ≤ afterMove byte below others .count
+move-counts : (byte : ℕ) (below others : Walked) (o : Option EndedOrder) → below .failing ≡ o → 1 + below .count ≤ afterMove byte below others .count
 move-counts byte below others none e = omega (arith, move-holds byte below others e .1)
 move-counts byte below others (some f) e = omega (arith, move-fails byte below others e .1)
 
@@ -119,7 +121,7 @@ module _ {a : Accepted} {s : State} {left count made allowance byte : ℕ} (few 
         kept = path .kept;
         beyond = path .beyond;
         cut = λ over. absurd (omega arith);
-        whole = λ fits. (refl, subst (λ (o : Option Found). EndsAs o (count + whole .count) (511 - left) now (heldAt made)) (sym nothing) (refl, omega arith));
+        whole = λ fits. (refl, subst (λ (o : Option EndedOrder). WalkEndsAs o (count + whole .count) (511 - left) now (heldAt made)) (sym nothing) (refl, omega arith));
       }
 
   module _ (lt : byte < 128) {after : State} (steps : step a s byte ≡ some after) where
@@ -153,8 +155,8 @@ module _ {a : Accepted} {s : State} {left count made allowance byte : ℕ} (few 
       onward = path-kept left byte few room path child-path
 
       -- the order found below goes on from the byte
-      found-on : (o : Option Found) → below .failing ≡ o → made + 1 + below .count ≤ allowance → EndsAs o (made + 1 + below .count) (512 - left) out r → r .found ≡ true
-          → (count + whole .count ≡ made + 1 + below .count) × EndsAs (whole .failing) (count + whole .count) (511 - left) out r
+      found-on : (o : Option EndedOrder) → below .failing ≡ o → made + 1 + below .count ≤ allowance → WalkEndsAs o (made + 1 + below .count) (512 - left) out r → r .found ≡ true
+          → (count + whole .count ≡ made + 1 + below .count) × WalkEndsAs (whole .failing) (count + whole .count) (511 - left) out r
       unfolding starting
       found-on none e fits ends found = absurd (not-both _ found (ends .0))
       found-on (some f) e fits ends found =
@@ -166,7 +168,7 @@ module _ {a : Accepted} {s : State} {left count made allowance byte : ℕ} (few 
           ∙ ap (λ (xs : List ℕ). xs ++ f .bytes) (path-on left byte few room path child-path ∙ ap (λ (xs : List ℕ). xs ++ (byte ∷ [])) (sym (path-front left byte few room path child-path)))
           ∙ append-assoc (take (511 - left) out) (byte ∷ []) (f .bytes) in (
             total,
-            subst (λ (o : Option Found). EndsAs o (count + whole .count) (511 - left) out r) (sym (here .0 ∙ moved .0))
+            subst (λ (o : Option EndedOrder). WalkEndsAs o (count + whole .count) (511 - left) out r) (sym (here .0 ∙ moved .0))
                 (ends .0, omega (arith, ends .1), omega (arith, ends .2), shown, ends .4, ends .5),
           )
 
@@ -198,7 +200,7 @@ module _ {a : Accepted} {s : State} {left count made allowance byte : ℕ} (few 
                 }
           ]
 
-      held-on : (o : Option Found) → below .failing ≡ o → made + 1 + below .count ≤ allowance → EndsAs o (made + 1 + below .count) (512 - left) out r → r .found ≡ false
+      held-on : (o : Option EndedOrder) → below .failing ≡ o → made + 1 + below .count ≤ allowance → WalkEndsAs o (made + 1 + below .count) (512 - left) out r → r .found ≡ false
           → Rest a s left count (r .count) (byte + 1)
       held-on none e fits ends lost =
           let moved = move-holds byte below others e in

@@ -1,4 +1,5 @@
--- The walk at one snapshot: a complete order fails if a job has, nothing is found where no steps are left, and else the moves are tried.
+-- The walk at one snapshot: a complete order fails if a job has, nothing is found where no steps are left, and else
+-- the moves are tried.
 -- Assumes nothing.
 use mathlib.Core.Path.{_≡_, refl, sym, ap, subst, _∙_}
 use mathlib.Core.Logic.{inl, inr}
@@ -10,9 +11,9 @@ use mathlib.Core.Option.{Option, none, some}
 use lib.ListN.{length, take}
 use Rattle.taskfile.specs.declared.Ceilings.{Ceilings}
 use Rattle.notation.specs.Lists.{if_then_else_, any}
-use Rattle.notation.specs.Laws.TestLaws.{decided}
+use Rattle.notation.specs.Laws.TestLaws.{test-decided}
 use Rattle.snapshots.specs.Code.Snapshots.{Snapshot}
-use Rattle.order.specs.Orders.{endOf}
+use Rattle.order.specs.Orders.{orderEnd}
 use Rattle.snapshots.specs.Laws.SnapshotLaws.{finished-agreed}
 use Rattle.snapshots.specs.Code.SnapshotSteps.{finishedIn}
 use Rattle.order.specs.States.{State}
@@ -20,8 +21,8 @@ use Rattle.walk.specs.Laws.CaseLaws.{walk-end, walk-cut, walk-on}
 use Rattle.outcomes.specs.declared.Outcome.{Outcome}
 use Rattle.walk.specs.Moves.{moves}
 use Rattle.outcomes.specs.Code.Outcomes.{heldAt, endedAt}
-use Rattle.trials.specs.Code.Trials.{EndsAs, Came, WalksAs, TriesAs}
-use Rattle.walk.specs.Walks.{Found, Walked, fails, trial, atEnd, walkFrom}
+use Rattle.trials.specs.Code.Trials.{WalkEndsAs, Came, WalksAs, TriesAs}
+use Rattle.walk.specs.Walks.{EndedOrder, Walked, fails, trial, atEnd, walkFrom}
 
 -- nothing found, and nothing changed
 came-held : (count allowance at : ℕ) (buffer : List ℕ) → count ≤ allowance → (walked : Walked) → walked .failing ≡ none → walked .count ≡ 0
@@ -32,23 +33,23 @@ came-held count allowance at buffer le walked nothing zero-moves =
       kept = refl;
       beyond = refl;
       cut = λ over. absurd (omega arith);
-      whole = λ within. (refl, subst (λ (o : Option Found). EndsAs o (count + walked .count) at buffer (heldAt count)) (sym nothing) (refl, omega arith));
+      whole = λ within. (refl, subst (λ (o : Option EndedOrder). WalkEndsAs o (count + walked .count) at buffer (heldAt count)) (sym nothing) (refl, omega arith));
     }
 
 -- a complete order fails if a job has
 ended-came : (p : Snapshot) (s : State) → p .store ≡ s .store → p .failed ≡ s .failed → (count allowance at : ℕ) (buffer : List ℕ) → count ≤ allowance
     → Came (atEnd s) count allowance at buffer buffer (endedAt p count at)
-unfolding endedAt atEnd fails endOf if_then_else_
+unfolding endedAt atEnd fails orderEnd if_then_else_
 ended-came p s store failed count allowance at buffer le =
-    elim (decided (any (λ flag. flag) (s .failed))) [
+    elim (test-decided (any (λ flag. flag) (s .failed))) [
       | inl bad ↦
-          let ended : atEnd s ≡ record { failing = some (record { bytes = []; ending = endOf s }); count = 0 } = rw bad refl in
+          let ended : atEnd s ≡ record { failing = some (record { bytes = []; ending = orderEnd s }); count = 0 } = rw bad refl in
           let r : Outcome = record { found = true; stopped = false; count = count; length = at; store = p .store; failed = p .failed } in
           let is : endedAt p count at ≡ r = rw (ap (any (λ flag. flag)) failed ∙ bad) refl in
           let none-more : at + 0 ≡ at = omega arith in
           let same : take (at + 0) buffer ≡ take at buffer ++ [] = ap (λ (n : ℕ). take n buffer) none-more ∙ sym (append-nil (take at buffer)) in
           subst (λ (w : Walked). Came w count allowance at buffer buffer (endedAt p count at)) (sym ended)
-          (subst (λ (q : Outcome). Came (record { failing = some (record { bytes = []; ending = endOf s }); count = 0 }) count allowance at buffer buffer q) (sym is)
+          (subst (λ (q : Outcome). Came (record { failing = some (record { bytes = []; ending = orderEnd s }); count = 0 }) count allowance at buffer buffer q) (sym is)
           (record {
             kept = refl;
             beyond = refl;

@@ -1,4 +1,5 @@
--- `turns::offered` meets its contract: a position past the body has no value on offer, and any other those of its instruction.
+-- `turns::offered` meets its contract: a position past the body has no value on offer, and any other those of its
+-- instruction.
 -- Assumes nothing.
 use Rattle.states.specs.Laws.StateReads.{offered-past, offered-read}
 use borrow.Author.Needs.{needs}

@@ -1,4 +1,5 @@
--- `turns::turn_of` meets its contract: the two returns are the two cases of the turn, whose numbers are bounded by a law of it.
+-- `turns::turn_of` meets its contract: the two returns are the two cases of the turn, whose numbers are bounded by a
+-- law of it.
 -- Assumes nothing.
 use native.Mathlib.Omega.{arith}
 use Rattle.states.specs.Laws.StateReads.{runs-deep, turn-runs, turn-starts}

@@ -1,5 +1,5 @@
--- The moves of a state, in the walk's order, are the bytes below 128 that are steps, ascending: so the walk may try each byte in
--- turn, and skip bytes that are no steps.
+-- The moves of a state, in the walk's order, are the bytes below 128 that are steps, ascending: so the walk may try
+-- each byte in turn, and skip bytes that are no steps.
 -- Assumes nothing.
 use mathlib.Core.Path.{_≡_, refl, sym, ap, ap₂, subst, _∙_}
 use mathlib.Core.Logic.{_⊎_, inl, inr}

@@ -1,5 +1,5 @@
--- The orders, the walk and the paths from a state on, case by case: at an end, where no more steps may come, and through the moves. And an
--- order by its first byte, which is never a step after the end.
+-- The orders, the walk and the paths from a state on, case by case: at an end, where no more steps may come, and
+-- through the moves. And an order by its first byte, which is never a step after the end.
 -- Assumes nothing.
 use mathlib.Core.Path.{_≡_, refl}
 use Prim.Native.Nat.{ℕ, zero, suc, _+_}
@@ -12,18 +12,18 @@ use Rattle.timing.specs.Accepted.{Accepted}
 use Rattle.timing.specs.Code.IsAccepted.{IsAccepted}
 use Rattle.timing.specs.Laws.JobNumberLaws.{all-jobs}
 use Rattle.order.specs.Code.Invariant.{Invariant}
-use Rattle.order.specs.Orders.{step, run, endOf}
+use Rattle.order.specs.Orders.{step, run, orderEnd}
 use Rattle.order.specs.States.{State, hasEnded, allEnded}
 use Rattle.order.specs.Laws.StepLaws.{good-turn, step-says}
 use Rattle.walk.specs.Moves.{moves}
 use Rattle.walk.specs.Paths.{pathsThrough, pathsFrom}
-use Rattle.walk.specs.Walks.{Found, Walked, starting, ordersThrough, ordersFrom, afterMove, trial, atEnd, walkFrom}
+use Rattle.walk.specs.Walks.{EndedOrder, Walked, starting, ordersThrough, ordersFrom, afterMove, trial, atEnd, walkFrom}
 
 -- ---- the definitions, case by case
 
 module _ (a : Accepted) (s : State) where
   -- at a state where all jobs have ended the empty order is complete
-  pub orders-end : (n : ℕ) → allEnded a s ≡ true → ordersFrom a n s ≡ record { bytes = []; ending = endOf s } ∷ []
+  pub orders-end : (n : ℕ) → allEnded a s ≡ true → ordersFrom a n s ≡ record { bytes = []; ending = orderEnd s } ∷ []
   unfolding ordersFrom if_then_else_
   orders-end zero e = rw e refl
   orders-end (suc n) e = rw (e, ordersFrom) refl
@@ -71,7 +71,7 @@ module _ (byte : ℕ) (below others : Walked) where
   unfolding afterMove
   after-none e = rw (e, afterMove) refl
 
-  pub after-some : {f : Found} → below .failing ≡ some f → afterMove byte below others ≡ record { failing = some (starting byte f); count = 1 + below .count }
+  pub after-some : {f : EndedOrder} → below .failing ≡ some f → afterMove byte below others ≡ record { failing = some (starting byte f); count = 1 + below .count }
   unfolding afterMove
   after-some e = rw (e, afterMove) refl
 

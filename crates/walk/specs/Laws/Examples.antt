@@ -8,7 +8,7 @@ use Rattle.notation.specs.Checked.{refused, passed}
 use Rattle.timing.specs.Accepted.{Accepted}
 use Rattle.machine.specs.Ends.{End, noStore}
 use Rattle.samples.specs.Laws.Opened.{opened}
-use Rattle.samples.specs.Laws.Samples.{nest, pair, pick, idle, samplesOpened, firstFailed}
+use Rattle.samples.specs.Laws.Samples.{nest, pair, pickUpTo, idle, samplesOpened, firstFailed}
 use Rattle.order.specs.Laws.Opened.{ordersOpened}
 use Rattle.order.specs.Orders.{run}
 use Rattle.order.specs.States.{State, initial}
@@ -38,11 +38,11 @@ pub record WalkExamples : Type 0 where
   -- job 0 has to wait for job 1
   pub waits : movesAfter pair [] ≡ 16 ∷ []
   -- the order that picks 0 holds after three moves; that which picks 1 fails after four more, and 2 is not tried
-  pub failing : walk pick
+  pub failing : walk pickUpTo
       ≡ record { failing = some (record { bytes = 1 ∷ 0 ∷ 0 ∷ 0 ∷ []; ending = firstFails }); count = 7 }
   -- "21 UNDECIDED: the walk's count exceeds the allowance, and only then"
-  pub allowed : decided 7 (walk pick) ≡ passed (walk pick)
-  pub undecided : decided 6 (walk pick) ≡ refused 21 0
+  pub allowed : decided 7 (walk pickUpTo) ≡ passed (walk pickUpTo)
+  pub undecided : decided 6 (walk pickUpTo) ≡ refused 21 0
   pub holding : walk pair ≡ record { failing = none; count = 2 }
   pub idling : walk idle ≡ record { failing = none; count = 0 }
 

@@ -21,8 +21,8 @@ use Rattle.order.specs.Laws.StepLaws.{initial-invariant}
 use Rattle.walk.specs.FailingOrders.{SomeFails, FirstFailing}
 use Rattle.walk.specs.Laws.ListedLaws.{from-listed, listed-from, from-ascends}
 use Rattle.walk.specs.Paths.{Lex}
-use Rattle.walk.specs.Laws.WalkLaws.{from-first}
-use Rattle.walk.specs.Walks.{Found, fails, orders, walk}
+use Rattle.walk.specs.Laws.WalkLaws.{walk-from-first}
+use Rattle.walk.specs.Walks.{EndedOrder, fails, orders, walk}
 use Rattle.machine.specs.Buffers.{orderRoom}
 
 -- ---- the first of a list
@@ -92,7 +92,7 @@ module _ {a : Accepted} (ok : IsAccepted a) where
       (from-listed ok orderRoom (initial-invariant a) order (full .short) (full .allowed) (full .finished))
 
   -- whatever is listed is a complete order, with its end
-  pub listed-complete : (f : Found) → List·Memᴰ f (orders a) → OrderEnds a (f .bytes) (f .ending)
+  pub listed-complete : (f : EndedOrder) → List·Memᴰ f (orders a) → OrderEnds a (f .bytes) (f .ending)
   unfolding orders
   listed-complete f here =
       let ends = listed-from ok orderRoom (initial-invariant a) here in
@@ -103,32 +103,32 @@ module _ {a : Accepted} (ok : IsAccepted a) where
       }
 
   -- the walk's failing order is the first of the complete orders that fail
-  pub walk-first : (f : Found) → walk a .failing ≡ some f → FirstFailing a (f .bytes) (f .ending)
+  pub walk-first : (f : EndedOrder) → walk a .failing ≡ some f → FirstFailing a (f .bytes) (f .ending)
   unfolding walk orders
   walk-first f e =
-      let is = sym (from-first a orderRoom (initial a)) ∙ e in
+      let is = sym (walk-from-first a orderRoom (initial a)) ∙ e in
       let found = first-member (λ g. fails (g .ending)) (orders a) is in
       record {
         failing = record { complete = listed-complete f (found .0); failed = found .1 };
         first = λ other end fails'.
             elim (first-related (λ g. fails (g .ending)) (λ g h. Lex (g .bytes) (h .bytes)) (orders a)
             (from-ascends ok orderRoom (initial-invariant a)) is (order-listed (fails' .complete)) (fails' .failed)) [
-              | inl same ↦ inl (ap (λ (g : Found). g .bytes) same)
+              | inl same ↦ inl (ap (λ (g : EndedOrder). g .bytes) same)
               | inr later ↦ inr later
             ];
       }
 
   -- it is no longer than an order may be
-  pub walk-short : (f : Found) → walk a .failing ≡ some f → length (f .bytes) ≤ orderRoom
+  pub walk-short : (f : EndedOrder) → walk a .failing ≡ some f → length (f .bytes) ≤ orderRoom
   walk-short f e = walk-first f e .failing .complete .complete .short
 
   -- where the walk finds one, some complete order fails
-  pub walk-fails : (f : Found) → walk a .failing ≡ some f → SomeFails a
+  pub walk-fails : (f : EndedOrder) → walk a .failing ≡ some f → SomeFails a
   walk-fails f e = record { order = f .bytes; end = f .ending; failing = walk-first f e .failing }
 
   -- where it finds none, no complete order fails
   pub walk-holds : walk a .failing ≡ none → SomeFails a → ⊥
   unfolding walk orders
   walk-holds e some' =
-      first-lacks (λ g. fails (g .ending)) (orders a) (sym (from-first a orderRoom (initial a)) ∙ e)
+      first-lacks (λ g. fails (g .ending)) (orders a) (sym (walk-from-first a orderRoom (initial a)) ∙ e)
       (order-listed (some' .failing .complete)) (some' .failing .failed)

@@ -1,5 +1,5 @@
--- Laws behind the theorem of demand 2: what the tree lists from a state that an order can reach. These are the complete orders from there
--- within the steps that may still come, no others, and they ascend.
+-- Laws behind the theorem of demand 2: what the tree lists from a state that an order can reach. These are the
+-- complete orders from there within the steps that may still come, no others, and they ascend.
 -- Assumes nothing.
 use mathlib.Core.Path.{_≡_, refl, sym, ap, subst, _∙_}
 use mathlib.Core.Logic.{inl, inr}
@@ -15,7 +15,7 @@ use Rattle.notation.specs.Laws.TestLaws as tests
 use Rattle.timing.specs.Accepted.{Accepted}
 use Rattle.timing.specs.Code.IsAccepted.{IsAccepted}
 use Rattle.order.specs.Code.Invariant.{Invariant}
-use Rattle.order.specs.Orders.{run, endOf}
+use Rattle.order.specs.Orders.{run, orderEnd}
 use Rattle.order.specs.States.{State, allEnded}
 use Rattle.order.specs.Laws.StepLaws.{step-keeps}
 use Rattle.walk.specs.Laws.CaseLaws.{orders-end, orders-cut, orders-on, end-steps, run-first, run-on}
@@ -23,12 +23,12 @@ use Rattle.walk.specs.Laws.MoveLaws.{moves-ascend, move-is-step, step-is
 use Rattle.walk.specs.Moves.{Move, moves}
 use Rattle.walk.specs.Paths.{Lex}
 use Rattle.walk.specs.WalkEntry.{decided}
-use Rattle.walk.specs.Walks.{Found, starting, ordersThrough, ordersFrom}
+use Rattle.walk.specs.Walks.{EndedOrder, starting, ordersThrough, ordersFrom}
 
 -- ---- the complete orders are listed
 
 -- what is listed below a move is listed through the moves, with the move's byte in front
-through-member : (below : State → List Found) (ms : List Move) {m : Move} {f : Found} → List·Memᴰ m ms → List·Memᴰ f (below (m .after))
+through-member : (below : State → List EndedOrder) (ms : List Move) {m : Move} {f : EndedOrder} → List·Memᴰ m ms → List·Memᴰ f (below (m .after))
     → List·Memᴰ (starting (m .byte) f) (ordersThrough below ms)
 unfolding ordersThrough
 through-member below [] here found = absurd (List·Memᴰ·not-nil here)
@@ -41,8 +41,8 @@ through-member below (n ∷ ns) {m} {f} here found =
     ]
 
 -- and it has no others
-member-through : (below : State → List Found) (ms : List Move) {f : Found} → List·Memᴰ f (ordersThrough below ms)
-    → (m : Move) × (g : Found) × List·Memᴰ m ms × List·Memᴰ g (below (m .after)) × (starting (m .byte) g ≡ f)
+member-through : (below : State → List EndedOrder) (ms : List Move) {f : EndedOrder} → List·Memᴰ f (ordersThrough below ms)
+    → (m : Move) × (g : EndedOrder) × List·Memᴰ m ms × List·Memᴰ g (below (m .after)) × (starting (m .byte) g ≡ f)
 unfolding ordersThrough
 member-through below [] here = absurd (List·Memᴰ·not-nil here)
 member-through below (n ∷ ns) here =
@@ -54,47 +54,48 @@ member-through below (n ∷ ns) here =
 module _ {a : Accepted} (ok : IsAccepted a) where
   -- an order that ends all jobs within the steps that may come is listed
   pub from-listed : (n : ℕ) {s : State} → Invariant a s → (bytes : List ℕ) {after : State} → length bytes ≤ n → run a s bytes ≡ some after
-      → allEnded a after ≡ true → List·Memᴰ (record { bytes = bytes; ending = endOf after }) (ordersFrom a n s)
+      → allEnded a after ≡ true → List·Memᴰ (record { bytes = bytes; ending = orderEnd after }) (ordersFrom a n s)
   unfolding run starting
   from-listed n {s} inv [] {after} short e done =
       let same : after ≡ s = cc in
       rw (orders-end a s n (subst (λ (t : State). allEnded a t ≡ true) same done))
-      (List·Memᴰ·head (ap (λ (t : State). record { bytes = []; ending = endOf t }) same))
+      (List·Memᴰ·head (ap (λ (t : State). record { bytes = []; ending = orderEnd t }) same))
   from-listed zero inv (byte ∷ bytes) short e done = absurd (omega arith)
   from-listed (suc n) {s} inv (byte ∷ bytes) {after} short e done =
       let first = run-first a s byte bytes e in
       let below = from-listed n (step-keeps ok inv byte (first .1)) bytes (omega arith) (first .2) done in
-      elim (tests.decided (allEnded a s)) [
+      elim (tests.test-decided (allEnded a s)) [
         | inl ended ↦ absurd (end-steps ok inv ended byte (first .1))
         | inr goes ↦ rw (orders-on a s n goes) (through-member (ordersFrom a n) (moves a s) (step-is-move ok inv byte (first .1)) below)
       ]
 
--- an order that is listed from a state on: its bytes lead to a state where all jobs have ended, within the steps that may come
-pub record Ends (a : Accepted) (n : ℕ) (s : State) (f : Found) : Type 0 where
+-- an order that is listed from a state on: its bytes lead to a state where all jobs have ended, within the steps that
+-- may come
+pub record Ends (a : Accepted) (n : ℕ) (s : State) (f : EndedOrder) : Type 0 where
   pub after : State
   pub allowed : run a s (f .bytes) ≡ some after
   pub finished : allEnded a after ≡ true
   pub short : length (f .bytes) ≤ n
-  pub ending : f .ending ≡ endOf after
+  pub ending : f .ending ≡ orderEnd after
 
 -- at an end the empty order is such an order
-ends-here : (a : Accepted) (n : ℕ) (s : State) → allEnded a s ≡ true → {f : Found} → List·Memᴰ f (ordersFrom a n s) → Ends a n s f
+ends-here : (a : Accepted) (n : ℕ) (s : State) → allEnded a s ≡ true → {f : EndedOrder} → List·Memᴰ f (ordersFrom a n s) → Ends a n s f
 unfolding run
 ends-here a n s done {f} here =
-    let same : f ≡ record { bytes = []; ending = endOf s } = List·Memᴰ·eq-of-singleton (rw (orders-end a s n done) at here) in
+    let same : f ≡ record { bytes = []; ending = orderEnd s } = List·Memᴰ·eq-of-singleton (rw (orders-end a s n done) at here) in
     subst (Ends a n s) (sym same) (record { after = s; allowed = refl; finished = done; short = omega arith; ending = refl })
 
 module _ {a : Accepted} (ok : IsAccepted a) where
   -- nothing else is listed
-  pub listed-from : (n : ℕ) {s : State} → Invariant a s → {f : Found} → List·Memᴰ f (ordersFrom a n s) → Ends a n s f
+  pub listed-from : (n : ℕ) {s : State} → Invariant a s → {f : EndedOrder} → List·Memᴰ f (ordersFrom a n s) → Ends a n s f
   unfolding starting
   listed-from zero {s} inv here =
-      elim (tests.decided (allEnded a s)) [
+      elim (tests.test-decided (allEnded a s)) [
         | inl ended ↦ ends-here a zero s ended here
         | inr goes ↦ absurd (List·Memᴰ·not-nil (rw (orders-cut a s goes) at here))
       ]
   listed-from (suc n) {s} inv here =
-      elim (tests.decided (allEnded a s)) [
+      elim (tests.test-decided (allEnded a s)) [
         | inl ended ↦ ends-here a (suc n) s ended here
         | inr goes ↦
             let at = member-through (ordersFrom a n) (moves a s) (rw (orders-on a s n goes) at here) in
@@ -137,7 +138,7 @@ lex-later x lex =
       smaller = lex .smaller;
     }
 
-abbrev Before : Found → Found → Type 0
+abbrev Before : EndedOrder → EndedOrder → Type 0
 Before f g = Lex (f .bytes) (g .bytes)
 
 -- what holds of each element by its place holds of every element
@@ -145,7 +146,7 @@ pub every-listed : {A : Type 0} (P : A → Type 0) (xs : List A) → ((x : A) �
 every-listed P [] h = tt
 every-listed P (x ∷ xs) h = (h x (List·Memᴰ·head refl), every-listed P xs (λ y m. h y (List·Memᴰ·tail m)))
 
-module _ (below : State → List Found) where
+module _ (below : State → List EndedOrder) where
   -- an order that begins with a byte comes before those through moves with higher ones
   through-above : (byte : ℕ) (bytes : List ℕ) (ms : List Move) → Every (λ m. byte < m .byte) ms
       → Every (λ g. Lex (byte ∷ bytes) (g .bytes)) (ordersThrough below ms)
@@ -172,12 +173,12 @@ module _ (below : State → List Found) where
 -- the orders listed from a state on ascend
 pub from-ascends : {a : Accepted} → IsAccepted a → (n : ℕ) {s : State} → Invariant a s → Ordered Before (ordersFrom a n s)
 from-ascends {a} ok zero {s} inv =
-    elim (tests.decided (allEnded a s)) [
+    elim (tests.test-decided (allEnded a s)) [
       | inl ended ↦ rw (orders-end a s zero ended) (tt, tt)
       | inr goes ↦ rw (orders-cut a s goes) tt
     ]
 from-ascends {a} ok (suc n) {s} inv =
-    elim (tests.decided (allEnded a s)) [
+    elim (tests.test-decided (allEnded a s)) [
       | inl ended ↦ rw (orders-end a s (suc n) ended) (tt, tt)
       | inr goes ↦
           rw (orders-on a s n goes)

@@ -1,5 +1,5 @@
--- Laws behind the theorem of demand 2: how many moves the walk makes from a state with no failed flag. These are all moves of the tree from
--- there, or those up to the failing order.
+-- Laws behind the theorem of demand 2: how many moves the walk makes from a state with no failed flag. These are all
+-- moves of the tree from there, or those up to the failing order.
 -- Assumes nothing.
 use mathlib.Core.Path.{_≡_, refl, sym, ap, subst, _∙_}
 use mathlib.Core.Logic.{_⊎_, inl, inr}
@@ -14,23 +14,23 @@ use Rattle.notation.specs.Laws.QuantifierLaws.{map-length}
 use Rattle.notation.specs.Laws.TestLaws as tests
 use Rattle.timing.specs.Accepted.{Accepted}
 use Rattle.machine.specs.Ends.{noFlags}
-use Rattle.order.specs.Orders.{endOf}
+use Rattle.order.specs.Orders.{orderEnd}
 use Rattle.order.specs.States.{State, initial, allEnded}
 use Rattle.walk.specs.Laws.CaseLaws.{walk-end, walk-cut, walk-on, after-none, after-some, paths-end, paths-cut, paths-on}
 use Rattle.walk.specs.Moves.{Move, moves}
 use Rattle.walk.specs.Paths.{UpTo, pathsThrough, pathsFrom}
 use Rattle.walk.specs.WalkEntry.{decided}
-use Rattle.walk.specs.Walks.{Found, Walked, fails, starting, afterMove, trial, atEnd, walkFrom}
+use Rattle.walk.specs.Walks.{EndedOrder, Walked, fails, starting, afterMove, trial, atEnd, walkFrom}
 
 -- a walk over the listed paths made all their moves, or those up to the failing order
 pub record Counted (w : Walked) (listed : List (List ℕ)) : Type 0 where
   pub all : w .failing ≡ none → w .count ≡ length listed
-  pub found : (f : Found) → w .failing ≡ some f → UpTo (w .count) listed (f .bytes)
+  pub found : (f : EndedOrder) → w .failing ≡ some f → UpTo (w .count) listed (f .bytes)
 
 -- and below a move it may stand at a failing end, and have made none
 record Made (w : Walked) (listed : List (List ℕ)) : Type 0 where
   all : w .failing ≡ none → w .count ≡ length listed
-  found : (f : Found) → w .failing ≡ some f → ((f .bytes ≡ []) × (w .count ≡ 0)) ⊎ UpTo (w .count) listed (f .bytes)
+  found : (f : EndedOrder) → w .failing ≡ some f → ((f .bytes ≡ []) × (w .count ≡ 0)) ⊎ UpTo (w .count) listed (f .bytes)
 
 counted-made : {w : Walked} {listed : List (List ℕ)} → Counted w listed → Made w listed
 counted-made c = record { all = c .all; found = λ f e. inr (c .found f e) }
@@ -77,7 +77,7 @@ module _ (byte : ℕ) (listed others : List (List ℕ)) where
 
 -- a move, then the walk below it, then the others
 module _ (byte : ℕ) {below others : Walked} {listed rest : List (List ℕ)} (made : Made below listed) (counted : Counted others rest) where
-  move-counted : (o : Option Found) → below .failing ≡ o → Counted (afterMove byte below others) (throughMove byte listed rest)
+  move-counted : (o : Option EndedOrder) → below .failing ≡ o → Counted (afterMove byte below others) (throughMove byte listed rest)
   unfolding starting
   move-counted none e =
       rw (after-none byte below others e)
@@ -92,7 +92,7 @@ module _ (byte : ℕ) {below others : Walked} {listed rest : List (List ℕ)} (m
       (record {
         all = λ e. absurd (Option·some-ne-none _ e);
         found = λ f h.
-            subst (λ (h : Found). UpTo (1 + below .count) (throughMove byte listed rest) (h .bytes)) (Option·some-injective _ f h)
+            subst (λ (h : EndedOrder). UpTo (1 + below .count) (throughMove byte listed rest) (h .bytes)) (Option·some-injective _ f h)
             (elim (made .found g e) [
               | inl here ↦
                   subst (λ (l : List ℕ). UpTo (1 + below .count) (throughMove byte listed rest) (byte ∷ l)) (sym (here .0))
@@ -111,10 +111,10 @@ trial-counted below listed made (m ∷ ms) =
 -- at an end
 end-made : (s : State) → Made (atEnd s) []
 unfolding atEnd if_then_else_
-end-made s = record { all = λ e. refl; found = λ f e. inl (go (fails (endOf s)) f e, refl) }
+end-made s = record { all = λ e. refl; found = λ f e. inl (go (fails (orderEnd s)) f e, refl) }
   where
-    go : (b : Bool) (f : Found) → (if b then some (record { bytes = []; ending = endOf s }) else none) ≡ some f → f .bytes ≡ []
-    go true f e = ap (λ (g : Found). g .bytes) (sym (Option·some-injective _ f e))
+    go : (b : Bool) (f : EndedOrder) → (if b then some (record { bytes = []; ending = orderEnd s }) else none) ≡ some f → f .bytes ≡ []
+    go true f e = ap (λ (g : EndedOrder). g .bytes) (sym (Option·some-injective _ f e))
     go false f e = absurd (Option·none-ne-some f e)
 
 -- where the tree is cut
@@ -124,12 +124,12 @@ cut-made = record { all = λ e. refl; found = λ f e. absurd (Option·none-ne-so
 -- the walk from a state on makes all moves of the tree from there, or those up to the failing order
 from-made : (a : Accepted) (n : ℕ) (s : State) → Made (walkFrom a n s) (pathsFrom a n s)
 from-made a zero s =
-    elim (tests.decided (allEnded a s)) [
+    elim (tests.test-decided (allEnded a s)) [
       | inl ended ↦ rw (walk-end a s zero ended, paths-end a s zero ended) (end-made s)
       | inr goes ↦ rw (walk-cut a s goes, paths-cut a s) cut-made
     ]
 from-made a (suc n) s =
-    elim (tests.decided (allEnded a s)) [
+    elim (tests.test-decided (allEnded a s)) [
       | inl ended ↦ rw (walk-end a s (suc n) ended, paths-end a s (suc n) ended) (end-made s)
       | inr goes ↦
           rw (walk-on a s n goes, paths-on a s n goes)
@@ -137,40 +137,40 @@ from-made a (suc n) s =
     ]
 
 -- an order found through moves begins with a move's byte
-trial-found : (below : State → Walked) (ms : List Move) (f : Found) → trial below ms .failing ≡ some f → f .bytes ≡ [] → ⊥
+trial-found : (below : State → Walked) (ms : List Move) (f : EndedOrder) → trial below ms .failing ≡ some f → f .bytes ≡ [] → ⊥
 unfolding trial starting
 trial-found below [] f e empty = Option·none-ne-some f e
 trial-found below (m ∷ ms) f e empty = go (below (m .after) .failing) refl (λ rest. trial-found below ms f rest empty)
   where
-    go : (o : Option Found) → below (m .after) .failing ≡ o → (trial below ms .failing ≡ some f → ⊥) → ⊥
+    go : (o : Option EndedOrder) → below (m .after) .failing ≡ o → (trial below ms .failing ≡ some f → ⊥) → ⊥
     go none h later = later (ap (λ (w : Walked). w .failing) (sym (after-none (m .byte) (below (m .after)) (trial below ms) h)) ∙ e)
     go (some g) h later =
         let same = ap (λ (w : Walked). w .failing) (sym (after-some (m .byte) (below (m .after)) (trial below ms) h)) ∙ e in
-        let bytes : m .byte ∷ g .bytes ≡ [] = ap (λ (k : Found). k .bytes) (Option·some-injective _ f same) ∙ empty in
+        let bytes : m .byte ∷ g .bytes ≡ [] = ap (λ (k : EndedOrder). k .bytes) (Option·some-injective _ f same) ∙ empty in
         let z : _≡_ {A = ℕ} 0 1 = cc in
         omega arith
 
 -- nothing is found at an end with no failed flag
-end-sound : (s : State) → fails (endOf s) ≡ false → atEnd s .failing ≡ none
+end-sound : (s : State) → fails (orderEnd s) ≡ false → atEnd s .failing ≡ none
 unfolding atEnd if_then_else_
 end-sound s sound = rw sound refl
 
 -- so from a state with no failed flag the order that is found is not empty
-pub from-found : (a : Accepted) (n : ℕ) (s : State) → fails (endOf s) ≡ false → (f : Found) → walkFrom a n s .failing ≡ some f
+pub from-found : (a : Accepted) (n : ℕ) (s : State) → fails (orderEnd s) ≡ false → (f : EndedOrder) → walkFrom a n s .failing ≡ some f
     → f .bytes ≡ [] → ⊥
 from-found a zero s sound f e empty =
-    elim (tests.decided (allEnded a s)) [
+    elim (tests.test-decided (allEnded a s)) [
       | inl ended ↦ Option·none-ne-some f (sym (end-sound s sound) ∙ rw (walk-end a s zero ended) at e)
       | inr goes ↦ Option·none-ne-some f (rw (walk-cut a s goes) at e)
     ]
 from-found a (suc n) s sound f e empty =
-    elim (tests.decided (allEnded a s)) [
+    elim (tests.test-decided (allEnded a s)) [
       | inl ended ↦ Option·none-ne-some f (sym (end-sound s sound) ∙ rw (walk-end a s (suc n) ended) at e)
       | inr goes ↦ trial-found (walkFrom a n) (moves a s) f (rw (walk-on a s n goes) at e) empty
     ]
 
 -- and the count is as said
-pub from-counted : (a : Accepted) (n : ℕ) (s : State) → fails (endOf s) ≡ false → Counted (walkFrom a n s) (pathsFrom a n s)
+pub from-counted : (a : Accepted) (n : ℕ) (s : State) → fails (orderEnd s) ≡ false → Counted (walkFrom a n s) (pathsFrom a n s)
 from-counted a n s sound =
     let made = from-made a n s in
     record {
@@ -179,6 +179,6 @@ from-counted a n s sound =
     }
 
 -- an order starts from such a state
-pub initial-sound : (a : Accepted) → fails (endOf (initial a)) ≡ false
-unfolding fails endOf initial noFlags any
+pub initial-sound : (a : Accepted) → fails (orderEnd (initial a)) ≡ false
+unfolding fails orderEnd initial noFlags any
 initial-sound a = refl

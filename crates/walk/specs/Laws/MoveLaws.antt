@@ -1,5 +1,5 @@
--- The moves of a state are its steps, each once: the walk's order of them is ascending in their byte, each is a step, and each
--- step is one of them.
+-- The moves of a state are its steps, each once: the walk's order of them is ascending in their byte, each is a step,
+-- and each step is one of them.
 -- Assumes nothing.
 use mathlib.Core.Path.{_≡_, refl, sym, ap, ap₂, subst, _∙_}
 use mathlib.Core.Logic.{inl, inr}
@@ -19,7 +19,7 @@ use Rattle.notation.specs.Lists.{if_then_else_, from, upTo, member, firstWith, 
 use Rattle.notation.specs.Laws.PairLaws.{every-of, every-imp, every-map, every-each, ordered-imp, ordered-map, ordered-append, ordered-each, from-within, from-rises}
 use Rattle.notation.specs.Ordered.{Every, Ordered}
 use Rattle.taskfile.specs.Laws.TableLaws.{tasks-rise}
-use Rattle.notation.specs.Laws.TestLaws.{either, or-left, or-right}
+use Rattle.notation.specs.Laws.TestLaws.{or-either, or-left, or-right}
 use Rattle.timing.specs.Accepted.{Accepted}
 use Rattle.timing.specs.Laws.RelationLaws.{preempt-says}
 use Rattle.timing.specs.Relations.{base, jobAt, jobNumbers}
@@ -187,7 +187,7 @@ member-says : (x : ℕ) (ys : List ℕ) → member x ys ≡ true → List·Mem�
 unfolding member
 member-says x [] h = absurd (false≢true h)
 member-says x (y ∷ ys) h =
-    elim (either (eqb x y) _ h) [
+    elim (or-either (eqb x y) _ h) [
       | inl same ↦ List·Memᴰ·head (eqb-true x y same)
       | inr later ↦ List·Memᴰ·tail (member-says x ys later)
     ]

@@ -1,5 +1,6 @@
--- The laws of the tree's moves behind the theorem of demand 2: their paths are exactly the beginnings of orders, and depth first
--- each path comes sooner than all later ones. Each goes by the steps that may still come, for every state that an order can reach.
+-- The laws of the tree's moves behind the theorem of demand 2: their paths are exactly the beginnings of orders, and
+-- depth first each path comes sooner than all later ones. Each goes by the steps that may still come, for every state
+-- that an order can reach.
 -- Assumes nothing.
 use mathlib.Core.Path.{_≡_, refl, sym, ap, subst}
 use mathlib.Core.Logic.{_⊎_, inl, inr}
@@ -75,14 +76,14 @@ module _ {a : Accepted} (ok : IsAccepted a) where
   from-moved zero inv byte bytes short e = absurd (omega arith)
   from-moved (suc n) {s} inv byte [] short e =
       let first = run-first a s byte [] e in
-      elim (tests.decided (allEnded a s)) [
+      elim (tests.test-decided (allEnded a s)) [
         | inl ended ↦ absurd (end-steps ok inv ended byte (first .1))
         | inr goes ↦ rw (paths-on a s n goes) (through-move (pathsFrom a n) (moves a s) (step-is-move ok inv byte (first .1)))
       ]
   from-moved (suc n) {s} inv byte (second ∷ bytes) short e =
       let first = run-first a s byte (second ∷ bytes) e in
       let below = from-moved n (step-keeps ok inv byte (first .1)) second bytes (omega arith) (first .2) in
-      elim (tests.decided (allEnded a s)) [
+      elim (tests.test-decided (allEnded a s)) [
         | inl ended ↦ absurd (end-steps ok inv ended byte (first .1))
         | inr goes ↦ rw (paths-on a s n goes) (through-below (pathsFrom a n) (moves a s) (step-is-move ok inv byte (first .1)) below)
       ]
@@ -100,7 +101,7 @@ module _ {a : Accepted} (ok : IsAccepted a) where
   unfolding run
   listed-path zero {s} inv here = absurd (List·Memᴰ·not-nil (rw (paths-cut a s) at here))
   listed-path (suc n) {s} inv here =
-      elim (tests.decided (allEnded a s)) [
+      elim (tests.test-decided (allEnded a s)) [
         | inl ended ↦ absurd (List·Memᴰ·not-nil (rw (paths-end a s (suc n) ended) at here))
         | inr goes ↦
             let at = below-through (pathsFrom a n) (moves a s) (rw (paths-on a s n goes) at here) in
@@ -174,7 +175,7 @@ module _ (below : State → List (List ℕ)) where
 pub from-once : {a : Accepted} → IsAccepted a → (n : ℕ) {s : State} → Invariant a s → Ordered Sooner (pathsFrom a n s)
 from-once {a} ok zero {s} inv = rw (paths-cut a s) tt
 from-once {a} ok (suc n) {s} inv =
-    elim (tests.decided (allEnded a s)) [
+    elim (tests.test-decided (allEnded a s)) [
       | inl ended ↦ rw (paths-end a s (suc n) ended) tt
       | inr goes ↦
           rw (paths-on a s n goes)

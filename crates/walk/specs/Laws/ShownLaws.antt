@@ -24,7 +24,7 @@ use Rattle.walk.specs.declared.Verdict.the-variants.{Holds, Fails}
 use Rattle.walk.specs.Laws.FailingLaws.{walk-first, walk-short, walk-fails, walk-holds}
 use Rattle.walk.specs.FailingOrders.{SomeFails, FirstFailing, answeredEnd}
 use Rattle.walk.specs.WalkEntry.{admitted, decided, refusal, verdictOf, decidedAnswer, shown, decidedBytes, walkAnswerOf, walkAfterOf, walkAnswer, walkAfter}
-use Rattle.walk.specs.Walks.{Found, Walked, walk}
+use Rattle.walk.specs.Walks.{EndedOrder, Walked, walk}
 
 -- ---- a walk that the allowance covers, and one that it does not
 
@@ -76,7 +76,7 @@ unfolding decidedBytes decidedAnswer refusal verdictOf shown
 decided-front (refused number place) buffer short = refl
 decided-front (passed walked) buffer short = go (walked .failing) short
   where
-    go : (o : Option Found) → length (shown o) ≤ orderRoom
+    go : (o : Option EndedOrder) → length (shown o) ≤ orderRoom
         → take (verdictOf (walked .count) o .length) (filled orderRoom (shown o) buffer) ≡ shown o
     go none short = refl
     go (some found) short = filled-front orderRoom (found .bytes) buffer short
@@ -96,7 +96,7 @@ module _ {a : Accepted} (ok : IsAccepted a) (allowance : ℕ) where
         | no over ↦ rw (decided-over allowance (walk a) (omega arith)) (omega arith)
       ]
     where
-      go : (o : Option Found) → walk a .failing ≡ o → length (shown o) ≤ orderRoom
+      go : (o : Option EndedOrder) → walk a .failing ≡ o → length (shown o) ≤ orderRoom
       go none e = omega arith
       go (some found) e = walk-short ok found e
 
@@ -122,7 +122,7 @@ module _ {a : Accepted} (ok : IsAccepted a) (allowance : ℕ) where
             absurd (let z : _≡_ {A = ℕ} 0 1 = cc in omega arith)
       ])
     where
-      go : (o : Option Found) → walk a .failing ≡ o → verdictOf (walk a .count) o .verdict ≡ Fails
+      go : (o : Option EndedOrder) → walk a .failing ≡ o → verdictOf (walk a .count) o .verdict ≡ Fails
           → FirstFailing a (shown o) (answeredEnd (verdictOf (walk a .count) o))
       go none e v = absurd (let z : _≡_ {A = ℕ} 0 1 = cc in omega arith)
       go (some found) e v = walk-first ok found e
@@ -133,7 +133,7 @@ module _ {a : Accepted} (ok : IsAccepted a) (allowance : ℕ) where
     unfolding decidedAnswer verdictOf
     decided-fails = rw (decided-within allowance (walk a) within) (go (walk a .failing) refl)
       where
-        go : (o : Option Found) → walk a .failing ≡ o → (verdictOf (walk a .count) o .verdict ≡ Fails) ↔ SomeFails a
+        go : (o : Option EndedOrder) → walk a .failing ≡ o → (verdictOf (walk a .count) o .verdict ≡ Fails) ↔ SomeFails a
         go none e = (λ v. absurd (let z : _≡_ {A = ℕ} 0 1 = cc in omega arith), λ some'. absurd (walk-holds ok e some'))
         go (some found) e = (λ v. walk-fails ok found e, λ some'. refl)
 
@@ -142,7 +142,7 @@ module _ {a : Accepted} (ok : IsAccepted a) (allowance : ℕ) where
     unfolding decidedAnswer verdictOf
     decided-holds = rw (decided-within allowance (walk a) within) (go (walk a .failing) refl)
       where
-        go : (o : Option Found) → walk a .failing ≡ o → (verdictOf (walk a .count) o .verdict ≡ Holds) ↔ (¬ SomeFails a)
+        go : (o : Option EndedOrder) → walk a .failing ≡ o → (verdictOf (walk a .count) o .verdict ≡ Holds) ↔ (¬ SomeFails a)
         go none e = (λ v. walk-holds ok e, λ no. refl)
         go (some found) e =
             (λ v. absurd (let z : _≡_ {A = ℕ} 0 1 = cc in omega arith), λ no. absurd (no (walk-fails ok found e)))
@@ -152,6 +152,6 @@ module _ {a : Accepted} (ok : IsAccepted a) (allowance : ℕ) where
     unfolding decidedAnswer verdictOf
     decided-counted = rw (decided-within allowance (walk a) within) (go (walk a .failing))
       where
-        go : (o : Option Found) → verdictOf (walk a .count) o .count ≡ walk a .count
+        go : (o : Option EndedOrder) → verdictOf (walk a .count) o .count ≡ walk a .count
         go none = refl
         go (some found) = refl

@@ -14,21 +14,21 @@ use Rattle.notation.specs.Checked.{Checked, refused, passed, require}
 use Rattle.notation.specs.Laws.CheckedLaws.{passed-same, bind-passed, then-passed}
 use Rattle.taskfile.specs.Records.{File}
 use Rattle.timing.specs.Accepted.{Accepted, accept}
-use Rattle.timing.specs.Laws.AcceptedLaws.{accepted}
+use Rattle.timing.specs.Laws.AcceptedLaws.{file-accepted}
 use Rattle.timing.specs.Code.IsAccepted.{IsAccepted}
 use Rattle.machine.specs.declared.Local.{Local}
 use Rattle.machine.specs.Ends.{Flags, End, noFlags, noStore}
 use Rattle.machine.specs.Buffers.{orderRoom, runAnswer, unwritten}
-use Rattle.machine.specs.Instructions.{Store, perform, operations, register, end, load, store, setNumber, add}
+use Rattle.machine.specs.Instructions.{Store, perform, operationEffects, register, endJob, loadVariable, store, setNumber, add}
 use Rattle.machine.specs.Instructions.{subtract, skipLess, skipEqual, pick, acquireLock, releaseLock, assert}
-use Rattle.order.specs.Orders.{Turn, nextOf, performed, step, run, endOf}
+use Rattle.order.specs.Orders.{Turn, nextOf, performed, step, run, orderEnd}
 use Rattle.order.specs.Replay.{replay, replayed, replayAnswer}
 use Rattle.order.specs.States.{State, initial}
 use Rattle.order.specs.Laws.CompleteLaws.{replay-complete}
 use Rattle.order.specs.Laws.StepLaws.{flag-length, step-says}
 use Rattle.walk.specs.Laws.FailingLaws.{walk-first}
 use Rattle.walk.specs.WalkEntry.{admitted, decided, refusal, verdictOf, decidedAnswer, walkAnswerOf, walkAnswer}
-use Rattle.walk.specs.Walks.{Found, Walked, walk}
+use Rattle.walk.specs.Walks.{EndedOrder, Walked, walk}
 
 pub record Sized (variables : Store) (failed : Flags) : Type 0 where
   pub eight : length variables ≡ 8
@@ -38,8 +38,8 @@ pub record Sized (variables : Store) (failed : Flags) : Type 0 where
 
 -- each operation by its number; a number above 11 is taken as End
 operation-keeps : (o : ℕ) (i : Instruction) (v : ℕ) (l : Local) (s : Store)
-    → length (getD operations o end i v l s .store) ≡ length s
-unfolding operations end load store setNumber add subtract skipLess skipEqual pick acquireLock releaseLock assert
+    → length (getD operationEffects o endJob i v l s .store) ≡ length s
+unfolding operationEffects endJob loadVariable store setNumber add subtract skipLess skipEqual pick acquireLock releaseLock assert
 operation-keeps zero i v l s = refl
 operation-keeps (suc zero) i v l s = refl
 operation-keeps (suc (suc zero)) i v l s = length-set s (i .a) (register l (i .b))
@@ -97,10 +97,10 @@ zeros-sized = record { eight = refl; each = refl }
 
 end-sized : {a : Accepted} → IsAccepted a → (order : List ℕ) (e : End) → replay a order ≡ passed e
     → Sized (e .store) (e .failed)
-unfolding endOf
+unfolding orderEnd
 end-sized {a} ok order e h =
     let whole = replay-complete ok order h in
-    subst (λ (end : End). Sized (end .store) (end .failed)) (whole .2)
+    subst (λ (endJob : End). Sized (endJob .store) (endJob .failed)) (whole .2)
     (run-sized a order (initial a) (whole .0) (whole .1 .allowed) (initial-sized ok))
 
 replayed-sized : (c : Checked ℕ End) → ((e : End) → c ≡ passed e → Sized (e .store) (e .failed))
@@ -115,23 +115,23 @@ replay-sized f order =
     replayed-sized (replayed f order)
     (λ e h.
     let parts = bind-passed (accept f) (λ a. replay a order) h in
-    end-sized (accepted f (parts .1)) order e (parts .2))
+    end-sized (file-accepted f (parts .1)) order e (parts .2))
 
 -- ---- the walk
 
 -- the failing order is complete, and so a run of steps from the initial state
-failing-sized : {a : Accepted} → IsAccepted a → (f : Found) → walk a .failing ≡ some f
+failing-sized : {a : Accepted} → IsAccepted a → (f : EndedOrder) → walk a .failing ≡ some f
     → Sized (f .ending .store) (f .ending .failed)
-unfolding endOf
+unfolding orderEnd
 failing-sized {a} ok f e =
     let whole = walk-first ok f e .failing .complete in
-    subst (λ (end : End). Sized (end .store) (end .failed)) (whole .ends)
+    subst (λ (endJob : End). Sized (endJob .store) (endJob .failed)) (whole .ends)
     (run-sized a (f .bytes) (initial a) (whole .after) (whole .complete .allowed) (initial-sized ok))
 
 -- ---- the walk's answer
 
-verdict-sized : (count : ℕ) (o : Option Found)
-    → ((f : Found) → o ≡ some f → Sized (f .ending .store) (f .ending .failed))
+verdict-sized : (count : ℕ) (o : Option EndedOrder)
+    → ((f : EndedOrder) → o ≡ some f → Sized (f .ending .store) (f .ending .failed))
     → Sized (verdictOf count o .store) (verdictOf count o .failed)
 unfolding verdictOf
 verdict-sized count none each = zeros-sized
@@ -157,7 +157,7 @@ unfolding admitted
 admitted-accepted f buffer {a} e =
     let parts = bind-passed (accept f) _ e in
     let roomy = then-passed (require (leb orderRoom (length buffer)) 20 0) (passed (parts .0)) (parts .2) in
-    subst IsAccepted (passed-same (roomy .2)) (accepted f (parts .1))
+    subst IsAccepted (passed-same (roomy .2)) (file-accepted f (parts .1))
 
 answer-sized : (allowance : ℕ) (c : Checked ℕ Accepted) → ((a : Accepted) → c ≡ passed a → IsAccepted a)
     → Sized (walkAnswerOf allowance c .store) (walkAnswerOf allowance c .failed)

@@ -1,5 +1,5 @@
--- Laws behind the theorem of demand 2: the walk from a state on finds the first of the orders listed from there that fails, and 21 is
--- answered exactly where the count of its moves exceeds the allowance.
+-- Laws behind the theorem of demand 2: the walk from a state on finds the first of the orders listed from there that
+-- fails, and 21 is answered exactly where the count of its moves exceeds the allowance.
 -- Assumes nothing.
 use mathlib.Core.Path.{_≡_, refl, sym, ap, _∙_}
 use mathlib.Core.Logic.{_↔_, inl, inr}
@@ -14,12 +14,12 @@ use Rattle.notation.specs.Checked.{passed, require, _>>_}
 use Rattle.notation.specs.Lists.{if_then_else_, firstWith}
 use Rattle.notation.specs.Laws.TestLaws as tests
 use Rattle.timing.specs.Accepted.{Accepted}
-use Rattle.order.specs.Orders.{endOf}
+use Rattle.order.specs.Orders.{orderEnd}
 use Rattle.order.specs.States.{State, allEnded}
 use Rattle.walk.specs.Laws.CaseLaws.{orders-end, orders-cut, orders-on, walk-end, walk-cut, walk-on, after-none, after-some}
 use Rattle.walk.specs.Moves.{Move, moves}
 use Rattle.walk.specs.WalkEntry.{decided, decidedAnswer, verdictOf, refusal}
-use Rattle.walk.specs.Walks.{Found, Walked, fails, starting, ordersThrough, ordersFrom, afterMove, trial, atEnd, walkFrom}
+use Rattle.walk.specs.Walks.{EndedOrder, Walked, fails, starting, ordersThrough, ordersFrom, afterMove, trial, atEnd, walkFrom}
 
 -- ---- the first that fails
 
@@ -46,11 +46,11 @@ module _ {A : Type 0} (test : A → Bool) where
       go true e later = e
       go false e later = later e
 
-abbrev firstFailing : List Found → Option Found
+abbrev firstFailing : List EndedOrder → Option EndedOrder
 firstFailing fs = firstWith (λ f. fails (f .ending)) fs
 
 -- a byte in front changes no end
-first-starting : (byte : ℕ) (fs : List Found) → firstFailing (map (starting byte) fs) ≡ Option·map (starting byte) (firstFailing fs)
+first-starting : (byte : ℕ) (fs : List EndedOrder) → firstFailing (map (starting byte) fs) ≡ Option·map (starting byte) (firstFailing fs)
 unfolding firstWith starting if_then_else_
 first-starting byte [] = refl
 first-starting byte (f ∷ fs) = go (fails (f .ending)) (first-starting byte fs)
@@ -61,7 +61,7 @@ first-starting byte (f ∷ fs) = go (fails (f .ending)) (first-starting byte fs)
     go false later = later
 
 -- trials find the first failing order through the moves, if the walk below finds it below
-through-first : (below : State → Walked) (listed : State → List Found) → ((s : State) → below s .failing ≡ firstFailing (listed s))
+through-first : (below : State → Walked) (listed : State → List EndedOrder) → ((s : State) → below s .failing ≡ firstFailing (listed s))
     → (ms : List Move) → trial below ms .failing ≡ firstFailing (ordersThrough listed ms)
 unfolding trial ordersThrough firstWith
 through-first below listed finds [] = refl
@@ -70,7 +70,7 @@ through-first below listed finds (m ∷ ms) = go (below (m .after) .failing) ref
     front : firstFailing (map (starting (m .byte)) (listed (m .after))) ≡ Option·map (starting (m .byte)) (below (m .after) .failing)
     front = first-starting (m .byte) (listed (m .after)) ∙ ap (Option·map (starting (m .byte))) (sym (finds (m .after)))
 
-    go : (o : Option Found) → below (m .after) .failing ≡ o → trial below ms .failing ≡ firstFailing (ordersThrough listed ms)
+    go : (o : Option EndedOrder) → below (m .after) .failing ≡ o → trial below ms .failing ≡ firstFailing (ordersThrough listed ms)
         → afterMove (m .byte) (below (m .after)) (trial below ms) .failing
         ≡ firstFailing (map (starting (m .byte)) (listed (m .after)) ++ ordersThrough listed ms)
     go none e later =
@@ -80,27 +80,27 @@ through-first below listed finds (m ∷ ms) = go (below (m .after) .failing) ref
         ap (λ (w : Walked). w .failing) (after-some (m .byte) (below (m .after)) (trial below ms) e)
         ∙ sym (first-stays (λ f. fails (f .ending)) (map (starting (m .byte)) (listed (m .after))) (ordersThrough listed ms) (front ∙ ap (Option·map (starting (m .byte))) e))
 
-end-first : (s : State) → atEnd s .failing ≡ firstFailing (record { bytes = []; ending = endOf s } ∷ [])
+end-first : (s : State) → atEnd s .failing ≡ firstFailing (record { bytes = []; ending = orderEnd s } ∷ [])
 unfolding atEnd firstWith
 end-first s = refl
 
 -- the walk from a state on finds the first of the orders listed from there that fails
-pub from-first : (a : Accepted) (n : ℕ) (s : State) → walkFrom a n s .failing ≡ firstFailing (ordersFrom a n s)
+pub walk-from-first : (a : Accepted) (n : ℕ) (s : State) → walkFrom a n s .failing ≡ firstFailing (ordersFrom a n s)
 unfolding firstWith
-from-first a zero s =
-    elim (tests.decided (allEnded a s)) [
+walk-from-first a zero s =
+    elim (tests.test-decided (allEnded a s)) [
       | inl ended ↦ rw (walk-end a s zero ended, orders-end a s zero ended) (end-first s)
       | inr goes ↦ rw (walk-cut a s goes, orders-cut a s goes) refl
     ]
-from-first a (suc n) s =
-    elim (tests.decided (allEnded a s)) [
+walk-from-first a (suc n) s =
+    elim (tests.test-decided (allEnded a s)) [
       | inl ended ↦ rw (walk-end a s (suc n) ended, orders-end a s (suc n) ended) (end-first s)
-      | inr goes ↦ rw (walk-on a s n goes, orders-on a s n goes) (through-first (walkFrom a n) (ordersFrom a n) (from-first a n) (moves a s))
+      | inr goes ↦ rw (walk-on a s n goes, orders-on a s n goes) (through-first (walkFrom a n) (ordersFrom a n) (walk-from-first a n) (moves a s))
     ]
 
 -- ---- undecided
 
-verdict-number : (count : ℕ) (o : Option Found) → verdictOf count o .number ≡ 0
+verdict-number : (count : ℕ) (o : Option EndedOrder) → verdictOf count o .number ≡ 0
 unfolding verdictOf
 verdict-number count none = refl
 verdict-number count (some f) = refl

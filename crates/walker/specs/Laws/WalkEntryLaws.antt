@@ -21,7 +21,7 @@ use Rattle.taskfile.specs.Records.{File}
 use Rattle.timing.specs.declared.AcceptAnswer.{AcceptAnswer}
 use Rattle.timing.specs.declared.JobList.{JobList}
 use Rattle.timing.specs.Accepted.{Accepted, accept}
-use Rattle.timing.specs.Laws.AcceptedLaws.{accepted}
+use Rattle.timing.specs.Laws.AcceptedLaws.{file-accepted}
 use Rattle.timing.specs.Code.IsAccepted.{IsAccepted}
 use Rattle.timing.specs.Laws.AcceptLaws.{accepted-refused, accepted-passed}
 use Rattle.timing.specs.Code.AcceptParts.{AcceptedParts, AcceptedAs}
@@ -32,7 +32,7 @@ use Rattle.order.specs.Laws.StepLaws.{initial-invariant}
 use Rattle.outcomes.specs.declared.Outcome.{Outcome}
 use Rattle.walk.specs.WalkEntry.{admitted, decided, refusal, verdictOf, decidedAnswer, shown, decidedBytes, walkAnswerOf, walkAfterOf, walkAnswer, walkAfter}
 use Rattle.outcomes.specs.Code.Outcomes.{answerOf, shownLength}
-use Rattle.trials.specs.Code.Trials.{Came, EndsAs, WalksAs}
+use Rattle.trials.specs.Code.Trials.{Came, WalkEndsAs, WalksAs}
 use Rattle.walker.specs.Code.WalkParts.{WalkOf}
 use Rattle.states.specs.Code.StateBytes.{snapshotIn}
 use Rattle.lending.specs.declared.Lent.{Lent}
@@ -40,7 +40,7 @@ use Rattle.lending.specs.Code.Lending.{LentOf}
 use Rattle.outcomes.specs.Laws.OutcomeLaws.{answer-stopped, answer-found, answer-held, length-found, length-none}
 use Rattle.walk.specs.Laws.FailingLaws.{walk-short}
 use Rattle.walk.specs.Laws.ShownLaws.{decided-within, decided-over, answer-room, after-room}
-use Rattle.walk.specs.Walks.{Found, Walked, walk}
+use Rattle.walk.specs.Walks.{EndedOrder, Walked, walk}
 
 pub walk-lent : {t : Table} {list : JobList} {l : Lent} {allowance : ℕ} {before after : List ℕ} {r : Outcome} → LentOf t list l
     → WalksAs (l .program) (l .times) (l .locks) (snapshotIn (l .start)) 512 0 allowance before after r → WalkOf t list allowance before after r
@@ -98,8 +98,8 @@ entry-held out r walked e going lost counted =
     }
 
 -- an order found
-entry-found : (out : List ℕ) (r : Outcome) (walked : Walked) (f : Found) → walked .failing ≡ some f → length (f .bytes) ≤ 512 → r .stopped ≡ false
-    → EndsAs (some f) (walked .count) 0 out r → EntryOf (passed walked) out r
+entry-found : (out : List ℕ) (r : Outcome) (walked : Walked) (f : EndedOrder) → walked .failing ≡ some f → length (f .bytes) ≤ 512 → r .stopped ≡ false
+    → WalkEndsAs (some f) (walked .count) 0 out r → EntryOf (passed walked) out r
 unfolding decidedAnswer decidedBytes verdictOf shown
 entry-found out r walked f e short going ends =
     let found = ends .0 in
@@ -113,7 +113,7 @@ entry-found out r walked f e short going ends =
     }
 
 module _ {a : Accepted} (ok : IsAccepted a) {allowance : ℕ} {buffer out : List ℕ} {r : Outcome} (came : Came (walk a) 0 allowance 0 buffer out r) where
-  entry-within : walk a .count ≤ allowance → (o : Option Found) → walk a .failing ≡ o → EndsAs o (walk a .count) 0 out r → r .stopped ≡ false
+  entry-within : walk a .count ≤ allowance → (o : Option EndedOrder) → walk a .failing ≡ o → WalkEndsAs o (walk a .count) 0 out r → r .stopped ≡ false
       → EntryOf (passed (walk a)) out r
   entry-within within none e ends going = entry-held out r (walk a) e going (ends .0) (ends .1)
   entry-within within (some f) e ends going = entry-found out r (walk a) f e (walk-short ok f e) going ends
@@ -125,7 +125,7 @@ module _ {a : Accepted} (ok : IsAccepted a) {allowance : ℕ} {buffer out : List
             let ended = came .whole (omega arith) in
             subst (λ (c : Checked ℕ Walked). EntryOf c out r) (sym (decided-within allowance (walk a) within))
             (entry-within within (walk a .failing) refl
-            (subst (λ (n : ℕ). EndsAs (walk a .failing) n 0 out r) (zero-add (walk a .count)) (ended .1)) (ended .0))
+            (subst (λ (n : ℕ). WalkEndsAs (walk a .failing) n 0 out r) (zero-add (walk a .count)) (ended .1)) (ended .0))
         | no over ↦
             let cut = came .cut (omega arith) in
             subst (λ (c : Checked ℕ Walked). EntryOf c out r) (sym (decided-over allowance (walk a) (omega arith))) (entry-stopped out r (cut .0) (cut .1))
@@ -148,7 +148,7 @@ module _ (f : File) (allowance : ℕ) (buffer : List ℕ) (x : AcceptAnswer) (sa
     found = accepted-passed x (accept f) says passes
 
     ok : IsAccepted (found .0)
-    ok = accepted f (found .1)
+    ok = file-accepted f (found .1)
 
     -- a buffer that is too short is left as it was
     admitted-short : length buffer < 512 → admitted f buffer ≡ refused 20 0

@@ -1,5 +1,5 @@
--- `lending::first::first_state` meets its contract: each first job is what `first_upcoming` ensures for its task, and the bytes are written
--- over zeros.
+-- `lending::first::first_state` meets its contract: each first job is what `first_upcoming` ensures for its task, and
+-- the bytes are written over zeros.
 -- Assumes nothing.
 use borrow.Author.Needs.{needs}
 use Rattle.snapshots.specs.Code.SnapshotSteps.{firstFrom}

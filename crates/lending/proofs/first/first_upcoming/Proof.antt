@@ -1,5 +1,5 @@
--- `lending::first::first_upcoming` meets its contract. The loop's invariant: the first job looked for is the first from x on. The measure is
--- the number of jobs left.
+-- `lending::first::first_upcoming` meets its contract. The loop's invariant: the first job looked for is the first
+-- from x on. The measure is the number of jobs left.
 -- Assumes nothing.
 use mathlib.Core.Path.{_≡_, refl}
 use Prim.Native.Nat.{_≤_, _-_}

@@ -1,4 +1,5 @@
--- `locals::held::acquire_lock` meets its contract: a store inside the eight numbers is the definition's, and past them it changes nothing.
+-- `locals::held::acquire_lock` meets its contract: a store inside the eight numbers is the definition's, and past
+-- them it changes nothing.
 -- Assumes nothing.
 use mathlib.Core.Path.{refl, sym}
 use lib.Seq.{set-out}

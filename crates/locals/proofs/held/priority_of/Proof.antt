@@ -1,5 +1,5 @@
--- `locals::held::priority_of` meets its contract. The loop's invariant: `highest` is the largest of the base and the held locks'
--- ceilings from `lock` on. The measure is `lock`.
+-- `locals::held::priority_of` meets its contract. The loop's invariant: `highest` is the largest of the base and the
+-- held locks' ceilings from `lock` on. The measure is `lock`.
 -- Assumes nothing.
 use Prim.Native.Nat.{_≤_, _-_, max}
 use native.Mathlib.Omega.{arith}

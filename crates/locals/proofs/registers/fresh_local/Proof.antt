@@ -1,4 +1,5 @@
--- `locals::registers::fresh_local` meets its contract: each field is the definition's, and the locks are what `no_locks` gives.
+-- `locals::registers::fresh_local` meets its contract: each field is the definition's, and the locks are what
+-- `no_locks` gives.
 -- Assumes nothing.
 use borrow.Author.Needs.{needs}
 use Rattle.machine.specs.Instructions.{fresh}

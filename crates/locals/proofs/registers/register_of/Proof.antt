@@ -1,4 +1,5 @@
--- `locals::registers::register_of` meets its contract: the registers are the state's, and `value_of` reads them as the definition does.
+-- `locals::registers::register_of` meets its contract: the registers are the state's, and `value_of` reads them as
+-- the definition does.
 -- Assumes nothing.
 use borrow.Author.Needs.{needs}
 use Rattle.machine.specs.Instructions.{register}

@@ -1,4 +1,5 @@
--- `locals::registers::with_register` meets its contract: only the registers change, and `with_value` changes them as the definition does.
+-- `locals::registers::with_register` meets its contract: only the registers change, and `with_value` changes them as
+-- the definition does.
 -- Assumes nothing.
 use borrow.Author.Needs.{needs}
 use Rattle.machine.specs.Instructions.{withRegister}

@@ -1,4 +1,5 @@
--- `replay::entries::replay` meets its contract: the answer of a refused file, of an order at fault, and of a complete order.
+-- `replay::entries::replay` meets its contract: the answer of a refused file, of an order at fault, and of a complete
+-- order.
 -- Assumes nothing.
 use mathlib.Core.Path.{_∙_}
 use native.Mathlib.Omega.{arith}

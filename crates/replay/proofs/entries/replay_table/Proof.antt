@@ -1,4 +1,5 @@
--- `replay::entries::replay_table` meets its contract: what is lent holds the table, so the replay on snapshots is that of the definition.
+-- `replay::entries::replay_table` meets its contract: what is lent holds the table, so the replay on snapshots is
+-- that of the definition.
 -- Assumes nothing.
 use borrow.Author.Needs.{needs}
 use Rattle.replay.specs.Laws.EntryLaws.{replay-lent}

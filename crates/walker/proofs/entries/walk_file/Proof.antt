@@ -1,5 +1,5 @@
--- `walker::entries::walk_file` meets its contract: a refused file, a buffer that is too short, and the walk with the buffer cleared behind the
--- order that it shows. Assumes nothing.
+-- `walker::entries::walk_file` meets its contract: a refused file, a buffer that is too short, and the walk with the
+-- buffer cleared behind the order that it shows. Assumes nothing.
 use mathlib.Core.Path.{_∙_}
 use native.Mathlib.Omega.{arith}
 use Rattle.walker.specs.Laws.WalkEntryLaws.{entry-refused, entry-no-room, entry-short, entry-length, entry-answer, entry-after}

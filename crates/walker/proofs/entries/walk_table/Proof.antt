@@ -1,4 +1,5 @@
--- `walker::entries::walk_table` meets its contract: what is lent holds the table, so the walk on snapshots is that of the definition.
+-- `walker::entries::walk_table` meets its contract: what is lent holds the table, so the walk on snapshots is that of
+-- the definition.
 -- Assumes nothing.
 use native.Mathlib.Omega.{arith}
 use borrow.Author.Needs.{needs}
