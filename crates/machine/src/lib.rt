@@ -2,7 +2,6 @@
 
 use taskfile::limits::INSTRUCTIONS;
 use taskfile::limits::JOBS;
-use taskfile::limits::JOBS;
 use taskfile::limits::LOCKS;
 use taskfile::limits::REGISTERS;
 use taskfile::limits::VARIABLES;

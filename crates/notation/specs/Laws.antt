@@ -3,10 +3,12 @@ pub mod ClearLaws
 pub mod CountLaws
 pub mod ElementLaws
 pub mod ListLaws
+pub mod MemberLaws
 pub mod PaddedLaws
 pub mod PairLaws
 pub mod QuantifierLaws
 pub mod SearchLaws
 pub mod SomeLaws
+pub mod SumLaws
 pub mod TabulateLaws
 pub mod TestLaws

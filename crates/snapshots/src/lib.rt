@@ -3,6 +3,8 @@
 use order::Frame;
 use taskfile::limits::INSTRUCTIONS;
 use taskfile::limits::JOBS;
+use taskfile::limits::MOST_JOBS;
+use taskfile::limits::MOST_TASKS;
 use taskfile::limits::TASKS;
 use taskfile::limits::VARIABLES;
 
@@ -72,13 +74,13 @@ pub const TIMES: usize = LATEST + JOBS;
 // ---- What stands for nothing.
 
 // No task's number.
-pub const NO_TASK: u8 = TASK_LIMIT;
+pub const NO_TASK: u8 = MOST_TASKS;
 
 // No job's number.
-pub const NO_JOB: u8 = JOB_LIMIT;
+pub const NO_JOB: u8 = MOST_JOBS;
 
 // No move's byte.
-pub const NO_MOVE: u8 = VALUES * TASK_LIMIT;
+pub const NO_MOVE: u8 = VALUES * MOST_TASKS;
 
 // Whose turn a byte of a task is, if anyone's: the job that steps, and how many active jobs are under it.
 pub struct Due {

@@ -11,7 +11,7 @@ use lib.ListN.{length, getD, replicate, List·getD-eq-default}
 use lib.Dec.{eqb}
 use borrow.Author.Tests.{eqb-true, ne-eqb}
 use Rattle.notation.specs.Lists.{if_then_else_, from, upTo, only, each}
-use Rattle.notation.specs.Laws.PairLaws.{every-imp, every-append, every-map, ordered-append}
+use Rattle.notation.specs.Laws.PairLaws.{every-imp, every-append, every-map, ordered-append, every-ordered, ordered-split}
 use Rattle.notation.specs.Ordered.{Every, Ordered}
 use Rattle.matching.specs.Laws.Cuts.{Placed, Cut, rowSteps, sequence, gathered}
 use Rattle.matching.specs.Laws.Histories.{Mark, Marks, inRound}
@@ -25,25 +25,6 @@ module _ {A : Type 0} (P Q : A → Type 0) (R : A → A → Type 0) (imp : (x y 
   every-across : (xs ys : List A) → Every P xs → Every Q ys → Every (λ x. Every (R x) ys) xs
   every-across xs ys first second =
       every-imp P (λ x. Every (R x) ys) (λ x isP. every-imp Q (R x) (λ y isQ. imp x y isP isQ) ys second) xs first
-
--- elements of a kind whose elements are all related
-every-ordered : {A : Type 0} (P : A → Type 0) (R : A → A → Type 0) → ((x y : A) → P x → P y → R x y) → (xs : List A) → Every P xs
-    → Ordered R xs
-every-ordered P R imp [] all = tt
-every-ordered P R imp (x ∷ xs) all =
-    (every-imp P (R x) (λ y isP. imp x y (all .0) isP) xs (all .1), every-ordered P R imp xs (all .1))
-
-every-middle : {A : Type 0} (P : A → Type 0) (xs : List A) (y : A) (ys : List A) → Every P (xs ++ (y ∷ ys)) → P y
-every-middle P [] y ys all = all .0
-every-middle P (x ∷ xs) y ys all = every-middle P xs y ys (all .1)
-
--- in order, those before an element are related to it, and it to those behind
-ordered-split : {A : Type 0} (R : A → A → Type 0) (xs : List A) (y : A) (ys : List A) → Ordered R (xs ++ (y ∷ ys))
-    → Every (λ x. R x y) xs × Every (R y) ys
-ordered-split R [] y ys all = (tt, all .0)
-ordered-split R (x ∷ xs) y ys all =
-    let later = ordered-split R xs y ys (all .1) in
-    ((every-middle (R x) xs y ys (all .0), later .0), later .1)
 
 -- ---- the order of the steps
 

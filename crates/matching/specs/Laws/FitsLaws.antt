@@ -15,7 +15,7 @@ use Rattle.notation.specs.Checked.{Checked, passed, require}
 use Rattle.notation.specs.Laws.CheckedLaws.{passed-same, bind-passed, then-passed, require-passed}
 use Rattle.notation.specs.Lists.{if_then_else_, padded}
 use Rattle.notation.specs.Laws.PaddedLaws.{padded-length}
-use Rattle.taskfile.specs.Laws.TimesLaws.{test-holds}
+use Rattle.notation.specs.Laws.TestLaws.{test-holds}
 use Rattle.timing.specs.declared.Job.{Job}
 use Rattle.timing.specs.Accepted.{Accepted}
 use Rattle.timing.specs.Code.IsAccepted.{IsAccepted}

@@ -14,8 +14,7 @@ use Rattle.notation.specs.Checked.{Checked, passed, require}
 use Rattle.notation.specs.Laws.CheckedLaws.{passed-same, bind-passed, then-passed, require-passed}
 use Rattle.notation.specs.Lists.{if_then_else_, from, each}
 use Rattle.taskfile.specs.Tables.{taskOf, bodyOf}
-use Rattle.notation.specs.Laws.TestLaws.{and-both, not-both}
-use Rattle.taskfile.specs.Laws.TimesLaws.{test-holds}
+use Rattle.notation.specs.Laws.TestLaws.{and-both, not-both, test-holds}
 use Rattle.timing.specs.Accepted.{Accepted}
 use Rattle.timing.specs.Code.IsAccepted.{IsAccepted}
 use Rattle.timing.specs.Laws.JobFacts.{job-task}

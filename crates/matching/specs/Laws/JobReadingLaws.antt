@@ -1,19 +1,20 @@
 -- A job's run in a plan is its column of a history: marks that stand in the plan and are whole run, and leave the
 -- column's steps, stores and flag. A whole job has at most 16 steps.
 -- Assumes nothing.
+use Rattle.plan.specs.Runs as runs
 use mathlib.Core.Path.{_≡_, refl, sym, ap, _∙_}
 use mathlib.Core.Logic.{inl, inr}
 use Prim.Native.Nat.{ℕ, zero, suc, _+_, _*_, _≤_, _<_}
 use native.Mathlib.Omega.{arith}
-use mathlib.Core.Bool.{Bool, true, false, _||_}
+use mathlib.Core.Bool.{Bool, true, false, _||_, or-assoc}
 use mathlib.Core.List.{List, [], _∷_, _++_, append-assoc}
 use lib.ListN.{length, getD, drop, length-drop}
 use lib.Seq.{getD-drop, drop-drop, set-set}
 use borrow.Author.Tests.{lt-ltb, le-leb}
 use Rattle.notation.specs.Checked.{passed, require, _>>=_}
-use Rattle.taskfile.specs.Laws.CheckSteps.{require-holds, then-goes}
+use Rattle.notation.specs.Laws.CheckedLaws.{require-holds, then-goes}
 use Rattle.taskfile.specs.Judgement.{instructionOf}
-use Rattle.notation.specs.Lists.{from, member, each, if_then_else_}
+use Rattle.notation.specs.Lists.{member, each, if_then_else_}
 use Rattle.taskfile.specs.Tables.{taskOf, bodyOf}
 use Rattle.notation.specs.Laws.TestLaws.{and-holds}
 use Rattle.timing.specs.declared.Job.{Job}
@@ -28,7 +29,6 @@ use Rattle.machine.specs.Ends.{Flags, flagged}
 use Rattle.machine.specs.Instructions.{Store, fresh, values}
 use Rattle.order.specs.Laws.LengthLaws.{body-short}
 use Rattle.plan.specs.declared.Round.{Round}
-use Rattle.plan.specs.Runs as runs
 use Rattle.plan.specs.Runs.{Plan, Step, JobRun, jobTotal, firstRound, stepBytes, stepEffect, stepMade, runningAfter, runJob}
 use Rattle.matching.specs.Laws.Histories.{Mark, ColumnRun, job, round, unbegun, effectOf, stepped, markStep, runMarks}
 use Rattle.matching.specs.Laws.PlanReading.{marksBytes, stepOf, Allowed, Whole, standing}
@@ -60,10 +60,6 @@ unfolding flagged if_then_else_
 flagged-twice true true x flags = set-set flags x true true
 flagged-twice true false x flags = refl
 flagged-twice false q x flags = refl
-
-or-assoc : (p q r : Bool) → ((p || q) || r) ≡ (p || (q || r))
-or-assoc true q r = refl
-or-assoc false q r = refl
 
 -- ---- one step of a job in a plan
 

@@ -1,22 +1,22 @@
 -- What the run of a legal plan satisfies: the rules of 43 and 44 for any two jobs, the guesses of 45, and, from the
 -- laws of before and may preempt, how any two jobs' rounds lie to each other.
 -- Assumes nothing.
-use mathlib.Core.Path.{_≡_, refl, sym, ap, ap₂, _∙_}
+use mathlib.Core.Path.{_≡_, sym, ap, _∙_}
 use mathlib.Core.Logic.{_⊎_, inl, inr}
 use Prim.Native.Nat.{ℕ, _≤_, _<_}
 use native.Mathlib.Decide.{decLt, ℕ-discrete}
 use native.Mathlib.Omega.{arith}
-use mathlib.Core.Bool.{Bool, true, false, not, _&&_, _||_, false≢true}
-use mathlib.Core.List.{List, [], _∷_, map, List·Memᴰ, List·Memᴰ·head, List·Memᴰ·tail, Memᴰ·map}
+use mathlib.Core.Bool.{true, false, not, _&&_, _||_}
+use mathlib.Core.List.{map, List·Memᴰ, Memᴰ·map}
 use lib.ListN.{length, getD}
 use lib.Dec.{leb, ltb, eqb}
-use borrow.Author.Tests.{ltb-true, leb-true, eqb-true, lt-ltb, ne-eqb, not-false}
+use borrow.Author.Tests.{ltb-true, leb-true, lt-ltb, ne-eqb, not-false}
 use Rattle.notation.specs.Checked.{passed, noneOf, placedBy, _>>_}
 use Rattle.notation.specs.Laws.CheckedLaws.{passed-same, bind-passed, then-passed, placed-passed, noneOf-passed}
 use Rattle.notation.specs.Laws.ListLaws.{upTo-member, each-member}
-use Rattle.notation.specs.Lists.{if_then_else_, all, only, same}
+use Rattle.notation.specs.Lists.{all, only}
 use Rattle.notation.specs.Laws.QuantifierLaws.{at-all}
-use Rattle.notation.specs.Laws.TestLaws.{and-both, or-either, and-holds}
+use Rattle.notation.specs.Laws.TestLaws.{and-both, or-either, and-holds, implied-holds}
 use Rattle.timing.specs.declared.Job.{Job}
 use Rattle.timing.specs.Accepted.{Accepted}
 use Rattle.timing.specs.Code.IsAccepted.{Timed}
@@ -27,39 +27,7 @@ use Rattle.plan.specs.Legality.{Pair, pairs, roundsOf, start, end, beforeRule, 
 use Rattle.plan.specs.Plans.{Legal, legalRun}
 use Rattle.plan.specs.Runs.{Plan, JobRuns, jobTotal, roundNumbers, firstRound, guess, runPlan}
 use Rattle.matching.specs.Laws.RoundLaws.{round-member}
-
--- ---- lists and tests
-
--- an element of which the test holds is kept
-only-member : {A : Type 0} (test : A → Bool) {x : A} {xs : List A} → List·Memᴰ x xs → test x ≡ true → List·Memᴰ x (only test xs)
-unfolding only if_then_else_
-only-member test (List·Memᴰ·head {x = y} e) h =
-    let holds : test y ≡ true = ap test (sym e) ∙ h in rw holds (List·Memᴰ·head e)
-only-member test {x} (List·Memᴰ·tail {x = y} {xs = ys} m) h = go (test y) (only-member test m h)
-  where
-    go : (b : Bool) → List·Memᴰ x (only test ys) → List·Memᴰ x (if b then y ∷ only test ys else only test ys)
-    go true n = List·Memᴰ·tail n
-    go false n = n
-
--- lists that are the same element by element are equal
-same-equal : (xs ys : List ℕ) → same xs ys ≡ true → xs ≡ ys
-unfolding same
-same-equal [] [] h = refl
-same-equal [] (y ∷ ys) h = absurd (false≢true h)
-same-equal (x ∷ xs) [] h = absurd (false≢true h)
-same-equal (x ∷ xs) (y ∷ ys) h =
-    let parts = and-both (eqb x y) (same xs ys) h in
-    ap₂ (λ (n : ℕ) (l : List ℕ). n ∷ l) (eqb-true x y (parts .0)) (same-equal xs ys (parts .1))
-
--- a rule that is asked only where p holds
-pub implied-holds : (p q : Bool) → (not p || q) ≡ true → p ≡ true → q ≡ true
-implied-holds true q h e = h
-implied-holds false q h e = absurd (false≢true e)
-
--- holds where q follows from p
-pub holds-implied : (p q : Bool) → (p ≡ true → q ≡ true) → (not p || q) ≡ true
-holds-implied true q h = h refl
-holds-implied false q h = refl
+use Rattle.notation.specs.Laws.ElementLaws.{only-member, same-equal}
 
 -- ---- the pairs of jobs
 

@@ -6,7 +6,7 @@ use mathlib.Core.Logic.{_⊎_, inl, inr}
 use Prim.Native.Nat.{ℕ, zero, suc, _+_, _<_}
 use native.Mathlib.Decide.{ℕ-discrete}
 use native.Mathlib.Omega.{arith}
-use mathlib.Core.Bool.{Bool, true, false, _||_}
+use mathlib.Core.Bool.{Bool, false, _||_, or-comm}
 use mathlib.Core.List.{List, [], _∷_}
 use lib.ListN.{length, getD, set}
 use lib.Seq.{getD-set-same, getD-set-other}
@@ -34,14 +34,6 @@ use Rattle.matching.specs.Laws.Histories.{Mark, Marks, job, marked, inRo
 use Rattle.notation.specs.Laws.ElementLaws.{none-or-some, or-none, at-every}
 use Rattle.matching.specs.Laws.Traces.{Traced}
 use Rattle.matching.specs.Laws.TurnTraceLaws.{GoesOn, Starts, under-lower, active-lower}
-
--- ---- lists and tests
-
-or-swap : (b c : Bool) → (b || c) ≡ (c || b)
-or-swap true true = refl
-or-swap true false = refl
-or-swap false true = refl
-or-swap false false = refl
 
 -- ---- a job with no steps
 
@@ -199,7 +191,7 @@ module _ {a : Accepted} (ok : IsAccepted a) {s : State} (inv : Invariant a s) {r
     unfolding stepped afterEffect jobTotal
     failed-here =
         ap (λ (b : Bool). b || effect .failed) (t .failures x (good .running .job))
-        ∙ or-swap (getD (s .failed) x false) (effect .failed)
+        ∙ or-comm (getD (s .failed) x false) (effect .failed)
         ∙ sym (flag-here (effect .failed) x (s .failed) (omega (arith, good .running .job, jobs-few (ok .isTimed), t .wide)))
 
     pub moved-failures : (y : ℕ) → y < jobTotal a → getD (moved .jobs) y unbegun .failed ≡ getD (after .failed) y false

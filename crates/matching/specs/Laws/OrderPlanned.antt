@@ -7,7 +7,7 @@ use mathlib.Core.Bool.{true}
 use mathlib.Core.List.{List, []}
 use lib.ListN.{length, getD}
 use Rattle.notation.specs.Checked.{passed}
-use Rattle.taskfile.specs.Laws.CheckSteps.{bind-goes, then-goes}
+use Rattle.notation.specs.Laws.CheckedLaws.{bind-goes, then-goes}
 use Rattle.notation.specs.Laws.ListLaws.{getD-any}
 use Rattle.notation.specs.Laws.QuantifierLaws.{map-length, map-at}
 use Rattle.timing.specs.Accepted.{Accepted}

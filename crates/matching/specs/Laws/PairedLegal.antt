@@ -1,21 +1,21 @@
 -- Where all jobs of an order have ended, what holds of any two of them makes their steps, as a plan's run, legal: no
 -- pair has the faults of 43 and 44, and with the right guesses the plan has no fault at all.
 -- Assumes nothing.
-use mathlib.Core.Path.{_≡_, refl, sym, ap, subst, _∙_}
+use mathlib.Core.Path.{_≡_, sym, ap, subst, _∙_}
 use mathlib.Core.Logic.{_⊎_, inl, inr}
 use Prim.Native.Nat.{ℕ, _≤_, _<_}
 use native.Mathlib.Omega.{arith}
-use mathlib.Core.Bool.{Bool, true, false, not, _&&_, _||_}
-use mathlib.Core.List.{List, [], _∷_, map, map-map, List·Memᴰ, List·Memᴰ·not-nil, List·Memᴰ·head, List·Memᴰ·tail, List·Memᴰ·cases-cons, Memᴰ·of-map}
+use mathlib.Core.Bool.{true, false, not, _&&_, _||_}
+use mathlib.Core.List.{List, [], map, map-map, List·Memᴰ, Memᴰ·of-map}
 use lib.ListN.{length, getD, List·getD-map}
-use lib.Dec.{leb, ltb, eqb}
-use borrow.Author.Tests.{ltb-true, leb-true, lt-ltb, le-ltb, le-leb, lt-leb, eq-eqb}
-use Rattle.notation.specs.Checked.{passed, noneOf, placedBy}
-use Rattle.taskfile.specs.Laws.CheckSteps.{then-goes}
+use lib.Dec.{leb, ltb}
+use borrow.Author.Tests.{ltb-true, leb-true, lt-ltb, le-ltb, le-leb, lt-leb}
+use Rattle.notation.specs.Checked.{passed, placedBy}
+use Rattle.notation.specs.Laws.CheckedLaws.{then-goes, none-faulty}
 use Rattle.notation.specs.Laws.ListLaws.{upTo-member, member-each}
-use Rattle.notation.specs.Lists.{if_then_else_, upTo, only, same, firstOr, lastOr}
+use Rattle.notation.specs.Lists.{upTo, only, same, firstOr, lastOr}
 use Rattle.notation.specs.Laws.QuantifierLaws.{at-all, map-length}
-use Rattle.notation.specs.Laws.TestLaws.{and-both, and-holds, and-first, and-last, or-left, or-right, test-decided}
+use Rattle.notation.specs.Laws.TestLaws.{and-both, and-holds, and-first, and-last, or-left, or-right, test-decided, holds-implied}
 use Rattle.timing.specs.declared.Job.{Job}
 use Rattle.timing.specs.Accepted.{Accepted}
 use Rattle.timing.specs.Laws.JobNumberLaws.{all-jobs}
@@ -25,9 +25,10 @@ use Rattle.order.specs.States.{State, hasEnded, allEnded}
 use Rattle.plan.specs.declared.Round.{Round}
 use Rattle.plan.specs.Legality.{Pair, pairs, stepsOf, roundsOf, start, end, beforeRule, apart, nested, noStepWithin, preemptRule, priorityAt, lockRule, orderFault, lockFault, dueStore, guessFault, legality}
 use Rattle.plan.specs.Runs.{Plan, Step, JobRuns, jobTotal, roundNumbers, firstRound, guess}
-use Rattle.matching.specs.Laws.LegalLaws.{roundOf, Rules, holds-implied}
+use Rattle.matching.specs.Laws.LegalLaws.{roundOf, Rules}
 use Rattle.matching.specs.Laws.Pairings.{Made, madeRounds, first, last, priorityUpTo, Clear, Inside, Paired}
 use Rattle.matching.specs.Laws.RoundLaws.{member-round}
+use Rattle.notation.specs.Laws.ElementLaws.{first-map, last-map, same-refl, member-only}
 
 -- ---- lists and tests
 
@@ -38,42 +39,6 @@ outside s e r h =
       | inl low ↦ ap not (and-first (ltb s r) (leb r e) (le-ltb s r low))
       | inr high ↦ ap not (and-last (ltb s r) (leb r e) (lt-leb r e high))
     ]
-
--- the first and the last element, by what a function says of each
-first-map : {A B : Type 0} (f : A → B) (d : A) (xs : List A) → f (firstOr d xs) ≡ firstOr (f d) (map f xs)
-unfolding firstOr
-first-map f d [] = refl
-first-map f d (x ∷ xs) = refl
-
-last-map : {A B : Type 0} (f : A → B) (d : A) (xs : List A) → f (lastOr d xs) ≡ lastOr (f d) (map f xs)
-unfolding lastOr
-last-map f d [] = refl
-last-map f d (x ∷ xs) = last-map f x xs
-
--- a list is the same as itself
-same-refl : (xs : List ℕ) → same xs xs ≡ true
-unfolding same
-same-refl [] = refl
-same-refl (x ∷ xs) = and-holds (eqb x x) _ (eq-eqb x x refl) (same-refl xs)
-
--- the elements that are kept are elements
-member-only : {A : Type 0} (test : A → Bool) (xs : List A) {x : A} → List·Memᴰ x (only test xs) → List·Memᴰ x xs
-unfolding only if_then_else_
-member-only test [] m = absurd (List·Memᴰ·not-nil m)
-member-only test (y ∷ ys) {x} m = go (test y) m (λ n. member-only test ys n)
-  where
-    go : (b : Bool) → List·Memᴰ x (if b then y ∷ only test ys else only test ys) → (List·Memᴰ x (only test ys) → List·Memᴰ x ys)
-        → List·Memᴰ x (y ∷ ys)
-    go true m later =
-        elim (List·Memᴰ·cases-cons m) [ inl here ↦ List·Memᴰ·head here | inr there ↦ List·Memᴰ·tail (later there) ]
-    go false m later = List·Memᴰ·tail (later m)
-
--- where no listed place has the fault, the check passes
-none-faulty : {P : Type 0} (number : ℕ) (fault : P → Bool) (places : List P) → ((p : P) → List·Memᴰ p places → fault p ≡ false)
-    → noneOf number fault places ≡ passed tt
-unfolding noneOf if_then_else_
-none-faulty number fault [] h = refl
-none-faulty number fault (p ∷ ps) h = rw (h p (List·Memᴰ·head refl)) (none-faulty number fault ps (λ q m. h q (List·Memᴰ·tail m)))
 
 -- ---- pairs and guesses
 

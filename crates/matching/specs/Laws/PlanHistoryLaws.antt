@@ -13,8 +13,7 @@ use borrow.Author.Tests.{leb-true, eqb-true}
 use Rattle.notation.specs.Checked.{passed, require}
 use Rattle.notation.specs.Laws.CheckedLaws.{passed-same, bind-passed, then-passed, require-passed}
 use Rattle.notation.specs.Lists.{from, upTo, each}
-use Rattle.notation.specs.Laws.TestLaws.{and-both}
-use Rattle.taskfile.specs.Laws.TimesLaws.{test-holds}
+use Rattle.notation.specs.Laws.TestLaws.{and-both, test-holds}
 use Rattle.timing.specs.declared.Job.{Job}
 use Rattle.timing.specs.Accepted.{Accepted}
 use Rattle.timing.specs.Code.IsAccepted.{IsAccepted}

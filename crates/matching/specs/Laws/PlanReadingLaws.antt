@@ -9,7 +9,7 @@ use lib.ListN.{length, getD, take, drop, length-append}
 use lib.Seq.{take-at, drop-at, drop-drop, drop-append-seam, drop-append-add, ext-getD}
 use borrow.Author.Tests.{lt-ltb, le-leb, eq-eqb}
 use Rattle.notation.specs.Checked.{Checked, passed, _>>=_}
-use Rattle.taskfile.specs.Laws.CheckSteps.{require-holds, bind-goes}
+use Rattle.notation.specs.Laws.CheckedLaws.{require-holds, bind-goes}
 use Rattle.notation.specs.Lists.{from, upTo, each}
 use Rattle.notation.specs.Laws.TestLaws.{and-holds}
 use Rattle.timing.specs.declared.Job.{Job}

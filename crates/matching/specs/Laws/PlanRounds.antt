@@ -4,7 +4,7 @@
 -- Assumes nothing.
 use mathlib.Core.Path.{_≡_, refl, sym, ap, ap₂, subst, _∙_}
 use mathlib.Core.Logic.{_⊎_, inl, inr}
-use Prim.Native.Nat.{ℕ, zero, suc, _+_, _≤_, _<_}
+use Prim.Native.Nat.{ℕ, _+_, _≤_, _<_}
 use native.Mathlib.Decide.{decLe, decLt, ℕ-discrete}
 use native.Mathlib.Omega.{arith}
 use mathlib.Core.Bool.{Bool, true, not, _&&_}
@@ -14,10 +14,10 @@ use lib.Seq.{take-append-seam, drop-append-seam, getD-append-seam}
 use lib.Dec.{leb, ltb}
 use borrow.Author.Tests.{ltb-true, lt-ltb, le-leb, lt-leb, not-true}
 use Rattle.notation.specs.Lists.{only, firstOr, lastOr}
-use Rattle.notation.specs.Laws.PairLaws.{every-imp}
+use Rattle.notation.specs.Laws.PairLaws.{every-imp, every-unmap}
 use Rattle.notation.specs.Ordered.{Every}
 use Rattle.notation.specs.Laws.QuantifierLaws.{all-at, map-length}
-use Rattle.notation.specs.Laws.TestLaws.{and-holds, not-both}
+use Rattle.notation.specs.Laws.TestLaws.{and-holds, not-both, implied-holds}
 use Rattle.timing.specs.declared.Job.{Job}
 use Rattle.timing.specs.Accepted.{Accepted}
 use Rattle.timing.specs.Code.IsAccepted.{IsAccepted}
@@ -30,26 +30,10 @@ use Rattle.plan.specs.Runs.{Plan, Step, JobRuns, firstRound}
 use Rattle.matching.specs.Laws.ColumnLaws.{round-elsewhere}
 use Rattle.matching.specs.Laws.Cuts.{Cut}
 use Rattle.matching.specs.Laws.Histories.{Mark, Marks, job, round, inRound}
-use Rattle.matching.specs.Laws.LegalLaws.{roundOf, Within, legal-rules, rounds-lie, implied-holds}
-use Rattle.notation.specs.Laws.ElementLaws.{only-append, Some, none-or-some, only-all, only-none, cons-some}
+use Rattle.matching.specs.Laws.LegalLaws.{roundOf, Within, legal-rules, rounds-lie}
+use Rattle.notation.specs.Laws.ElementLaws.{only-append, Some, none-or-some, only-all, only-none, cons-some, map-take, map-drop}
 use Rattle.matching.specs.Laws.PlanReading.{markOf, marksOf}
 use Rattle.matching.specs.Laws.RunLaws.{legal-rising}
-
--- ---- lists
-
-every-unmap : {A B : Type 0} (P : B → Type 0) (f : A → B) (xs : List A) → Every P (map f xs) → Every (λ x. P (f x)) xs
-every-unmap P f [] h = tt
-every-unmap P f (x ∷ xs) h = (h .0, every-unmap P f xs (h .1))
-
-map-take : {A B : Type 0} (f : A → B) (n : ℕ) (xs : List A) → map f (take n xs) ≡ take n (map f xs)
-map-take f zero xs = refl
-map-take f (suc n) [] = refl
-map-take f (suc n) (x ∷ xs) = ap (λ (l : List _). f x ∷ l) (map-take f n xs)
-
-map-drop : {A B : Type 0} (f : A → B) (n : ℕ) (xs : List A) → map f (drop n xs) ≡ drop n (map f xs)
-map-drop f zero xs = refl
-map-drop f (suc n) [] = refl
-map-drop f (suc n) (x ∷ xs) = map-drop f n xs
 
 -- ---- rounds of marks
 

@@ -16,7 +16,7 @@ use Rattle.notation.specs.Lists.{all, any, lastOr, if_then_else_}
 use Rattle.notation.specs.Laws.PairLaws.{every-at}
 use Rattle.notation.specs.Ordered.{Every, Ordered}
 use Rattle.notation.specs.Laws.QuantifierLaws.{at-all, any-at, at-any}
-use Rattle.notation.specs.Laws.TestLaws.{and-both, or-either, and-holds, or-right, test-decided, not-both, or-neither}
+use Rattle.notation.specs.Laws.TestLaws.{and-both, or-either, and-holds, or-right, test-decided, not-both, or-neither, holds-implied}
 use Rattle.timing.specs.declared.Job.{Job}
 use Rattle.timing.specs.Accepted.{Accepted}
 use Rattle.timing.specs.Code.IsAccepted.{IsAccepted}
@@ -35,7 +35,6 @@ use Rattle.plan.specs.Plans.{Legal}
 use Rattle.plan.specs.Runs.{Plan, JobRuns, jobTotal}
 use Rattle.matching.specs.Laws.Cuts.{Cut}
 use Rattle.matching.specs.Laws.Histories.{Mark, Marks, job}
-use Rattle.matching.specs.Laws.LegalLaws.{holds-implied}
 use Rattle.notation.specs.Laws.ElementLaws.{Some, none-or-some}
 use Rattle.matching.specs.Laws.PlanReading.{marksOf}
 use Rattle.matching.specs.Laws.PlanRounds.{next-left, starts-here, priority-made, none-above, lies-within, before-done}

@@ -2,10 +2,11 @@
 -- it. For an order's history is that of its first bytes and then that of the others, which begins in the round that is
 -- the number of jobs that have ended by then.
 -- Assumes nothing.
+use Rattle.plan.specs.Runs as runs
 use mathlib.Core.Path.{_≡_, refl, sym, ap, subst, _∙_}
 use Prim.Native.Nat.{ℕ, suc, _/_, _%_}
 use native.Mathlib.Omega.{arith}
-use mathlib.Core.Bool.{Bool, true, false}
+use mathlib.Core.Bool.{Bool}
 use mathlib.Core.List.{List, [], _∷_, _++_, map, map-append}
 use mathlib.Core.Option.{Option, none, some, bind}
 use lib.ListN.{length, getD}
@@ -22,12 +23,11 @@ use Rattle.order.specs.Orders.{Turn, turnOf, run, Complete}
 use Rattle.order.specs.States.{State, initial, hasEnded}
 use Rattle.order.specs.Laws.StepLaws.{good-turn, AllowedStep, step-says, step-keeps, initial-invariant}
 use Rattle.plan.specs.Legality.{stepsOf}
-use Rattle.plan.specs.Runs as runs
 use Rattle.plan.specs.Runs.{jobTotal}
 use Rattle.matching.specs.Conversions.{OrderStep, noting, roundsFrom, planOf}
 use Rattle.matching.specs.Laws.EndedLaws.{ended-none}
 use Rattle.matching.specs.Laws.Histories.{Mark, Marks}
-use Rattle.notation.specs.Laws.ElementLaws.{only-in, only-append}
+use Rattle.notation.specs.Laws.ElementLaws.{only-in, only-append, CutAt, map-cut, only-mapped}
 use Rattle.matching.specs.Laws.OrderPlanned.{runsOf, order-planned}
 use Rattle.matching.specs.PlannedSteps.{jobsFrom, stepsMade, StepPlanned, StepsPlanned, endedCount}
 use Rattle.matching.specs.Laws.PlanReading.{guessed, markOf, marksOf}
@@ -35,54 +35,6 @@ use Rattle.matching.specs.Laws.PlanReadingLaws.{marks-back}
 use Rattle.matching.specs.Laws.TraceMore.{some-same, run-first, run-invariant, roundAfter, round-kept}
 use Rattle.matching.specs.Laws.TraceStepLaws.{marks-whole, marks-noted}
 use Rattle.matching.specs.Laws.TraceSteps.{noted, traceOf}
-
--- ---- lists
-
--- where a list is cut: after as many elements as ys has, at one that f takes to z
-record CutAt {A B : Type 0} (f : A → B) (xs : List A) (ys : List B) (z : B) : Type 0 where
-  before : List A
-  here : A
-  after : List A
-  parts : xs ≡ before ++ (here ∷ after)
-  as-many : length before ≡ length ys
-  same : f here ≡ z
-
--- with one element more in front
-cut-more : {A B : Type 0} (f : A → B) {xs : List A} {ys : List B} {z : B} (x : A) (y : B) → CutAt f xs ys z
-    → CutAt f (x ∷ xs) (y ∷ ys) z
-cut-more {A} f x y at =
-    record {
-      before = x ∷ at .before;
-      here = at .here;
-      after = at .after;
-      parts = ap (λ (l : List A). x ∷ l) (at .parts);
-      as-many = ap suc (at .as-many);
-      same = at .same;
-    }
-
--- a cut of a mapped list is one of the list
-map-cut : {A B : Type 0} (f : A → B) (xs : List A) (ys zs : List B) (z : B) → map f xs ≡ ys ++ (z ∷ zs)
-    → CutAt f xs ys z
-map-cut f [] [] zs z e = absurd (omega (arith, ap length e))
-map-cut f [] (y ∷ ys) zs z e = absurd (omega (arith, ap length e))
-map-cut f (x ∷ xs) [] zs z e =
-    record { before = []; here = x; after = xs; parts = refl; as-many = refl; same = cc }
-map-cut f (x ∷ xs) (y ∷ ys) zs z e =
-    let tail : map f xs ≡ ys ++ (z ∷ zs) = cc in
-    cut-more f x y (map-cut f xs ys zs z tail)
-
--- as many elements are kept of a mapped list as of the list
-only-mapped : {A B : Type 0} (f : A → B) (test : B → Bool) (xs : List A)
-    → length (only (λ x. test (f x)) xs) ≡ length (only test (map f xs))
-unfolding only if_then_else_
-only-mapped f test [] = refl
-only-mapped f test (x ∷ xs) = go (test (f x)) (only-mapped f test xs)
-  where
-    go : (b : Bool) → length (only (λ x. test (f x)) xs) ≡ length (only test (map f xs))
-        → length (if b then x ∷ only (λ x. test (f x)) xs else only (λ x. test (f x)) xs)
-        ≡ length (if b then f x ∷ only test (map f xs) else only test (map f xs))
-    go true e = ap suc e
-    go false e = e
 
 -- ---- runs
 

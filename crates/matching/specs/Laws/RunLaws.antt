@@ -16,8 +16,7 @@ use Rattle.notation.specs.Lists.{if_then_else_, firstOr, lastOr}
 use Rattle.notation.specs.Laws.PairLaws.{every-at}
 use Rattle.notation.specs.Ordered.{Every}
 use Rattle.notation.specs.Laws.QuantifierLaws.{map-length}
-use Rattle.notation.specs.Laws.TestLaws.{and-both}
-use Rattle.taskfile.specs.Laws.TimesLaws.{test-holds}
+use Rattle.notation.specs.Laws.TestLaws.{and-both, test-holds}
 use Rattle.timing.specs.declared.Job.{Job}
 use Rattle.timing.specs.Accepted.{Accepted}
 use Rattle.timing.specs.Code.IsAccepted.{Timed}

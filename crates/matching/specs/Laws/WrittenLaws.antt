@@ -8,7 +8,7 @@ use mathlib.Core.List.{List}
 use lib.ListN.{length, take}
 use borrow.Author.Tests.{le-leb}
 use Rattle.notation.specs.Checked.{Checked, passed}
-use Rattle.taskfile.specs.Laws.CheckSteps.{bind-goes, require-holds}
+use Rattle.notation.specs.Laws.CheckedLaws.{bind-goes, require-holds}
 use Rattle.taskfile.specs.Records.{File}
 use Rattle.timing.specs.Accepted.{Accepted, accept}
 use Rattle.machine.specs.Ends.{End}

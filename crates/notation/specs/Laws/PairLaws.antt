@@ -3,10 +3,11 @@
 use Prim.Native.Nat.{ℕ, zero, suc, _+_, _≤_, _<_}
 use native.Mathlib.Nat.{not-suc-le-zero, le-of-suc-le-suc}
 use native.Mathlib.Omega.{arith}
-use mathlib.Core.List.{List, [], _∷_, _++_, map}
+use mathlib.Core.List.{List, [], _∷_, _++_, map, List·Memᴰ, List·Memᴰ·head, List·Memᴰ·tail}
 use lib.ListN.{length, getD}
 use Rattle.notation.specs.Lists.{from, each}
 use Rattle.notation.specs.Ordered.{Every, Ordered}
+use mathlib.Core.Path.{refl, sym, subst}
 
 pub every-at : {A : Type 0} (P : A → Type 0) (xs : List A) (k : ℕ) (d : A) → Every P xs → k < length xs → P (getD xs k d)
 every-at P [] k d h lt = absurd (not-suc-le-zero lt)
@@ -95,3 +96,38 @@ unfolding each
 ordered-each R f [] h k = tt
 ordered-each R f (x ∷ xs) h k =
     ordered-append R (f x) (each xs f) (h .0) (ordered-each R f xs (h .1) (k .1)) (every-across R f (f x) xs (k .0))
+
+-- elements of a kind whose elements are all related
+pub every-ordered : {A : Type 0} (P : A → Type 0) (R : A → A → Type 0) → ((x y : A) → P x → P y → R x y) → (xs : List A) → Every P xs
+    → Ordered R xs
+every-ordered P R imp [] all = tt
+every-ordered P R imp (x ∷ xs) all =
+    (every-imp P (R x) (λ y isP. imp x y (all .0) isP) xs (all .1), every-ordered P R imp xs (all .1))
+
+-- an element in the middle has what every element has
+pub every-middle : {A : Type 0} (P : A → Type 0) (xs : List A) (y : A) (ys : List A) → Every P (xs ++ (y ∷ ys)) → P y
+every-middle P [] y ys all = all .0
+every-middle P (x ∷ xs) y ys all = every-middle P xs y ys (all .1)
+
+-- in order, those before an element are related to it, and it to those behind
+pub ordered-split : {A : Type 0} (R : A → A → Type 0) (xs : List A) (y : A) (ys : List A) → Ordered R (xs ++ (y ∷ ys))
+    → Every (λ x. R x y) xs × Every (R y) ys
+ordered-split R [] y ys all = (tt, all .0)
+ordered-split R (x ∷ xs) y ys all =
+    let later = ordered-split R xs y ys (all .1) in
+    ((every-middle (R x) xs y ys (all .0), later .0), later .1)
+
+-- what every image has, every element has of its image
+pub every-unmap : {A B : Type 0} (P : B → Type 0) (f : A → B) (xs : List A) → Every P (map f xs) → Every (λ x. P (f x)) xs
+every-unmap P f [] h = tt
+every-unmap P f (x ∷ xs) h = (h .0, every-unmap P f xs (h .1))
+
+-- what holds of each element by its place holds of every element
+pub every-listed : {A : Type 0} (P : A → Type 0) (xs : List A) → ((x : A) → List·Memᴰ x xs → P x) → Every P xs
+every-listed P [] h = tt
+every-listed P (x ∷ xs) h = (h x (List·Memᴰ·head refl), every-listed P xs (λ y m. h y (List·Memᴰ·tail m)))
+
+-- an element has what every element has
+pub every-member : {A : Type 0} (P : A → Type 0) (xs : List A) {x : A} → Every P xs → List·Memᴰ x xs → P x
+every-member P _ h (List·Memᴰ·head same) = subst P (sym same) (h .0)
+every-member P _ h (List·Memᴰ·tail {x} {xs} m) = every-member P xs (h .1) m

@@ -1,12 +1,12 @@
 -- Laws of `all`, `any` and `firstWith`, by the index of an element.
 -- Assumes nothing.
 use mathlib.Core.Path.{_≡_, refl, sym, ap, _∙_}
-use mathlib.Core.Logic.{_⊎_, inl, inr}
-use Prim.Native.Nat.{ℕ, zero, suc, _+_, _≤_, _<_}
+use mathlib.Core.Logic.{inl, inr}
+use Prim.Native.Nat.{ℕ, zero, suc, _<_}
 use native.Mathlib.Omega.{arith}
-use mathlib.Core.Bool.{Bool, true, false, true≢false}
-use mathlib.Core.List.{List, [], _∷_, map}
-use mathlib.Core.Option.{Option, none, some}
+use mathlib.Core.Bool.{Bool, true, false, true≢false, _&&_}
+use mathlib.Core.List.{List, [], _∷_, map, _++_, reverse, reverse-cons}
+use mathlib.Core.Option.{none, some}
 use lib.ListN.{length, getD}
 use Rattle.notation.specs.Lists.{if_then_else_, all, any, firstWith}
 use Rattle.notation.specs.Laws.TestLaws.{and-both, or-either, and-holds, or-left, or-right, or-neither}
@@ -90,3 +90,33 @@ pub map-at : {A B : Type 0} (f : A → B) (xs : List A) (k : ℕ) (d : A) (e : B
 map-at f [] k d e lt = absurd (omega arith)
 map-at f (x ∷ xs) zero d e lt = refl
 map-at f (x ∷ xs) (suc k) d e lt = map-at f xs k d e (omega arith)
+
+-- ---- lists the other way round
+
+pub all-append : {A : Type 0} (test : A → Bool) (xs ys : List A) → all test (xs ++ ys) ≡ (all test xs && all test ys)
+unfolding all
+all-append test [] ys = refl
+all-append test (x ∷ xs) ys = ap (λ (b : Bool). test x && b) (all-append test xs ys) ∙ sym (and-assoc (test x) _ _)
+  where
+    and-assoc : (p q r : Bool) → (p && q && r) ≡ (p && (q && r))
+    and-assoc true q r = refl
+    and-assoc false q r = refl
+
+pub all-reverse : {A : Type 0} (test : A → Bool) (xs : List A) → all test (reverse xs) ≡ all test xs
+unfolding all
+all-reverse test [] = refl
+all-reverse test (x ∷ xs) = rw (reverse-cons x xs, all-append test (reverse xs) (x ∷ []), all-reverse test xs) (swap (all test xs) (test x))
+  where
+    swap : (p q : Bool) → (p && (q && true)) ≡ (q && p)
+    swap true true = refl
+    swap true false = refl
+    swap false true = refl
+    swap false false = refl
+
+-- a test of every element of a list and of the default holds of what is read at any index
+pub all-getD : {A : Type 0} (test : A → Bool) (xs : List A) (k : ℕ) (d : A) → all test xs ≡ true → test d ≡ true
+    → test (getD xs k d) ≡ true
+unfolding all
+all-getD test [] k d h default = default
+all-getD test (x ∷ xs) zero d h default = and-both (test x) (all test xs) h .0
+all-getD test (x ∷ xs) (suc k) d h default = all-getD test xs k d (and-both (test x) (all test xs) h .1) default

@@ -1,8 +1,9 @@
 -- Laws of tests joined by `&&` and `||`: what a test that holds says of its parts, and the other way round.
 -- Assumes nothing.
-use mathlib.Core.Path.{_≡_, refl}
+use mathlib.Core.Path.{_≡_, refl, sym}
 use mathlib.Core.Logic.{_⊎_, inl, inr}
 use mathlib.Core.Bool.{Bool, true, false, not, _&&_, _||_, true≢false, false≢true}
+use lib.Dec.{T}
 
 pub and-both : (p q : Bool) → (p && q) ≡ true → (p ≡ true) × (q ≡ true)
 and-both true q h = (refl, h)
@@ -64,3 +65,35 @@ and-last false q h = refl
 pub or-first : (p q : Bool) → (p || q) ≡ true → q ≡ false → p ≡ true
 or-first true q h k = refl
 or-first false q h k = absurd (not-both q h k)
+
+-- a rule that is asked only where p holds
+pub implied-holds : (p q : Bool) → (not p || q) ≡ true → p ≡ true → q ≡ true
+implied-holds true q h e = h
+implied-holds false q h e = absurd (false≢true e)
+
+-- holds where q follows from p
+pub holds-implied : (p q : Bool) → (p ≡ true → q ≡ true) → (not p || q) ≡ true
+holds-implied true q h = h refl
+holds-implied false q h = refl
+
+-- what is not true is false
+pub not-true-false : (b : Bool) → (b ≡ true → ⊥) → b ≡ false
+not-true-false true h = absurd (h refl)
+not-true-false false h = refl
+
+-- two tests that follow from each other are the same
+pub both-ways : (p q : Bool) → (p ≡ true → q ≡ true) → (q ≡ true → p ≡ true) → p ≡ q
+both-ways true true f g = refl
+both-ways true false f g = sym (f refl)
+both-ways false true f g = g refl
+both-ways false false f g = refl
+
+-- a test or nothing
+pub or-nothing : (b : Bool) → b ≡ (b || false)
+or-nothing true = refl
+or-nothing false = refl
+
+-- a test as a type, and as an equation
+pub test-holds : (b : Bool) → T b → b ≡ true
+test-holds true t = refl
+test-holds false t = absurd t

@@ -5,15 +5,13 @@ use mathlib.Core.Path.{_≡_, refl, sym, ap, _∙_}
 use mathlib.Core.Logic.{inl, inr}
 use Prim.Native.Nat.{ℕ, suc, _/_, _≤_}
 use native.Mathlib.Omega.{arith}
-use mathlib.Core.Bool.{Bool, true, false, not}
+use mathlib.Core.Bool.{true, false, not}
 use mathlib.Core.List.{List, [], _∷_}
 use mathlib.Core.Option.{Option, none, some, bind}
 use lib.ListN.{length}
-use lib.Dec.{T}
 use Rattle.notation.specs.Checked.{passed, require}
-use Rattle.notation.specs.Laws.CheckedLaws.{refused-passed, passed-same, bind-passed, then-passed, require-passed}
-use Rattle.taskfile.specs.Laws.CheckSteps.{require-holds, bind-goes}
-use Rattle.notation.specs.Laws.TestLaws.{test-decided, not-both}
+use Rattle.notation.specs.Laws.CheckedLaws.{refused-passed, passed-same, bind-passed, then-passed, require-passed, require-holds, bind-goes}
+use Rattle.notation.specs.Laws.TestLaws.{test-decided, not-both, test-holds}
 use Rattle.timing.specs.Accepted.{Accepted}
 use Rattle.timing.specs.Code.IsAccepted.{IsAccepted}
 use Rattle.timing.specs.Laws.JobFacts.{jobs-few}
@@ -26,12 +24,6 @@ use Rattle.order.specs.Orders.{step, run, orderEnd, Complete}
 use Rattle.order.specs.Replay.{legal, replayFrom, replay}
 use Rattle.order.specs.States.{State, initial, hasEnded, allEnded}
 use Rattle.order.specs.Laws.StepLaws.{good-turn, step-says, step-keeps, initial-invariant}
-
--- ---- what a replay that passed says
-
-test-holds : (b : Bool) → T b → b ≡ true
-test-holds true t = refl
-test-holds false t = absurd t
 
 -- a byte that passed the replay is a step
 legal-passed : (index : ℕ) (o : Option State) {s : State} → legal index o ≡ passed s → o ≡ some s

@@ -4,13 +4,13 @@
 -- Assumes nothing.
 use mathlib.Core.Path.{_≡_, refl, sym, ap, subst, _∙_}
 use mathlib.Core.Logic.{inl, inr}
-use Prim.Native.Nat.{ℕ, zero, suc, _+_, _-_, _*_, _/_, _%_, _≤_, _<_}
+use Prim.Native.Nat.{ℕ, suc, _+_, _-_, _*_, _/_, _%_, _≤_, _<_}
 use native.Mathlib.Decide.{ℕ-discrete}
 use native.Mathlib.Omega.{arith}
 use mathlib.Core.Bool.{Bool, true, false, _&&_}
 use mathlib.Core.List.{List, [], _∷_, map}
 use mathlib.Core.Option.{Option, none, some, bind}
-use lib.ListN.{length, getD}
+use lib.ListN.{length}
 use lib.Dec.{eqb}
 use borrow.Author.Tests.{eq-eqb, ne-eqb}
 use Rattle.taskfile.specs.declared.Table.{Table}
@@ -34,6 +34,7 @@ use Rattle.timing.specs.Laws.JobNumberLaws.{first-job, jobs-at, jobs-length}
 use Rattle.timing.specs.Code.IsAccepted.{IsAccepted}
 use Rattle.order.specs.States.{State, initial, hasEnded, isActive, mayStart}
 use Rattle.order.specs.Laws.StepLaws.{GoodTurn, flag-here, start-says, map-some, good-turn, afterEffect, performed-is, flagged-here, ended-other, unended-here, active-ended, active-goes, step-says, step-keeps, initial-invariant}
+use Rattle.notation.specs.Laws.SumLaws.{sum-most, sum-falls}
 
 -- the position of job x among active jobs: its next instruction, or 0 where it is not active
 unfoldable pub position : List Frame → Job → ℕ
@@ -47,27 +48,6 @@ leftOf s x = if hasEnded s x then 0 else 16 - position (s .active) x
 -- how many steps may still come
 unfoldable pub left : Accepted → State → ℕ
 left a s = sum (map (leftOf s) (jobNumbers a))
-
--- ---- sums
-
--- a sum of parts of at most 16 each
-sum-most : {A : Type 0} (f : A → ℕ) → ((x : A) → f x ≤ 16) → (xs : List A) → sum (map f xs) ≤ 16 * length xs
-unfolding sum
-sum-most f most [] = omega arith
-sum-most f most (x ∷ xs) = omega (arith, most x, sum-most f most xs)
-
--- a sum no part of which rises does not rise, and where a part falls it falls
-sum-kept : {A : Type 0} (f g : A → ℕ) → ((x : A) → f x ≤ g x) → (xs : List A) → sum (map f xs) ≤ sum (map g xs)
-unfolding sum
-sum-kept f g kept [] = omega arith
-sum-kept f g kept (x ∷ xs) = omega (arith, kept x, sum-kept f g kept xs)
-
-sum-falls : {A : Type 0} (f g : A → ℕ) → ((x : A) → f x ≤ g x) → (xs : List A) (k : ℕ) (d : A) → k < length xs
-    → f (getD xs k d) < g (getD xs k d) → sum (map f xs) < sum (map g xs)
-unfolding sum
-sum-falls f g kept [] k d lt falls = absurd (omega arith)
-sum-falls f g kept (x ∷ xs) zero d lt falls = omega (arith, sum-kept f g kept xs)
-sum-falls f g kept (x ∷ xs) (suc k) d lt falls = omega (arith, kept x, sum-falls f g kept xs k d (omega arith) falls)
 
 -- at most 16 steps a job are left
 pub left-most : (a : Accepted) (s : State) → left a s ≤ 16 * length (a .jobs)

@@ -2,24 +2,22 @@
 -- step.
 -- Assumes nothing.
 use mathlib.Core.Path.{_≡_, refl, sym, ap, subst, _∙_}
-use mathlib.Core.Logic.{_⊎_, inl, inr}
-use Prim.Native.Nat.{ℕ, zero, suc, _/_, _%_, _≤_, _<_}
+use mathlib.Core.Logic.{inl, inr}
+use Prim.Native.Nat.{ℕ, zero, suc, _/_, _%_, _<_}
 use native.Mathlib.Decide.{ℕ-discrete}
 use native.Mathlib.Omega.{arith}
 use mathlib.Core.Bool.{Bool, true, false, true≢false, not, _&&_, _||_}
 use mathlib.Core.List.{List, [], _∷_}
 use mathlib.Core.Option.{Option, none, some, Option·map, bind}
-use lib.ListN.{length, getD, set, replicate, length-set}
+use lib.ListN.{length, getD, replicate, length-set}
 use lib.Dec.{ltb, eqb}
 use lib.Seq.{getD-set-same, getD-set-other}
-use borrow.Author.Tests.{ltb-true, eqb-true, eqb-false, eq-eqb, ne-eqb, not-true}
-use Rattle.taskfile.specs.declared.Instruction.{Instruction}
-use Rattle.taskfile.specs.Judgement.{instructionOf}
+use borrow.Author.Tests.{ltb-true, eqb-true, eq-eqb, ne-eqb, not-true}
 use Rattle.notation.specs.Lists.{if_then_else_, all, any, firstWith, member}
 use Rattle.notation.specs.Laws.PairLaws.{every-imp}
 use Rattle.notation.specs.Ordered.{Every, Ordered}
-use Rattle.taskfile.specs.Tables.{tasksOf, taskOf, bodyOf}
-use Rattle.notation.specs.Laws.TestLaws.{and-both, or-either, and-holds, or-left, or-right, or-second, test-decided, not-both, or-neither}
+use Rattle.taskfile.specs.Tables.{taskOf, bodyOf}
+use Rattle.notation.specs.Laws.TestLaws.{and-both, or-either, or-left, or-right, or-second, test-decided, or-neither, implied-holds}
 use Rattle.timing.specs.declared.Job.{Job}
 use Rattle.timing.specs.Accepted.{Accepted}
 use Rattle.timing.specs.Code.IsAccepted.{IsAccepted}
@@ -34,7 +32,7 @@ use Rattle.order.specs.declared.Frame.{Frame}
 use Rattle.order.specs.Code.Invariant.{Over, IsRunning, hasBegun, Invariant}
 use Rattle.timing.specs.Laws.JobFacts.{job-task, jobs-few}
 use Rattle.order.specs.Orders.{Turn, startOf, turnAmong, turnOf, nextOf, performed, stepWith, step}
-use Rattle.timing.specs.Laws.JobNumberLaws.{all-jobs, jobs-all, first-job}
+use Rattle.timing.specs.Laws.JobNumberLaws.{all-jobs, first-job}
 use Rattle.order.specs.States.{State, initial, hasEnded, isActive, presentPriority, mayStart}
 
 -- ---- flags
@@ -89,11 +87,6 @@ pub record Startable (a : Accepted) (s : State) (y : Job) : Type 0 where
   pub preempts : all (λ f. mayPreempt a y (f .job)) (s .active) ≡ true
   pub above : all (λ f. ltb (presentPriority a f) (base a y)) (s .active) ≡ true
 
--- one of two tests joined by `||` holds if the first does not
-second-of : (p q : Bool) → (not p || q) ≡ true → p ≡ true → q ≡ true
-second-of true q h e = h
-second-of false q h e = absurd (true≢false (sym e))
-
 pub start-says : (a : Accepted) (s : State) (y : Job) → mayStart a s y ≡ true → Startable a s y
 unfolding mayStart hasBegun
 start-says a s y h =
@@ -102,7 +95,7 @@ start-says a s y h =
     let first = and-both (not (hasEnded s y || isActive s y)) _ (second .0) in
     record {
       unbegun = not-true _ (first .0);
-      preceded = λ x isJob e. second-of (before a x y) _ (all-jobs a (λ x. not (before a x y) || hasEnded s x) (first .1) x isJob) e;
+      preceded = λ x isJob e. implied-holds (before a x y) _ (all-jobs a (λ x. not (before a x y) || hasEnded s x) (first .1) x isJob) e;
       preempts = second .1;
       above = third .1;
     }

@@ -6,7 +6,7 @@ use native.Mathlib.Omega.{arith}
 use mathlib.Core.List.{List}
 use Rattle.taskfile.specs.declared.Check.the-variants.{Passed, Refused}
 use Rattle.notation.specs.Checked.{Checked, refused, passed}
-use Rattle.taskfile.specs.Laws.CheckSteps.{bind-refused, bind-goes}
+use Rattle.notation.specs.Laws.CheckedLaws.{bind-refused, bind-goes}
 use Rattle.taskfile.specs.Records.{File}
 use Rattle.timing.specs.declared.AcceptAnswer.{AcceptAnswer}
 use Rattle.timing.specs.Accepted.{Accepted, accept}

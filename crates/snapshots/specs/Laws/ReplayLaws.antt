@@ -13,7 +13,7 @@ use lib.ListN.{getD}
 use borrow.Author.Tests.{lt-ltb, le-ltb}
 use Rattle.taskfile.specs.declared.Ceilings.{Ceilings}
 use Rattle.notation.specs.Checked.{Checked, refused, passed}
-use Rattle.taskfile.specs.Laws.CheckSteps.{require-holds, require-fails, bind-refused, bind-goes}
+use Rattle.notation.specs.Laws.CheckedLaws.{require-holds, require-fails, bind-refused, bind-goes}
 use Rattle.notation.specs.Laws.ListLaws.{upTo-length, getD-upTo}
 use Rattle.notation.specs.Lists.{any, from, upTo, if_then_else_}
 use Rattle.notation.specs.Laws.TestLaws.{test-decided}

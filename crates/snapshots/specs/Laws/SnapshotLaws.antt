@@ -18,7 +18,7 @@ use Rattle.taskfile.specs.declared.Ceilings.{Ceilings}
 use Rattle.notation.specs.Laws.ListLaws.{getD-upTo}
 use Rattle.notation.specs.Lists.{if_then_else_, any, member, from, upTo}
 use Rattle.notation.specs.Ordered.{Every}
-use Rattle.notation.specs.Laws.TestLaws.{and-both, and-holds, or-left, test-decided, not-both}
+use Rattle.notation.specs.Laws.TestLaws.{and-both, and-holds, or-left, test-decided, not-both, not-true-false, both-ways}
 use Rattle.timing.specs.declared.Job.{Job}
 use Rattle.timing.specs.Accepted.{Accepted}
 use Rattle.timing.specs.Relations.{IsJob, jobAt, base}
@@ -48,17 +48,6 @@ use Rattle.snapshots.specs.Laws.TurnAgreed.{Turned, active-top, no-activ
 ended-first : (s : State) (y : Job) → hasEnded s y ≡ true → hasBegun s y ≡ true
 unfolding hasBegun
 ended-first s y h = or-left (hasEnded s y) _ h
-
-not-true-false : (b : Bool) → (b ≡ true → ⊥) → b ≡ false
-not-true-false true h = absurd (h refl)
-not-true-false false h = refl
-
--- two tests that follow from each other are the same
-both-ways : (p q : Bool) → (p ≡ true → q ≡ true) → (q ≡ true → p ≡ true) → p ≡ q
-both-ways true true f g = refl
-both-ways true false f g = sym (f refl)
-both-ways false true f g = g refl
-both-ways false false f g = refl
 
 module _ {a : Accepted} (ok : IsAccepted a) {program times : List ℕ} {locks : Ceilings} (lends : Lends a program times locks)
     {p : Snapshot} {s : State} (inv : Invariant a s) (shows : Shows a p s) where

@@ -6,7 +6,7 @@ use mathlib.Core.Logic.{inl, inr}
 use Prim.Native.Nat.{ℕ, _≤_, _<_}
 use native.Mathlib.Omega.{arith}
 use mathlib.Core.Bool.{Bool, true, false, not, _&&_, _||_}
-use mathlib.Core.List.{List, [], _∷_, _++_, reverse, reverse-cons}
+use mathlib.Core.List.{List, [], _∷_}
 use mathlib.Core.Option.{none, some, Option·map}
 use lib.ListN.{length, getD, take, length-reverse}
 use lib.Dec.{ltb, eqb}
@@ -17,7 +17,7 @@ use Rattle.notation.specs.Laws.ListLaws.{getD-upTo}
 use Rattle.notation.specs.Lists.{all, from, upTo}
 use Rattle.notation.specs.Laws.PairLaws.{every-imp}
 use Rattle.notation.specs.Ordered.{Every, Ordered}
-use Rattle.notation.specs.Laws.TestLaws.{and-both, and-holds, or-left, test-decided, not-both}
+use Rattle.notation.specs.Laws.TestLaws.{and-both, and-holds, or-left, test-decided, not-both, holds-implied}
 use Rattle.timing.specs.declared.Job.{Job}
 use Rattle.timing.specs.Accepted.{Accepted}
 use Rattle.timing.specs.Laws.RelationLaws.{before-says, before-or-preempted, before-one-way, preempt-says}
@@ -28,7 +28,7 @@ use Rattle.snapshots.specs.Code.Snapshots.{Snapshot}
 use Rattle.order.specs.Code.Invariant.{Over, IsRunning, hasBegun, Invariant}
 use Rattle.timing.specs.Laws.JobFacts.{jobs-few, same-task}
 use Rattle.order.specs.Orders.{startOf}
-use Rattle.notation.specs.Laws.QuantifierLaws.{all-at, any-at, none-at, at-none}
+use Rattle.notation.specs.Laws.QuantifierLaws.{all-at, any-at, none-at, at-none, all-reverse}
 use Rattle.timing.specs.Laws.JobNumberLaws.{jobs-all, only-job, no-job}
 use Rattle.snapshots.specs.Laws.ShowLaws.{before-lent, goes-over, owned-job, job-owned, first-unbegun, first-waits}
 use Rattle.timing.specs.Laws.BaseLaws.{base-small, earlier-too}
@@ -38,28 +38,6 @@ use Rattle.timing.specs.Code.IsAccepted.{IsAccepted}
 use Rattle.order.specs.States.{State, hasEnded, isActive, presentPriority, mayStart}
 use Rattle.order.specs.Laws.StepLaws.{start-says}
 
--- ---- lists the other way round
-
-all-append : {A : Type 0} (test : A → Bool) (xs ys : List A) → all test (xs ++ ys) ≡ (all test xs && all test ys)
-unfolding all
-all-append test [] ys = refl
-all-append test (x ∷ xs) ys = ap (λ (b : Bool). test x && b) (all-append test xs ys) ∙ sym (and-assoc (test x) _ _)
-  where
-    and-assoc : (p q r : Bool) → (p && q && r) ≡ (p && (q && r))
-    and-assoc true q r = refl
-    and-assoc false q r = refl
-
-pub all-reverse : {A : Type 0} (test : A → Bool) (xs : List A) → all test (reverse xs) ≡ all test xs
-unfolding all
-all-reverse test [] = refl
-all-reverse test (x ∷ xs) = rw (reverse-cons x xs, all-append test (reverse xs) (x ∷ []), all-reverse test xs) (swap (all test xs) (test x))
-  where
-    swap : (p q : Bool) → (p && (q && true)) ≡ (q && p)
-    swap true true = refl
-    swap true false = refl
-    swap false true = refl
-    swap false false = refl
-
 -- ---- who may start
 
 regroup : (p q r t : Bool) → ((p && q) && (r && t)) ≡ ((p && r) && (q && t))
@@ -67,11 +45,6 @@ regroup true true r t = refl
 regroup true false true t = refl
 regroup true false false t = refl
 regroup false q r t = refl
-
--- where the second of two tests follows from the first, the first fails or the second holds
-either-way : (p q : Bool) → (p ≡ true → q ≡ true) → (not p || q) ≡ true
-either-way true q h = h refl
-either-way false q h = refl
 
 -- bases rise along the active jobs, so there are no more of them than bases
 deep : (a : Accepted) (fs : List Frame) → Ordered (Over a) fs → (n : ℕ) → Every (λ f. base a (f .job) < n) fs → length fs ≤ n
@@ -210,7 +183,7 @@ module _ {a : Accepted} (ok : IsAccepted a) {program times : List ℕ} {locks : 
         and-holds (not (hasEnded s y || isActive s y) && all (λ x. not (before a x y) || hasEnded s x) (jobNumbers a) && all (λ f. mayPreempt a y (f .job)) (s .active)) _
             (and-holds (not (hasEnded s y || isActive s y) && all (λ x. not (before a x y) || hasEnded s x) (jobNumbers a)) _
             (and-holds (not (hasEnded s y || isActive s y)) _ (ap not unbegun)
-            (jobs-all a (λ x. not (before a x y) || hasEnded s x) (λ x isX. either-way (before a x y) _ (ended x isX))))
+            (jobs-all a (λ x. not (before a x y) || hasEnded s x) (λ x isX. holds-implied (before a x y) _ (ended x isX))))
             (over .0)) (over .1),
       )
 

@@ -12,9 +12,9 @@ use borrow.Author.Tests.{eq-eqb, ne-eqb, lt-ltb, le-ltb}
 use Rattle.taskfile.specs.declared.Kind.{Kind}
 use Rattle.taskfile.specs.declared.Kind.the-variants.{TaskRecord}
 use Rattle.taskfile.specs.Chains.{recordOf, follow, chain, bodyChain, taskChains}
-use Rattle.taskfile.specs.Laws.CheckSteps.{require-holds, require-fails, noneOf-upTo, noneOf-upTo-none}
+use Rattle.taskfile.specs.Laws.CheckSteps.{noneOf-upTo, noneOf-upTo-none}
+use Rattle.notation.specs.Laws.CheckedLaws.{require-holds, require-fails, then-passed, require-passed}
 use Rattle.notation.specs.Checked.{refused, passed, require, noneOf, _>>=_, _>>_}
-use Rattle.notation.specs.Laws.CheckedLaws.{then-passed, require-passed}
 use Rattle.notation.specs.Lists.{upTo, member}
 use Rattle.taskfile.specs.Laws.MarksLaws.{marks-at}
 use Rattle.taskfile.specs.Code.Reading.{marks}

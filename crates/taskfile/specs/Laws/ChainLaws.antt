@@ -3,7 +3,6 @@
 -- Assumes nothing.
 use Prim.Native.Nat.{ℕ, zero, suc, _≤_, _<_}
 use native.Mathlib.Omega.{arith}
-use native.Mathlib.Nat.{not-suc-le-zero, le-of-suc-le-suc}
 use mathlib.Core.Path.{_≡_, refl, sym, ap, _∙_}
 use mathlib.Core.List.{List, [], _∷_, _++_, map}
 use lib.ListN.{length, getD, length-map}
@@ -26,6 +25,7 @@ use Rattle.taskfile.specs.Code.Reading.{linked, linkedTask, linkedChains
 use Rattle.taskfile.specs.Code.ReadingParts.{linkAfter, siteRecord}
 use Rattle.taskfile.specs.Records.{File, byteAt, next, instructionAt}
 use Rattle.taskfile.specs.Tables.{endInstruction, noTask, tasksOf, taskOf, bodyOf, ceilingsOf, entryAt, tableAt}
+use Rattle.notation.specs.Laws.QuantifierLaws.{map-at}
 
 -- a chain that passed is the records that its links lead to
 pub chain-linked : (kind : Kind) (allowed : ℕ) (f : File) (reached : List ℕ) (holder index : ℕ) {l : List ℕ}
@@ -77,18 +77,12 @@ Sited f (AtInstruction i p) =
     (i .0 < length (linked f mostTasks (byteAt f 0 2)))
     × (p < length (linked f mostInstructions (byteAt f (linkAfter f (byteAt f 0 2) (i .0)) 2)))
 
--- an element of a mapped list
-getD-mapped : {A B : Type 0} (g : A → B) (xs : List A) (k : ℕ) (d : A) (e : B) → k < length xs → getD (map g xs) k e ≡ g (getD xs k d)
-getD-mapped g [] k d e h = absurd (not-suc-le-zero h)
-getD-mapped g (x ∷ xs) zero d e h = refl
-getD-mapped g (x ∷ xs) (suc k) d e h = getD-mapped g xs k d e (le-of-suc-le-suc h)
-
 -- task number k is the one whose record k links lead to
 task-at : (f : File) (k : ℕ) (d : TaskChain) → k < length (linked f mostTasks (byteAt f 0 2))
     → getD (linkedChains f .tasks) k d ≡ linkedTask f (linkAfter f (byteAt f 0 2) k)
 unfolding linkedChains
 task-at f k d h =
-    getD-mapped (linkedTask f) (linked f mostTasks (byteAt f 0 2)) k 0 d h
+    map-at (linkedTask f) (linked f mostTasks (byteAt f 0 2)) k 0 d h
     ∙ ap (linkedTask f) (linked-at f mostTasks (byteAt f 0 2) k 0 h)
 
 -- the record at a site by the chains is the one by following indices
@@ -138,7 +132,7 @@ task-held f i h =
     let none : TaskChain = record { taskRecord = 0; body = [] } in
     let below : i .0 < length (linkedChains f .tasks) = simp length-map h in
     ap (λ ts. getD ts (i .0) noTask) (linked-tasks f)
-    ∙ getD-mapped (entryAt f) (linkedChains f .tasks) (i .0) none noTask below
+    ∙ map-at (entryAt f) (linkedChains f .tasks) (i .0) none noTask below
     ∙ ap (entryAt f) (task-at f (i .0) none h)
 
 body-counted : (f : File) (i : Task) → i .0 < length (linked f mostTasks (byteAt f 0 2))

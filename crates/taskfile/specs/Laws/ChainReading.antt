@@ -16,7 +16,8 @@ use Rattle.taskfile.specs.declared.Kind.{Kind}
 use Rattle.taskfile.specs.declared.Kind.the-variants.{Header, TaskRecord, LockRecord, InstructionRecord}
 use Rattle.taskfile.specs.Laws.ChainCases.{follow-allowed, chain-ends, chain-refused, chain-goes, tasks-end, tasks-refused, tasks-go}
 use Rattle.taskfile.specs.Chains.{Chains, TaskChain, recordOf, follow, chain, bodyChain, taskChains, recordsOf, reachedBy, noStray, chainsOf}
-use Rattle.taskfile.specs.Laws.CheckSteps.{checkOf-passed, checkOf-refused, check-comes, require-holds, require-fails, bind-refused, bind-goes, then-refused, then-goes, comes-then}
+use Rattle.taskfile.specs.Laws.CheckSteps.{checkOf-passed, checkOf-refused, check-comes, comes-then}
+use Rattle.notation.specs.Laws.CheckedLaws.{require-holds, require-fails, bind-refused, bind-goes, then-refused, then-goes}
 use Rattle.notation.specs.Checked.{Checked, refused, passed, noneOf, _>>=_, _>>_}
 use Rattle.notation.specs.Lists.{upTo, member, each}
 use Rattle.taskfile.specs.Laws.MarksLaws.{marks-at, marks-moved, marks-swapped, marks-more, marks-none}

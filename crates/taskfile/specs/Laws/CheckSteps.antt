@@ -7,7 +7,7 @@ use native.Mathlib.Decide.{ℕ-discrete}
 use mathlib.Core.Bool.{Bool, true, false}
 use mathlib.Core.List.{List, _∷_}
 use Rattle.taskfile.specs.declared.Check.the-variants.{Passed, Refused}
-use Rattle.notation.specs.Checked.{Checked, refused, passed, require, noneOf, _>>=_, _>>_}
+use Rattle.notation.specs.Checked.{Checked, refused, passed, noneOf, _>>_}
 use Rattle.notation.specs.Lists.{if_then_else_, from, upTo}
 use Rattle.taskfile.specs.Code.Reading.{checkOf}
 
@@ -25,36 +25,6 @@ checkOf-refused (passed x) e = absurd (let z : _≡_ {A = ℕ} 0 1 = cc in omega
 -- equal checks come to the same
 pub check-comes : {A : Type 0} {c d : Checked ℕ A} → c ≡ d → checkOf d ≡ checkOf c
 check-comes e = sym (ap checkOf e)
-
--- a requirement that holds leaves the check to what follows, and one that does not decides it
-pub require-holds : {P A : Type 0} (test : Bool) (number : ℕ) (place : P) (rest : Checked P A) → test ≡ true
-    → _>>_ (require test number place) rest ≡ rest
-unfolding require _>>_
-require-holds test number place rest e = rw e
-
-pub require-fails : {P A : Type 0} (test : Bool) (number : ℕ) (place : P) (rest : Checked P A) → test ≡ false
-    → _>>_ (require test number place) rest ≡ refused number place
-unfolding require _>>_
-require-fails test number place rest e = rw e
-
--- a check that is refused decides, and one that passes a value on leaves it to what follows
-pub bind-refused : {P A B : Type 0} {c : Checked P A} (k : A → Checked P B) {number : ℕ} {place : P} → c ≡ refused number place
-    → _>>=_ c k ≡ refused number place
-unfolding _>>=_
-bind-refused k e = rw e
-
-pub bind-goes : {P A B : Type 0} {c : Checked P A} (k : A → Checked P B) {x : A} → c ≡ passed x → _>>=_ c k ≡ k x
-unfolding _>>=_
-bind-goes k e = rw e
-
-pub then-refused : {P A B : Type 0} {c : Checked P A} (d : Checked P B) {number : ℕ} {place : P} → c ≡ refused number place
-    → _>>_ c d ≡ refused number place
-unfolding _>>_
-then-refused d e = rw e
-
-pub then-goes : {P A B : Type 0} {c : Checked P A} (d : Checked P B) {x : A} → c ≡ passed x → _>>_ c d ≡ d
-unfolding _>>_
-then-goes d e = rw e
 
 -- to pass a value on afterwards changes no refusal
 pub comes-then : {A B : Type 0} (c : Checked ℕ A) (x : B) → checkOf c ≡ checkOf (_>>_ c (passed x))

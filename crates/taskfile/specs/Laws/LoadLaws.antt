@@ -1,13 +1,13 @@
 -- Laws of the reader up to 9: what `load` yields, by the check that decides.
 -- Assumes nothing.
 use mathlib.Core.Path.{_≡_, refl, sym, ap, subst, _∙_}
-use mathlib.Core.Logic.{_⊎_, inl, inr, ⊎-elim}
+use mathlib.Core.Logic.{⊎-elim}
 use Prim.Native.Nat.{ℕ, _%_, _≤_, _<_}
 use native.Mathlib.Omega.{arith}
-use mathlib.Core.Bool.{Bool, true, false, _&&_}
-use mathlib.Core.List.{List, [], _∷_, map, List·Memᴰ, List·Memᴰ·head, List·Memᴰ·tail, Memᴰ·of-map}
+use mathlib.Core.Bool.{true, false, _&&_}
+use mathlib.Core.List.{map, List·Memᴰ, Memᴰ·of-map}
 use lib.ListN.{length}
-use lib.Dec.{leb, eqb}
+use lib.Dec.{leb}
 use borrow.Author.Tests.{leb-true, eqb-true}
 use Rattle.taskfile.specs.declared.Check.the-variants.{Passed, Refused}
 use Rattle.taskfile.specs.declared.Check.{Check}
@@ -15,17 +15,17 @@ use Rattle.taskfile.specs.declared.Judged.{Judged}
 use Rattle.taskfile.specs.declared.Judged.the-variants.{Sound, Faulty}
 use Rattle.taskfile.specs.declared.LoadAnswer.{LoadAnswer}
 use Rattle.taskfile.specs.declared.Site.{Site}
-use Rattle.taskfile.specs.declared.Site.the-variants.{AtHeader, AtTask, AtInstruction}
+use Rattle.taskfile.specs.declared.Site.the-variants.{AtTask, AtInstruction}
 use Rattle.taskfile.specs.declared.Table.{Table}
 use Rattle.taskfile.specs.declared.Task.{Task}
 use Rattle.taskfile.specs.Chains.{Chains, chainsOf}
 use Rattle.taskfile.specs.Laws.ChainLaws.{chains-linked, InTable, in-table-sited, site-record}
-use Rattle.notation.specs.Checked.{Checked, refused, passed, require, noneOf, placedBy, _>>=_, _>>_}
-use Rattle.notation.specs.Laws.CheckedLaws.{passed-same, bind-passed, then-passed, placed-passed}
-use Rattle.taskfile.specs.Laws.CheckSteps.{checkOf-passed, checkOf-refused, require-holds, require-fails, bind-refused, bind-goes, then-refused, then-goes}
+use Rattle.notation.specs.Checked.{Checked, refused, passed, require, placedBy, _>>=_, _>>_}
+use Rattle.notation.specs.Laws.CheckedLaws.{passed-same, bind-passed, then-passed, placed-passed, require-holds, require-fails, bind-refused, bind-goes, then-refused, then-goes, noneOf-listed, then-refuses}
+use Rattle.taskfile.specs.Laws.CheckSteps.{checkOf-passed, checkOf-refused}
 use Rattle.taskfile.specs.File.{Loaded, load, sized, recordAt}
 use Rattle.taskfile.specs.Judgement.{judged, numbered, taskNumbers, instructionSites, ofInstruction, ofTask, bodyFault, rateFault, ceilingFault}
-use Rattle.notation.specs.Lists.{if_then_else_, upTo}
+use Rattle.notation.specs.Lists.{upTo}
 use Rattle.notation.specs.Laws.ListLaws.{member-each, upTo-member}
 use Rattle.taskfile.specs.Code.Reading.{checkOf, judgedOf, linkedChains, LoadedAs}
 use Rattle.taskfile.specs.Code.ReadingParts.{siteRecord}
@@ -44,27 +44,6 @@ pub judged-faulty : {A : Type 0} (c : Checked Site A) {number : ℕ} {site : Sit
 unfolding judgedOf
 judged-faulty (refused n p) e = cc
 judged-faulty (passed x) e = absurd (let z : _≡_ {A = ℕ} 0 1 = cc in omega arith)
-
--- ---- a fault stands at a site of the table
-
-first-listed : {P : Type 0} (number : ℕ) (b : Bool) (q : P) (places : List P) (rest : Checked P (Unit {0})) {n : ℕ} {p : P}
-    → (if b then refused number q else rest) ≡ refused n p → (rest ≡ refused n p → List·Memᴰ p places) → List·Memᴰ p (q ∷ places)
-unfolding if_then_else_
-first-listed number true q places rest {p} e later = let same : p ≡ q = cc in List·Memᴰ·head same
-first-listed number false q places rest e later = List·Memᴰ·tail (later e)
-
-noneOf-listed : {P : Type 0} (number : ℕ) (fault : P → Bool) (places : List P) {n : ℕ} {p : P} → noneOf number fault places ≡ refused n p
-    → List·Memᴰ p places
-unfolding noneOf
-noneOf-listed number fault [] e = absurd (let z : _≡_ {A = ℕ} 0 1 = cc in omega arith)
-noneOf-listed number fault (q ∷ places) e =
-    first-listed number (fault q) q places (noneOf number fault places) e (noneOf-listed number fault places)
-
-then-refuses : {P A B : Type 0} (c : Checked P A) (d : Checked P B) {n : ℕ} {p : P} → _>>_ c d ≡ refused n p
-    → (c ≡ refused n p) ⊎ (d ≡ refused n p)
-unfolding _>>_
-then-refuses (refused number place) d e = inl cc
-then-refuses (passed x) d e = inr e
 
 -- a task number that is listed is one of the table's
 pub task-in : (t : Table) (i : Task) → List·Memᴰ i (taskNumbers t) → i .0 < length (tasksOf t)

@@ -31,8 +31,8 @@ use Rattle.notation.specs.Ordered.{Every}
 use Rattle.taskfile.specs.Code.Reading.{linked}
 use Rattle.taskfile.specs.Records.{File, byteAt, next, inRange, operationUses, usesOf, fieldInRange, instructionAt, instructionInRange}
 use Rattle.taskfile.specs.Tables.{tasksOf, taskOf, bodyOf, endInstruction, entryAt, tableAt}
-use Rattle.notation.specs.Laws.TestLaws.{and-both}
-use Rattle.taskfile.specs.Laws.TimesLaws.{test-holds, follow-in-range, reached-held}
+use Rattle.notation.specs.Laws.TestLaws.{and-both, test-holds}
+use Rattle.taskfile.specs.Laws.TimesLaws.{follow-in-range, reached-held}
 use Rattle.taskfile.specs.Code.WellMade.{WellMade}
 
 -- ---- the store

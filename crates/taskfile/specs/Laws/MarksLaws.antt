@@ -1,45 +1,19 @@
 -- Laws of marks: which records a list of reached records marks, when two lists mark the same, and how one mark more
 -- is set.
 -- Assumes nothing.
-use mathlib.Core.Path.{_≡_, refl, sym, ap, fun-ext, _∙_}
-use Prim.Native.Nat.{ℕ, zero, suc, _<_}
+use mathlib.Core.Path.{_≡_, sym, ap, fun-ext, _∙_}
+use Prim.Native.Nat.{ℕ, _<_}
 use native.Mathlib.Omega.{arith}
 use native.Mathlib.Decide.{ℕ-discrete}
-use mathlib.Core.Bool.{Bool, true, false, _||_, or-assoc, or-comm}
+use mathlib.Core.Bool.{Bool, true, false, or-comm}
 use mathlib.Core.List.{List, [], _∷_, _++_, map}
 use lib.ListN.{length, getD, set, replicate, length-set, length-map, length-replicate, getD-replicate}
 use lib.Seq.{ext-getD, getD-set-same, getD-set-other}
-use borrow.Author.Tests.{eq-eqb, ne-eqb}
 use Rattle.notation.specs.Lists.{upTo, member}
 use Rattle.notation.specs.Laws.ListLaws.{upTo-length, getD-upTo}
 use Rattle.taskfile.specs.Code.Reading.{marks}
-
--- what is in two lists joined is in one of them
-pub member-append : (r : ℕ) (l m : List ℕ) → member r (l ++ m) ≡ (member r l || member r m)
-unfolding member
-member-append r [] m = refl
-member-append r (x ∷ l) m = rw (member-append r l m, or-assoc)
-
--- a part of a joined list may move to its front
-pub member-moved : (r : ℕ) (l m k : List ℕ) → member r (l ++ (m ++ k)) ≡ member r (m ++ l ++ k)
-member-moved r l m k =
-    rw (member-append r l (m ++ k), member-append r m k, member-append r (m ++ l) k, member-append r m l)
-    (rw (or-comm (member r m) (member r l), or-assoc))
-
--- a number is in a list that starts with it, and in one that starts with another just if it is in the rest
-pub member-here : (r x : ℕ) (l : List ℕ) → r ≡ x → member r (x ∷ l) ≡ true
-unfolding member
-member-here r x l e = rw (eq-eqb r x e)
-
-pub member-later : (r x : ℕ) (l : List ℕ) → (r ≡ x → ⊥) → member r (x ∷ l) ≡ member r l
-unfolding member
-member-later r x l other = rw (ne-eqb r x other)
-
--- an element of a list of images
-mapped-at : (f : ℕ → Bool) (l : List ℕ) (k e : ℕ) (d : Bool) → k < length l → getD (map f l) k d ≡ f (getD l k e)
-mapped-at f [] k e d h = absurd (omega arith)
-mapped-at f (x ∷ l) zero e d h = refl
-mapped-at f (x ∷ l) (suc k) e d h = mapped-at f l k e d (omega arith)
+use Rattle.notation.specs.Laws.MemberLaws.{member-append, member-moved, member-here, member-later}
+use Rattle.notation.specs.Laws.QuantifierLaws.{map-at}
 
 -- there are 256 marks, one for each record
 pub marks-length : (reached : List ℕ) → length (marks reached) ≡ 256
@@ -49,7 +23,7 @@ marks-length reached = length-map (upTo 256) (λ r. member r reached) ∙ upTo-l
 pub marks-at : (reached : List ℕ) (r : ℕ) → r < 256 → getD (marks reached) r false ≡ member r reached
 unfolding marks
 marks-at reached r h =
-    mapped-at (λ k. member k reached) (upTo 256) r 0 false (omega (arith, upTo-length 256))
+    map-at (λ k. member k reached) (upTo 256) r 0 false (omega (arith, upTo-length 256))
     ∙ ap (λ k. member k reached) (getD-upTo 256 r 0 h)
 
 -- lists of the same records have the same marks

@@ -14,6 +14,7 @@ use Rattle.notation.specs.Lists.{from, all, each}
 use Rattle.taskfile.specs.Code.RecordFields.{fieldOf, limitOf}
 use Rattle.taskfile.specs.Records.{File, byteAt, zeroFrom, Use, unused, most, lockNumber, Uses, uses, operationUses, usesOf, tidyField, fieldInRange}
 use Rattle.notation.specs.Laws.TestLaws.{and-both}
+use Rattle.notation.specs.Laws.QuantifierLaws.{all-getD}
 
 -- past the file's end every byte is 0
 pub byteAt-past : (f : File) (r k : ℕ) → length f ≤ 16 * r + k → byteAt f r k ≡ 0
@@ -67,14 +68,6 @@ limits-at (u ∷ us) zero (suc (suc (suc n))) h = absurd (omega arith)
 limits-at (u ∷ us) (suc o) field h =
     let later : 3 * suc o + field ≡ suc (suc (suc (3 * o + field))) = omega arith in
     rw later (limits-at us o field h)
-
--- a test of every element of a list and of the default holds of what is read at any index
-pub all-getD : {A : Type 0} (test : A → Bool) (xs : List A) (k : ℕ) (d : A) → all test xs ≡ true → test d ≡ true
-    → test (getD xs k d) ≡ true
-unfolding all
-all-getD test [] k d h default = default
-all-getD test (x ∷ xs) zero d h default = and-both (test x) (all test xs) h .0
-all-getD test (x ∷ xs) (suc k) d h default = all-getD test xs k d (and-both (test x) (all test xs) h .1) default
 
 -- a used field has a largest value above 0
 bounded : Use → Bool

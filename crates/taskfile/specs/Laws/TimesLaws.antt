@@ -1,35 +1,30 @@
 -- The times of a file that was read are in range: "1 ≤ C ≤ P". What holds of each task as it is reached holds of each
 -- task of the table: `reached-held`.
 -- Assumes nothing.
-use mathlib.Core.Path.{_≡_, refl, sym, ap, subst, _∙_}
+use mathlib.Core.Path.{_≡_, sym, subst}
 use Prim.Native.Nat.{ℕ, zero, suc, _≤_, _<_}
 use native.Mathlib.Omega.{arith}
-use mathlib.Core.Bool.{Bool, true, false, _&&_}
-use mathlib.Core.List.{List, [], _∷_, _++_, map}
-use lib.ListN.{length, getD, length-map}
-use lib.Dec.{T, leb}
+use mathlib.Core.Bool.{Bool, true, _&&_}
+use mathlib.Core.List.{List, [], _∷_, _++_}
+use lib.ListN.{length, length-map}
+use lib.Dec.{leb}
 use borrow.Author.Tests.{leb-true}
 use Rattle.taskfile.specs.declared.Kind.{Kind}
 use Rattle.taskfile.specs.declared.Kind.the-variants.{TaskRecord, LockRecord}
-use Rattle.taskfile.specs.declared.Table.{Table}
 use Rattle.taskfile.specs.declared.Task.{Task}
 use Rattle.taskfile.specs.declared.TaskEntry.{TaskEntry}
-use Rattle.taskfile.specs.Chains.{Chains, TaskChain, mostTasks, mostLocks, recordOf, recordsOf, follow, chain, bodyChain, taskChains, noStray, chainsOf}
+use Rattle.taskfile.specs.Chains.{Chains, TaskChain, mostTasks, mostLocks, recordOf, recordsOf, follow, chain, bodyChain, taskChains, chainsOf}
 use Rattle.taskfile.specs.Laws.ChainLaws.{chains-linked, tasks-held}
-use Rattle.notation.specs.Checked.{Checked, passed, require, _>>=_, _>>_}
-use Rattle.notation.specs.Laws.CheckedLaws.{refused-passed, passed-same, bind-passed, then-passed, require-passed}
+use Rattle.notation.specs.Checked.{passed, require}
+use Rattle.notation.specs.Laws.CheckedLaws.{passed-same, bind-passed, then-passed, require-passed}
 use Rattle.taskfile.specs.Laws.LinkedLaws.{linked-length}
 use Rattle.notation.specs.Lists.{member}
 use Rattle.notation.specs.Laws.PairLaws.{every-map, every-at}
 use Rattle.notation.specs.Ordered.{Every}
 use Rattle.taskfile.specs.Code.Reading.{linked, linkedTask, linkedChains}
-use Rattle.taskfile.specs.Records.{File, byteAt, wideAt, next, kindNumber, tidy, inRange}
+use Rattle.taskfile.specs.Records.{File, byteAt, wideAt, next, tidy, inRange}
 use Rattle.taskfile.specs.Tables.{tasksOf, taskOf, noTask, entryAt, tableAt}
-use Rattle.notation.specs.Laws.TestLaws.{and-both}
-
-pub test-holds : (b : Bool) → T b → b ≡ true
-test-holds true t = refl
-test-holds false t = absurd t
+use Rattle.notation.specs.Laws.TestLaws.{and-both, test-holds}
 
 -- a record that passed has its values in range
 record-in-range : (kind : Kind) (f : File) (r : ℕ) {u : Unit {0}} → recordOf kind f r ≡ passed u → inRange f r kind ≡ true

@@ -1,18 +1,15 @@
 -- Laws of acceptance: what `accept` yields, by the check that decides, and what the functions answer for it.
 -- Assumes nothing.
 use mathlib.Core.Path.{_≡_, refl, sym, ap, subst, _∙_, fun-ext}
-use mathlib.Core.Logic.{_⊎_, inl, inr}
+use mathlib.Core.Logic.{inl, inr}
 use Prim.Native.Nat.{ℕ, suc, _≤_, _<_}
 use native.Mathlib.Omega.{arith}
-use mathlib.Core.Bool.{true, false}
 use mathlib.Core.List.{List, [], _∷_, map, List·Memᴰ, List·Memᴰ·head, List·Memᴰ·tail}
 use mathlib.Core.Option.{Option, none, some}
 use lib.ListN.{length, getD, replicate}
 use lib.Dec.{leb}
 use borrow.Author.Tests.{le-leb, lt-leb}
-use Rattle.taskfile.specs.declared.Check.{Check}
 use Rattle.taskfile.specs.declared.Check.the-variants.{Passed, Refused}
-use Rattle.taskfile.specs.declared.Judged.{Judged}
 use Rattle.taskfile.specs.declared.Judged.the-variants.{Sound, Faulty}
 use Rattle.taskfile.specs.declared.LoadAnswer.{LoadAnswer}
 use Rattle.taskfile.specs.declared.Site.{Site}
@@ -21,9 +18,8 @@ use Rattle.taskfile.specs.declared.Table.{Table}
 use Rattle.taskfile.specs.declared.Task.{Task}
 use Rattle.taskfile.specs.Chains.{Chains}
 use Rattle.taskfile.specs.Laws.ChainLaws.{chains-linked, InTable, in-table-sited, site-record, table-shaped}
-use Rattle.notation.specs.Checked.{Checked, refused, passed, require, placedBy, _>>=_, _>>_}
-use Rattle.notation.specs.Laws.CheckedLaws.{passed-same, bind-passed}
-use Rattle.taskfile.specs.Laws.CheckSteps.{require-holds, require-fails, bind-refused, bind-goes}
+use Rattle.notation.specs.Checked.{Checked, refused, passed, placedBy, _>>=_}
+use Rattle.notation.specs.Laws.CheckedLaws.{passed-same, bind-passed, require-holds, require-fails, bind-refused, bind-goes, bind-refuses}
 use Rattle.taskfile.specs.File.{Loaded, load, recordAt}
 use Rattle.taskfile.specs.Judgement.{numbered, taskNumbers}
 use Rattle.taskfile.specs.Laws.LoadLaws.{load-parts, task-in}
@@ -38,7 +34,6 @@ use Rattle.taskfile.specs.Laws.TimesLaws.{times-in-range}
 use Rattle.timing.specs.declared.AcceptAnswer.{AcceptAnswer}
 use Rattle.timing.specs.declared.JobList.{JobList}
 use Rattle.timing.specs.declared.JobRecord.{JobRecord}
-use Rattle.timing.specs.declared.ReadAnswer.{ReadAnswer}
 use Rattle.timing.specs.declared.Responses.{Responses}
 use Rattle.timing.specs.Accepted.{Accepted, mostJobs, bounded, responsesOf, timed, accept}
 use Rattle.timing.specs.Code.AcceptParts.{AcceptedParts, AcceptedAs}
@@ -82,12 +77,6 @@ bounded-refused : (i : Task) (o : Option ℕ) {n : ℕ} {s : Site} → bounded i
 unfolding bounded
 bounded-refused i none e = cc
 bounded-refused i (some R) e = absurd (let z : _≡_ {A = ℕ} 0 1 = cc in omega arith)
-
-bind-refuses : {P A B : Type 0} (c : Checked P A) (k : A → Checked P B) {n : ℕ} {p : P} → _>>=_ c k ≡ refused n p
-    → (c ≡ refused n p) ⊎ ((x : A) × (k x ≡ refused n p))
-unfolding _>>=_
-bind-refuses (refused number place) k e = inl cc
-bind-refuses (passed x) k e = inr (x, e)
 
 -- the refusal stands at one of the tasks
 responses-refused : (t : Table) (is : List Task) {n : ℕ} {s : Site} → responsesOf t is ≡ refused n s

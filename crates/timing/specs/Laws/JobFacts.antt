@@ -1,19 +1,19 @@
 -- What the listing of an accepted table's jobs says of one job: its task is one of the table's, its latest finish is
 -- its arrival and its task's response time, and there are at most 32.
 -- Assumes nothing.
-use mathlib.Core.Path.{_≡_, refl, sym, ap, _∙_, fun-ext}
-use mathlib.Core.Logic.{_⊎_, inl, inr}
-use Prim.Native.Nat.{ℕ, zero, suc, _+_, _≤_, _<_}
-use native.Mathlib.Decide.{decLt}
+use Rattle.timing.specs.Laws.RelationLaws as relations
+use mathlib.Core.Path.{_≡_, refl, ap, _∙_, fun-ext}
+use mathlib.Core.Logic.{inl, inr}
+use Prim.Native.Nat.{ℕ, _+_, _≤_, _<_}
 use native.Mathlib.Omega.{arith}
-use mathlib.Core.Bool.{Bool, true, false}
-use mathlib.Core.List.{List, [], _∷_, map}
-use lib.ListN.{length, getD, length-append}
+use mathlib.Core.Bool.{true}
+use mathlib.Core.List.{List, map}
+use lib.ListN.{length, getD}
 use Rattle.taskfile.specs.declared.Table.{Table}
 use Rattle.taskfile.specs.declared.Task.{Task}
 use Rattle.taskfile.specs.Judgement.{numbered, taskNumbers}
 use Rattle.notation.specs.Laws.ListLaws.{upTo-length}
-use Rattle.notation.specs.Lists.{from, upTo, each, sum}
+use Rattle.notation.specs.Lists.{upTo, sum}
 use Rattle.notation.specs.Laws.PairLaws.{every-at, every-of, every-map, every-each}
 use Rattle.notation.specs.Ordered.{Every}
 use Rattle.notation.specs.Laws.QuantifierLaws.{map-length}
@@ -24,9 +24,9 @@ use Rattle.timing.specs.declared.JobRecord.{JobRecord}
 use Rattle.timing.specs.Accepted.{Accepted}
 use Rattle.timing.specs.Code.IsAccepted.{Timed}
 use Rattle.timing.specs.Jobs.{jobsWithin, jobOf, jobsOfTask, jobsOf, jobCount}
-use Rattle.timing.specs.Laws.RelationLaws as relations
 use Rattle.timing.specs.Laws.RelationLaws.{before-holds}
 use Rattle.timing.specs.Relations.{IsJob, noJob, jobAt, base, before}
+use Rattle.notation.specs.Laws.ElementLaws.{by-index, each-length, map-map}
 
 -- what the list says of one job's record
 abbrev Listed : Accepted → JobRecord → Type 0
@@ -55,29 +55,6 @@ job-task {a} timed x isJob = every-at (Listed a) (a .jobs) (x .0) noJob (listed-
 pub job-lasts : {a : Accepted} → Timed a → (x : Job) → IsJob a x → jobAt a x .latest ≡ jobAt a x .arrival + getD (a .responses) (base a x) 0
 unfolding base jobAt
 job-lasts {a} timed x isJob = every-at (Listed a) (a .jobs) (x .0) noJob (listed-all timed) isJob .1
-
--- ---- how many
-
--- numbers from the next on are the numbers from here on, each with one more
-shifted : {B : Type 0} (f : ℕ → B) (start n : ℕ) → map f (from (suc start) n) ≡ map (λ k. f (suc k)) (from start n)
-unfolding from
-shifted f start zero = refl
-shifted f start (suc n) = ap (λ (l : List _). f (suc start) ∷ l) (shifted f (suc start) n)
-
--- a list's elements, read by their indices
-by-index : {A B : Type 0} (g : A → B) (d : A) (xs : List A) → map (λ k. g (getD xs k d)) (upTo (length xs)) ≡ map g xs
-unfolding upTo from
-by-index g d [] = refl
-by-index g d (x ∷ xs) = ap (λ (l : List _). g x ∷ l) (shifted (λ k. g (getD (x ∷ xs) k d)) 0 (length xs) ∙ by-index g d xs)
-
-each-length : {A B : Type 0} (f : A → List B) (xs : List A) → length (each xs f) ≡ sum (map (λ x. length (f x)) xs)
-unfolding each sum
-each-length f [] = refl
-each-length f (x ∷ xs) = length-append (f x) (each xs f) ∙ ap (λ (n : ℕ). length (f x) + n) (each-length f xs)
-
-map-map : {A B C : Type 0} (g : B → C) (f : A → B) (xs : List A) → map g (map f xs) ≡ map (λ x. g (f x)) xs
-map-map g f [] = refl
-map-map g f (x ∷ xs) = ap (λ (l : List _). g (f x) ∷ l) (map-map g f xs)
 
 jobs-of-task : (t : Table) (Rs : List ℕ) (i : Task) → length (jobsOfTask t Rs i) ≡ jobsWithin (t .window) (taskOf t i)
 unfolding jobsOfTask

@@ -15,7 +15,7 @@ use Rattle.taskfile.specs.declared.Site.the-variants.{AtHeader, AtTask}
 use Rattle.taskfile.specs.declared.Table.{Table}
 use Rattle.taskfile.specs.declared.Task.{Task}
 use Rattle.notation.specs.Checked.{Checked, refused, passed, require, placedBy, _>>=_, _>>_}
-use Rattle.taskfile.specs.Laws.CheckSteps.{bind-refused, bind-goes}
+use Rattle.notation.specs.Laws.CheckedLaws.{bind-refused, bind-goes, bind-passes, placed-refused}
 use Rattle.taskfile.specs.File.{Loaded, load, recordAt}
 use Rattle.taskfile.specs.Judgement.{numbered, taskNumbers}
 use Rattle.taskfile.specs.Code.JudgingParts.{Shaped}
@@ -64,12 +64,6 @@ record FirstLate (t : Table) (is : List Task) (site : Site) : Type 0 where
   late : responseOf t (getD is place (numbered 0)) ≡ none
   before : (k : ℕ) → k < place → (R : ℕ) × (responseOf t (getD is k (numbered 0)) ≡ some R)
   named : AtTask (getD is place (numbered 0)) ≡ site
-
-bind-passes : {P A B : Type 0} (c : Checked P A) (g : A → B) {n : ℕ} {p : P} → _>>=_ c (λ x. passed (g x)) ≡ refused n p
-    → c ≡ refused n p
-unfolding _>>=_
-bind-passes (refused number place) g e = cc
-bind-passes (passed x) g e = absurd (let z : _≡_ {A = ℕ} 0 1 = cc in omega arith)
 
 responses-late : (t : Table) (is : List Task) {n : ℕ} {s : Site} → responsesOf t is ≡ refused n s → FirstLate t is s
 unfolding responsesOf bounded _>>=_
@@ -157,16 +151,6 @@ timed-refused t {s} e =
     go whole (refused n p) b e = cc
     go whole (passed Rs) true e = absurd (let z : _≡_ {A = ℕ} 0 1 = cc in omega arith)
     go whole (passed Rs) false e = absurd (let z : _≡_ {A = ℕ} 11 10 = cc in omega arith)
-
--- a check that was refused with its places renamed was refused at a place of that name
-placed-refused : {P Q A : Type 0} (g : P → Q) (c : Checked P A) {n : ℕ} {q : Q} → placedBy g c ≡ refused n q
-    → (p : P) × (c ≡ refused n p) × (g p ≡ q)
-unfolding placedBy
-placed-refused g (refused number p) {n} {q} e =
-    let same : number ≡ n = cc in
-    let place : g p ≡ q = cc in
-    (p, ap (λ (m : ℕ). refused m p) same, place)
-placed-refused g (passed x) e = absurd (let z : _≡_ {A = ℕ} 0 1 = cc in omega arith)
 
 -- what follows once a file is loaded
 abbrev timedFile : Loaded → Checked ℕ Accepted

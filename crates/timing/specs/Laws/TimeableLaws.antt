@@ -1,11 +1,11 @@
 -- Laws of a table whose times can be worked out: a task read from the array is the table's task, its times are bounded,
 -- and a sum over the tasks above one is worked out task by task.
 -- Assumes nothing.
-use mathlib.Core.Path.{_≡_, refl, sym, _∙_}
-use Prim.Native.Nat.{ℕ, zero, suc, _+_, _*_, _≤_, _<_}
+use mathlib.Core.Path.{_≡_, sym, _∙_}
+use Prim.Native.Nat.{ℕ, _+_, _*_, _≤_, _<_}
 use native.Mathlib.Numerals.{add-one}
 use native.Mathlib.Omega.{arith}
-use mathlib.Core.List.{List, [], _∷_, map}
+use mathlib.Core.List.{[], _∷_, map}
 use lib.ListN.{length, getD, drop, drop-of-length-le}
 use lib.Seq.{drop-cons, getD-take, length-take-le}
 use Rattle.taskfile.specs.declared.Table.{Table}
@@ -18,12 +18,7 @@ use Rattle.taskfile.specs.Judgement.{numbered}
 use Rattle.timing.specs.Jobs.{jobsWithin}
 use Rattle.timing.specs.Response.{roundedUp, tasksAbove, interference, demand}
 use Rattle.timing.specs.Code.ResponseParts.{Timeable}
-
--- below the length, what stands at an index does not turn on the default
-pub getD-default : {A : Type 0} (xs : List A) (k : ℕ) (d e : A) → k < length xs → getD xs k d ≡ getD xs k e
-getD-default [] k d e h = absurd (omega arith)
-getD-default (x ∷ xs) zero d e h = refl
-getD-default (x ∷ xs) (suc k) d e h = getD-default xs k d e (omega arith)
+use Rattle.notation.specs.Laws.ListLaws.{getD-any}
 
 -- there are as many tasks as the table says
 pub tasks-length : {t : Table} → Shaped t → length (tasksOf t) ≡ t .tasks
@@ -34,7 +29,7 @@ tasks-length {t} s = length-take-le (t .tasks) (t .entries) (omega arith)
 pub task-read : {t : Table} → Shaped t → (k : ℕ) (d : TaskEntry) → k < t .tasks → getD (t .entries) k d ≡ taskOf t (numbered k)
 unfolding taskOf tasksOf
 task-read {t} s k d lt =
-    getD-default (t .entries) k d noTask (omega arith) ∙ sym (getD-take (t .tasks) (t .entries) k noTask lt)
+    getD-any (t .entries) k d noTask (omega arith) ∙ sym (getD-take (t .tasks) (t .entries) k noTask lt)
 
 -- the times of task i as a function reads them from arrays
 pub record TimesRead (t : Table) (i : Task) (C P : ℕ) : Type 0 where

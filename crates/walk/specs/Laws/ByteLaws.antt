@@ -1,14 +1,14 @@
 -- The moves of a state, in the walk's order, are the bytes below 128 that are steps, ascending: so the walk may try
 -- each byte in turn, and skip bytes that are no steps.
 -- Assumes nothing.
-use mathlib.Core.Path.{_≡_, refl, sym, ap, ap₂, subst, _∙_}
+use mathlib.Core.Path.{_≡_, refl, sym, ap, ap₂, _∙_}
 use mathlib.Core.Logic.{_⊎_, inl, inr}
 use Prim.Native.Nat.{ℕ, zero, suc, _+_, _/_, _≤_, _<_}
 use native.Mathlib.Decide.{ℕ-discrete}
 use native.Mathlib.Omega.{arith}
 use mathlib.Core.List.{List, [], _∷_, List·Memᴰ, List·Memᴰ·head, List·Memᴰ·tail, List·Memᴰ·not-nil, List·Memᴰ·cases-cons}
 use mathlib.Core.Option.{Option, none, some}
-use Rattle.notation.specs.Laws.PairLaws.{every-imp}
+use Rattle.notation.specs.Laws.PairLaws.{every-imp, every-member}
 use Rattle.notation.specs.Ordered.{Every, Ordered}
 use Rattle.timing.specs.Accepted.{Accepted}
 use Rattle.timing.specs.Code.IsAccepted.{IsAccepted}
@@ -19,13 +19,6 @@ use Rattle.order.specs.States.{State}
 use Rattle.order.specs.Laws.StepLaws.{good-turn, step-says}
 use Rattle.walk.specs.Laws.MoveLaws.{moves-ascend, move-is-step, step-is-move}
 use Rattle.walk.specs.Moves.{Move, moves}
-
--- ---- ascending lists
-
--- an element has what every element has
-every-member : {A : Type 0} (P : A → Type 0) (xs : List A) {x : A} → Every P xs → List·Memᴰ x xs → P x
-every-member P _ h (List·Memᴰ·head same) = subst P (sym same) (h .0)
-every-member P _ h (List·Memᴰ·tail {x} {xs} m) = every-member P xs (h .1) m
 
 module _ {A : Type 0} (f : A → ℕ) where
   -- two ascending lists whose first elements are each in the other have the same first element

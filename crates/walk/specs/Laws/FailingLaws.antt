@@ -10,7 +10,7 @@ use mathlib.Core.List.{List, [], _∷_, List·Memᴰ, List·Memᴰ·not-nil, Lis
 use mathlib.Core.Option.{none, some}
 use lib.ListN.{length}
 use Rattle.notation.specs.Lists.{if_then_else_, firstWith}
-use Rattle.notation.specs.Ordered.{Every, Ordered}
+use Rattle.notation.specs.Ordered.{Ordered}
 use Rattle.notation.specs.Laws.TestLaws.{not-both}
 use Rattle.timing.specs.Accepted.{Accepted}
 use Rattle.timing.specs.Code.IsAccepted.{IsAccepted}
@@ -24,16 +24,7 @@ use Rattle.walk.specs.Paths.{Lex}
 use Rattle.walk.specs.Laws.WalkLaws.{walk-from-first}
 use Rattle.walk.specs.Walks.{EndedOrder, fails, orders, walk}
 use Rattle.machine.specs.Buffers.{orderRoom}
-
--- ---- the first of a list
-
-every-member : {A : Type 0} (P : A → Type 0) (xs : List A) → Every P xs → {x : A} → List·Memᴰ x xs → P x
-every-member P [] each here = absurd (List·Memᴰ·not-nil here)
-every-member P (x ∷ xs) each here =
-    elim (List·Memᴰ·cases-cons here) [
-      | inl same ↦ subst P (sym same) (each .0)
-      | inr later ↦ every-member P xs (each .1) later
-    ]
+use Rattle.notation.specs.Laws.PairLaws.{every-member}
 
 module _ {A : Type 0} (test : A → Bool) where
   -- the first element of which the test holds is an element, and the test holds of it

@@ -1,6 +1,7 @@
 -- Laws behind the theorem of demand 2: what the tree lists from a state that an order can reach. These are the
 -- complete orders from there within the steps that may still come, no others, and they ascend.
 -- Assumes nothing.
+use Rattle.notation.specs.Laws.TestLaws as tests
 use mathlib.Core.Path.{_≡_, refl, sym, ap, subst, _∙_}
 use mathlib.Core.Logic.{inl, inr}
 use Prim.Native.Nat.{ℕ, zero, suc, _≤_, _<_}
@@ -9,9 +10,8 @@ use mathlib.Core.Bool.{true}
 use mathlib.Core.List.{List, [], _∷_, _++_, map, List·Memᴰ, List·Memᴰ·head, List·Memᴰ·tail, List·Memᴰ·not-nil, List·Memᴰ·cases-cons, List·Memᴰ·append-cases, List·Memᴰ·eq-of-singleton, Memᴰ·append-left, Memᴰ·append-right, Memᴰ·map, Memᴰ·of-map}
 use mathlib.Core.Option.{some}
 use lib.ListN.{length}
-use Rattle.notation.specs.Laws.PairLaws.{every-of, every-map, every-append, ordered-imp, ordered-map, ordered-append}
+use Rattle.notation.specs.Laws.PairLaws.{every-of, every-map, every-append, ordered-imp, ordered-map, ordered-append, every-listed}
 use Rattle.notation.specs.Ordered.{Every, Ordered}
-use Rattle.notation.specs.Laws.TestLaws as tests
 use Rattle.timing.specs.Accepted.{Accepted}
 use Rattle.timing.specs.Code.IsAccepted.{IsAccepted}
 use Rattle.order.specs.Code.Invariant.{Invariant}
@@ -22,7 +22,6 @@ use Rattle.walk.specs.Laws.CaseLaws.{orders-end, orders-cut, orders-on, 
 use Rattle.walk.specs.Laws.MoveLaws.{moves-ascend, move-is-step, step-is-move}
 use Rattle.walk.specs.Moves.{Move, moves}
 use Rattle.walk.specs.Paths.{Lex}
-use Rattle.walk.specs.WalkEntry.{decided}
 use Rattle.walk.specs.Walks.{EndedOrder, starting, ordersThrough, ordersFrom}
 
 -- ---- the complete orders are listed
@@ -140,11 +139,6 @@ lex-later x lex =
 
 abbrev Before : EndedOrder → EndedOrder → Type 0
 Before f g = Lex (f .bytes) (g .bytes)
-
--- what holds of each element by its place holds of every element
-pub every-listed : {A : Type 0} (P : A → Type 0) (xs : List A) → ((x : A) → List·Memᴰ x xs → P x) → Every P xs
-every-listed P [] h = tt
-every-listed P (x ∷ xs) h = (h x (List·Memᴰ·head refl), every-listed P xs (λ y m. h y (List·Memᴰ·tail m)))
 
 module _ (below : State → List EndedOrder) where
   -- an order that begins with a byte comes before those through moves with higher ones

@@ -5,21 +5,20 @@ use mathlib.Core.Path.{_≡_, refl, sym, ap, ap₂, subst, _∙_}
 use mathlib.Core.Logic.{inl, inr}
 use Prim.Native.Nat.{ℕ, suc, _+_, _*_, _/_, _%_, _≤_, _<_}
 use native.Mathlib.Omega.{arith}
-use mathlib.Core.Bool.{Bool, true, false, false≢true, _&&_}
-use mathlib.Core.List.{List, [], _∷_, _++_, List·Memᴰ, List·Memᴰ·head, List·Memᴰ·tail, List·Memᴰ·not-nil, List·Memᴰ·cases-cons, List·Memᴰ·append-cases, Memᴰ·cast, Memᴰ·append-left, Memᴰ·append-right, Memᴰ·map, Memᴰ·of-map}
+use mathlib.Core.Bool.{Bool, true, false, _&&_}
+use mathlib.Core.List.{List, [], _∷_, _++_, List·Memᴰ, List·Memᴰ·not-nil, List·Memᴰ·append-cases, Memᴰ·cast, Memᴰ·append-left, Memᴰ·append-right, Memᴰ·map, Memᴰ·of-map}
 use mathlib.Core.Option.{Option, none, some}
 use lib.Dec.{eqb}
-use borrow.Author.Tests.{eqb-true, eq-eqb, ne-eqb}
+use borrow.Author.Tests.{eqb-true, ne-eqb}
 use Rattle.taskfile.specs.declared.Instruction.{Instruction}
 use Rattle.taskfile.specs.declared.Task.{Task}
 use Rattle.taskfile.specs.Judgement.{numbered, taskNumbers}
 use Rattle.taskfile.specs.Laws.JudgementLaws.{task-listed}
 use Rattle.notation.specs.Laws.ListLaws.{each-member, member-each}
-use Rattle.notation.specs.Lists.{if_then_else_, from, upTo, member, firstWith, each}
-use Rattle.notation.specs.Laws.PairLaws.{every-of, every-imp, every-map, every-each, ordered-imp, ordered-map, ordered-append, ordered-each, from-within, from-rises}
+use Rattle.notation.specs.Lists.{if_then_else_, from, upTo, firstWith, each}
+use Rattle.notation.specs.Laws.PairLaws.{every-of, every-imp, every-map, every-each, ordered-imp, ordered-map, ordered-append, ordered-each, from-within, from-rises, every-member}
 use Rattle.notation.specs.Ordered.{Every, Ordered}
 use Rattle.taskfile.specs.Laws.TableLaws.{tasks-rise}
-use Rattle.notation.specs.Laws.TestLaws.{or-either, or-left, or-right}
 use Rattle.timing.specs.Accepted.{Accepted}
 use Rattle.timing.specs.Laws.RelationLaws.{preempt-says}
 use Rattle.timing.specs.Relations.{base, jobAt, jobNumbers}
@@ -33,6 +32,7 @@ use Rattle.timing.specs.Code.IsAccepted.{IsAccepted}
 use Rattle.order.specs.States.{State, mayStart}
 use Rattle.order.specs.Laws.StepLaws.{GoodTurn, map-some, good-start, good-turn, step-says}
 use Rattle.walk.specs.Moves.{Move, turnMoves, runningMoves, startMoves, moves}
+use Rattle.notation.specs.Laws.MemberLaws.{member-holds, member-says}
 
 -- ---- values
 
@@ -165,32 +165,6 @@ module _ {a : Accepted} (ok : IsAccepted a) {s : State} (inv : Invariant a s) wh
   pub moves-ascend : Ordered (λ m n. m .byte < n .byte) (moves a s)
   unfolding moves
   moves-ascend = among-ascend (s .active) refl
-
--- ---- moves and steps
-
--- an element has what every element has
-every-member : {A : Type 0} (P : A → Type 0) (xs : List A) {x : A} → Every P xs → List·Memᴰ x xs → P x
-every-member P _ h (List·Memᴰ·head same) = subst P (sym same) (h .0)
-every-member P _ h (List·Memᴰ·tail {x} {xs} m) = every-member P xs (h .1) m
-
--- membership as a test, and the other way round
-member-holds : (x : ℕ) (ys : List ℕ) → List·Memᴰ x ys → member x ys ≡ true
-unfolding member
-member-holds x [] m = absurd (List·Memᴰ·not-nil m)
-member-holds x (y ∷ ys) m =
-    elim (List·Memᴰ·cases-cons m) [
-      | inl same ↦ or-left (eqb x y) _ (eq-eqb x y same)
-      | inr later ↦ or-right (eqb x y) _ (member-holds x ys later)
-    ]
-
-member-says : (x : ℕ) (ys : List ℕ) → member x ys ≡ true → List·Memᴰ x ys
-unfolding member
-member-says x [] h = absurd (false≢true h)
-member-says x (y ∷ ys) h =
-    elim (or-either (eqb x y) _ h) [
-      | inl same ↦ List·Memᴰ·head (eqb-true x y same)
-      | inr later ↦ List·Memᴰ·tail (member-says x ys later)
-    ]
 
 module _ {a : Accepted} (ok : IsAccepted a) {s : State} (inv : Invariant a s) where
   -- a start has the turn of its task

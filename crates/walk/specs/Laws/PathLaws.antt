@@ -9,7 +9,7 @@ use native.Mathlib.Omega.{arith}
 use mathlib.Core.List.{List, [], _∷_, map, List·Memᴰ, List·Memᴰ·head, List·Memᴰ·tail, List·Memᴰ·not-nil, List·Memᴰ·cases-cons, List·Memᴰ·append-cases, Memᴰ·append-left, Memᴰ·append-right, Memᴰ·map, Memᴰ·of-map}
 use mathlib.Core.Option.{some}
 use lib.ListN.{length, length-append}
-use Rattle.notation.specs.Laws.PairLaws.{every-of, every-imp, every-map, every-append, ordered-imp, ordered-map, ordered-append}
+use Rattle.notation.specs.Laws.PairLaws.{every-of, every-imp, every-map, every-append, ordered-imp, ordered-map, ordered-append, every-listed}
 use Rattle.notation.specs.Ordered.{Every, Ordered}
 use Rattle.notation.specs.Laws.TestLaws as tests
 use Rattle.timing.specs.Accepted.{Accepted}
@@ -22,7 +22,7 @@ use Rattle.order.specs.Orders.{run}
 use Rattle.order.specs.States.{State, initial, allEnded}
 use Rattle.order.specs.Laws.StepLaws.{step-keeps, initial-invariant}
 use Rattle.walk.specs.Laws.CaseLaws.{paths-end, paths-cut, paths-on, end-steps, run-first, run-on}
-use Rattle.walk.specs.Laws.ListedLaws.{lex-apart, lex-first, lex-later, every-listed}
+use Rattle.walk.specs.Laws.ListedLaws.{lex-apart, lex-first, lex-later}
 use Rattle.walk.specs.Laws.MoveLaws.{moves-ascend, move-is-step, step-is-move}
 use Rattle.walk.specs.Moves.{Move, moves}
 use Rattle.walk.specs.Paths.{Begun, Sooner, pathsThrough, pathsFrom, paths}

@@ -13,7 +13,7 @@ use lib.ListN.{length, take, drop, replicate}
 use lib.Seq.{take-append-le, take-take, take-at}
 use borrow.Author.Tests.{le-leb, lt-leb}
 use Rattle.notation.specs.Checked.{Checked, refused, passed}
-use Rattle.taskfile.specs.Laws.CheckSteps.{require-holds, require-fails, bind-goes}
+use Rattle.notation.specs.Laws.CheckedLaws.{require-holds, require-fails, bind-goes}
 use Rattle.notation.specs.Lists.{padded}
 use Rattle.notation.specs.Laws.PaddedLaws.{padded-length}
 use Rattle.taskfile.specs.Records.{File}

@@ -14,7 +14,7 @@ use borrow.Author.Tests.{lt-leb}
 use Rattle.taskfile.specs.declared.Check.the-variants.{Passed, Refused}
 use Rattle.taskfile.specs.declared.Table.{Table}
 use Rattle.notation.specs.Checked.{Checked, refused, passed}
-use Rattle.taskfile.specs.Laws.CheckSteps.{require-fails, bind-refused, bind-goes}
+use Rattle.notation.specs.Laws.CheckedLaws.{require-fails, bind-refused, bind-goes}
 use Rattle.notation.specs.Lists.{if_then_else_, padded}
 use Rattle.notation.specs.Laws.PaddedLaws.{padded-cons, padded-nil}
 use Rattle.taskfile.specs.Records.{File}
