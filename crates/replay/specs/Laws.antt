@@ -1,1 +1,1 @@
-pub mod EntryLaws
+pub mod ReplayEntryLaws

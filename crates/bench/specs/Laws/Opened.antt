@@ -1,6 +1,6 @@
--- One name for all definitions, so that a proof by computing says `unfolding opened`. The search for a response time
--- stays shut, since some tables have periods that no computing reaches the end of: where it is wanted, say `unfolding
--- opened responseOf`.
+-- One name for all definitions, so that a proof by computing says `unfolding allOpened`. The search for a response
+-- time stays shut, since some tables have periods that no computing reaches the end of: where it is wanted, say
+-- `unfolding allOpened responseOf`.
 -- Assumes nothing.
 use Rattle.samples.specs.Laws.Opened
 use Rattle.order.specs.Laws.Opened.{ordersOpened}

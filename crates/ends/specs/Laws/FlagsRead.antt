@@ -37,6 +37,7 @@ flags-more {bytes} {x} {flags} to lt =
           ];
     }
 
-pub flags-read : {bytes : List ℕ} {x : ℕ} {flags : List Bool} → FlagsTo bytes x flags → 32 ≤ x → flags ≡ snapshotIn bytes .failed
+pub flags-read : {bytes : List ℕ} {x : ℕ} {flags : List Bool} → FlagsTo bytes x flags → 32 ≤ x
+    → flags ≡ snapshotIn bytes .failed
 unfolding snapshotIn
 flags-read {bytes} {x} {flags} to le = values-are (flagIn bytes) 32 flags false (to .size) (λ k lt. to .known k (omega arith))

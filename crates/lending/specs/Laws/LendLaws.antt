@@ -35,7 +35,8 @@ module _ {t : Table} {list : JobList} {program times : List ℕ} (start : List �
       subst (λ (u : Table). Lends a program times (record { count = u .locks; ceilings = u .ceilings })) (sym table)
       (arrays-lent ok listed (subst (λ (u : Table). OwnersTo u list (list .count) program) table owners) held)
 
-  begins : (a : Accepted) → IsAccepted a → t ≡ a .table → list ≡ jobListOf (a .jobs) → Shows a (snapshotIn start) (initial a)
+  begins : (a : Accepted) → IsAccepted a → t ≡ a .table → list ≡ jobListOf (a .jobs)
+      → Shows a (snapshotIn start) (initial a)
   begins a ok table listed =
       subst (λ (p : Snapshot). Shows a p (initial a)) (sym (first ∙ ap (λ (u : Table). firstSnapshot program (u .store)) table))
       (first-shown ok (holds a ok table listed))
@@ -45,7 +46,8 @@ module _ {t : Table} {list : JobList} {program times : List ℕ} (start : List �
   lent-of whole = record { few = shaped .locksWithin; whole = whole; lends = holds; shows = begins }
 
 -- the table and the jobs of a file that passed can be lent
-pub parts-lent : (f : File) (x : AcceptAnswer) → AcceptedAs x (accept f) → x .check ≡ Passed → Shaped (x .table) × (x .list .count ≤ 32)
+pub parts-lent : (f : File) (x : AcceptAnswer) → AcceptedAs x (accept f) → x .check ≡ Passed
+    → Shaped (x .table) × (x .list .count ≤ 32)
 unfolding jobListOf
 parts-lent f x says passes =
     let found = accepted-passed x (accept f) says passes in

@@ -22,7 +22,8 @@ same-values f n y h =
     sym (values-are f n (replicate n y) y (length-replicate n y) (λ k lt. getD-replicate n k y y lt ∙ sym (h k lt)))
 
 -- n zeros from a on
-zero-bytes : (bytes : List ℕ) (a n : ℕ) → ((k : ℕ) → k < n → getD bytes (a + k) 0 ≡ 0) → bytesAt bytes a n ≡ replicate n 0
+zero-bytes : (bytes : List ℕ) (a n : ℕ) → ((k : ℕ) → k < n → getD bytes (a + k) 0 ≡ 0)
+    → bytesAt bytes a n ≡ replicate n 0
 unfolding bytesAt
 zero-bytes bytes a n h = same-values (λ k. getD bytes (a + k) 0) n 0 h
 

@@ -84,7 +84,8 @@ nowOrLater false later f = f refl
 
 module _ (t : Table) (judgement : judged t ≡ passed tt) (i : Task) (known : i .0 < length (tasksOf t)) where
   -- an instruction before the last may skip only inside the body
-  room : (p : ℕ) → suc p < length (bodyOf (taskOf t i)) → p + 1 + skipped (instructionOf t i p) < length (bodyOf (taskOf t i))
+  room : (p : ℕ) → suc p < length (bodyOf (taskOf t i))
+      → p + 1 + skipped (instructionOf t i p) < length (bodyOf (taskOf t i))
   unfolding skipped if_then_else_
   room p b = go (isSkip (instructionOf t i p)) (skip-inside t judgement i known p (omega arith))
     where

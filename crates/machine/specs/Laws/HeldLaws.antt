@@ -145,8 +145,8 @@ module _ (ceilings : List ℕ) (base : ℕ) where
       let same : 0 + lock ≡ lock = omega arith in raised-ceiling held base 0 ceilings lock b (rw same h)
 
   pub priority-from : (held : Held)
-      → (priority ceilings base held ≡ base)
-      ⊎ ((lock : ℕ) × (lock < length ceilings) × (holds held lock ≡ true) × (priority ceilings base held ≡ getD ceilings lock 0))
+      → (priority ceilings base held ≡ base) ⊎ ((lock : ℕ) × (lock < length ceilings) × (holds held lock ≡ true)
+      × (priority ceilings base held ≡ getD ceilings lock 0))
   unfolding priority
   priority-from held =
       elim (raised-from held base 0 ceilings) [
@@ -166,11 +166,13 @@ module _ (ceilings : List ℕ) (base : ℕ) where
   pub priority-none : priority ceilings base noLocks ≡ base
   priority-none = priority-free noLocks (λ lock b. none-held lock)
 
-  pub acquire-raises : (held : Held) (lock : ℕ) → priority ceilings base held ≤ priority ceilings base (acquire held lock)
+  pub acquire-raises : (held : Held) (lock : ℕ)
+      → priority ceilings base held ≤ priority ceilings base (acquire held lock)
   unfolding priority
   acquire-raises held lock = raised-more held (acquire held lock) base (acquire-keeps held lock) 0 ceilings
 
-  pub release-lowers : (held : Held) (lock : ℕ) → priority ceilings base (release held lock) ≤ priority ceilings base held
+  pub release-lowers : (held : Held) (lock : ℕ)
+      → priority ceilings base (release held lock) ≤ priority ceilings base held
   unfolding priority
   release-lowers held lock = raised-more (release held lock) held base (release-takes held lock) 0 ceilings
 
@@ -188,13 +190,15 @@ module _ (ceilings : List ℕ) (locks base : ℕ) (held : Held) where
 
   -- one lock more
   step : (lock : ℕ) → 0 < lock → lock ≤ locks → locks ≤ length ceilings
-      → highestFrom (lock - 1) ≡ max (if holds held (lock - 1) then getD ceilings (lock - 1) 0 else 0) (highestFrom lock)
+      → highestFrom (lock - 1) ≡ max (if holds held (lock - 1) then getD ceilings (lock - 1) 0 else 0)
+      (highestFrom lock)
   unfolding raised
   step zero some b c = absurd (omega arith)
   step (suc k) some b c =
       let same : suc k - 1 ≡ k = omega arith in
       rw (same, drop-cons (take locks ceilings) k 0 (omega (arith, length-take locks ceilings)), getD-take locks ceilings k 0 (omega arith))
 
-  pub highest-step : (lock highest : ℕ) (test : Bool) → 0 < lock → lock ≤ locks → locks ≤ length ceilings → highest ≡ highestFrom lock
-      → holds held (lock - 1) ≡ test → highestFrom (lock - 1) ≡ max (if test then getD ceilings (lock - 1) 0 else 0) highest
+  pub highest-step : (lock highest : ℕ) (test : Bool) → 0 < lock → lock ≤ locks → locks ≤ length ceilings
+      → highest ≡ highestFrom lock → holds held (lock - 1) ≡ test
+      → highestFrom (lock - 1) ≡ max (if test then getD ceilings (lock - 1) 0 else 0) highest
   highest-step lock highest test some b c is e = step lock some b c ∙ rw (e, is)

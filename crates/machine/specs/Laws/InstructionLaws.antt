@@ -63,7 +63,8 @@ register-shaped : (r x : ℕ) {l : Local} {s : Store} → LocalShaped l s → Lo
 unfolding withRegister
 register-shaped r x h = record { store = h .store; registers = simp length-set (h .registers); held = h .held }
 
-held-shaped : (held : Held) {l : Local} {s : Store} → length held ≡ 8 → LocalShaped l s → LocalShaped (withHeld held l) s
+held-shaped : (held : Held) {l : Local} {s : Store} → length held ≡ 8 → LocalShaped l s
+    → LocalShaped (withHeld held l) s
 unfolding withHeld
 held-shaped held e h = record { store = h .store; registers = h .registers; held = e }
 

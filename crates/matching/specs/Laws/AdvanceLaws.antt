@@ -77,27 +77,28 @@ pub record Advance (a : Accepted) (s now : State) (r next : ℕ) (made later : M
 -- ---- whose turn it is
 
 -- what holds of the active jobs holds of those under the turn's
-under-start : (a : Accepted) (s : State) (i : ℕ) {turn : Turn} (P : Frame → Type 0) → startOf a s i ≡ some turn → Every P (s .active)
-    → Every P (turn .under)
+under-start : (a : Accepted) (s : State) (i : ℕ) {turn : Turn} (P : Frame → Type 0) → startOf a s i ≡ some turn
+    → Every P (s .active) → Every P (turn .under)
 unfolding startOf
 under-start a s i P e h =
     let found = map-some _ (firstWith (λ y. eqb (base a y) i && mayStart a s y) (jobNumbers a)) e in
     subst (λ (t : Turn). Every P (t .under)) (found .2) h
 
-under-among : (a : Accepted) (s : State) (i : ℕ) {turn : Turn} (P : Frame → Type 0) (active : List Frame) → s .active ≡ active
-    → turnAmong a s i active ≡ some turn → Every P (s .active) → Every P (turn .under)
+under-among : (a : Accepted) (s : State) (i : ℕ) {turn : Turn} (P : Frame → Type 0) (active : List Frame)
+    → s .active ≡ active → turnAmong a s i active ≡ some turn → Every P (s .active) → Every P (turn .under)
 unfolding turnAmong if_then_else_
 under-among a s i P [] same e h = under-start a s i P e h
 under-among a s i {turn} P (f ∷ under) same e h = go (eqb (base a (f .job)) i) e
   where
-    go : (b : Bool) → (if b then some (record { frame = f; under = under }) else startOf a s i) ≡ some turn → Every P (turn .under)
+    go : (b : Bool) → (if b then some (record { frame = f; under = under }) else startOf a s i) ≡ some turn
+        → Every P (turn .under)
     go true k =
         let turns : record { frame = f; under = under } ≡ turn = cc in
         subst (λ (t : Turn). Every P (t .under)) turns (subst (Every P) same h .1)
     go false k = under-start a s i P k h
 
-pub under-every : (a : Accepted) (s : State) (i : ℕ) {turn : Turn} (P : Frame → Type 0) → turnOf a s i ≡ some turn → Every P (s .active)
-    → Every P (turn .under)
+pub under-every : (a : Accepted) (s : State) (i : ℕ) {turn : Turn} (P : Frame → Type 0) → turnOf a s i ≡ some turn
+    → Every P (s .active) → Every P (turn .under)
 unfolding turnOf
 under-every a s i P e h = under-among a s i P (s .active) refl e h
 
@@ -121,7 +122,8 @@ by-job x P here other y =
     ]
 
 -- of two jobs at most one may preempt the other, and no job itself
-pub one-way : {a : Accepted} → IsAccepted a → (x y : Job) → IsJob a x → IsJob a y → mayPreempt a y x ≡ true → mayPreempt a x y ≡ true → ⊥
+pub one-way : {a : Accepted} → IsAccepted a → (x y : Job) → IsJob a x → IsJob a y → mayPreempt a y x ≡ true
+    → mayPreempt a x y ≡ true → ⊥
 one-way ok x y isX isY h k = omega (arith, preempts-lower (ok .isTimed) y x isX h, preempts-lower (ok .isTimed) x y isY k)
 
 pub preempts-apart : {a : Accepted} → IsAccepted a → (x y : Job) → IsJob a x → mayPreempt a y x ≡ true → y .0 ≡ x .0 → ⊥
@@ -210,7 +212,8 @@ module _ {a : Accepted} (ok : IsAccepted a) {s : State} (inv : Invariant a s) {t
         subst (λ (y : Job). priorityNow a made y < base a x) (found .2) (found .1)
 
     -- those under the turn's job keep theirs, and it has that of its new step
-    held-under : (fs : List Frame) → Held made fs → Every (IsRunning a s) fs → Every (Over a (turn .frame)) fs → Held later fs
+    held-under : (fs : List Frame) → Held made fs → Every (IsRunning a s) fs → Every (Over a (turn .frame)) fs
+        → Held later fs
     held-under [] held runs over = tt
     held-under (f ∷ fs) held runs over =
         let apart : f .job .0 ≡ x .0 → ⊥ = λ e. preempts-apart ok (f .job) x (runs .0 .job) (over .0 .preempts) (sym e) in

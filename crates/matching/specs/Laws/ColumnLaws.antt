@@ -21,7 +21,8 @@ use Rattle.machine.specs.Instructions.{Store}
 use Rattle.matching.specs.Laws.Histories.{Mark, Marks, marked, inRound, JobColumn, unbegun, ColumnRun, effectOf, stepped, markStep, runMarks, Columns, columnsFrom, columns}
 
 -- of steps with none in round q, the first is in another round and the rest have none
-pub round-elsewhere : (q : ℕ) (m : Mark) (ms : List Mark) → inRound q (m ∷ ms) ≡ [] → (m .round ≢ q) × (inRound q ms ≡ [])
+pub round-elsewhere : (q : ℕ) (m : Mark) (ms : List Mark) → inRound q (m ∷ ms) ≡ []
+    → (m .round ≢ q) × (inRound q ms ≡ [])
 unfolding inRound only if_then_else_
 round-elsewhere q m ms none = go (eqb (m .round) q) refl none
   where
@@ -51,7 +52,8 @@ module _ (a : Accepted) where
   -- ---- one step
 
   -- of the stores a step reads its round's alone
-  effect-frame : (x : ℕ) (m : Mark) (c : JobColumn) (S R : List Store) → getD S (m .round) noStore ≡ getD R (m .round) noStore
+  effect-frame : (x : ℕ) (m : Mark) (c : JobColumn) (S R : List Store)
+      → getD S (m .round) noStore ≡ getD R (m .round) noStore
       → effectOf a x m (record { column = c; stores = S }) ≡ effectOf a x m (record { column = c; stores = R })
   unfolding effectOf
   effect-frame x m c S R e = rw e
@@ -86,7 +88,8 @@ module _ (a : Accepted) where
   -- ---- a job's steps
 
   -- one step more at the end is made last
-  pub run-snoc : (x : ℕ) (ms : List Mark) (m : Mark) (c : ColumnRun) → runMarks a x (ms ++ (m ∷ [])) c ≡ markStep a x m (runMarks a x ms c)
+  pub run-snoc : (x : ℕ) (ms : List Mark) (m : Mark) (c : ColumnRun)
+      → runMarks a x (ms ++ (m ∷ [])) c ≡ markStep a x m (runMarks a x ms c)
   unfolding runMarks
   run-snoc x [] m c = refl
   run-snoc x (n ∷ ms) m c = run-snoc x ms m (markStep a x n c)
@@ -181,18 +184,21 @@ module _ (a : Accepted) where
 
   -- one step more of job x changes its column and its round's store alone
   pub columns-marked : (h : Marks) (x : ℕ) (m : Mark) (S : List Store) → x < length h
-      → ((y : ℕ) → x < y → inRound (m .round) (getD h y []) ≡ []) → columns a (marked h x m) S ≡ oneMore a x x m (columns a h S)
+      → ((y : ℕ) → x < y → inRound (m .round) (getD h y []) ≡ [])
+      → columns a (marked h x m) S ≡ oneMore a x x m (columns a h S)
   unfolding columns
   columns-marked h x m S below none =
       columnsFrom-marked 0 h x m S below none ∙ ap (λ (k : ℕ). oneMore a k x m (columnsFrom a 0 h S)) (omega arith)
 
   -- ---- no steps
 
-  columnsFrom-none : (n k : ℕ) (S : List Store) → columnsFrom a n (replicate k []) S ≡ record { jobs = replicate k unbegun; stores = S }
+  columnsFrom-none : (n k : ℕ) (S : List Store)
+      → columnsFrom a n (replicate k []) S ≡ record { jobs = replicate k unbegun; stores = S }
   unfolding columnsFrom runMarks
   columnsFrom-none n zero S = refl
   columnsFrom-none n (suc k) S = ap (ahead unbegun) (columnsFrom-none (suc n) k S)
 
-  pub columns-none : (k : ℕ) (S : List Store) → columns a (replicate k []) S ≡ record { jobs = replicate k unbegun; stores = S }
+  pub columns-none : (k : ℕ) (S : List Store)
+      → columns a (replicate k []) S ≡ record { jobs = replicate k unbegun; stores = S }
   unfolding columns
   columns-none k S = columnsFrom-none 0 k S

@@ -26,7 +26,8 @@ abbrev pub Alike : ℕ → List Store → List Store → Type 0
 Alike q S R = getD S q noStore ≡ getD R q noStore
 
 -- it still is when both have the same new store for a round
-set-alike : (q r : ℕ) (s : Store) (S R : List Store) → length S ≡ length R → Alike q S R → Alike q (set S r s) (set R r s)
+set-alike : (q r : ℕ) (s : Store) (S R : List Store) → length S ≡ length R → Alike q S R
+    → Alike q (set S r s) (set R r s)
 set-alike q r s [] [] long e = refl
 set-alike q r s [] (t ∷ R) long e = absurd (omega arith)
 set-alike q r s (t ∷ S) [] long e = absurd (omega arith)
@@ -45,7 +46,8 @@ none-within : (q : ℕ) (ms ns : List Mark) → [] ≡ ms ++ ns → inRound q ms
 none-within q ms ns e = ap (inRound q) (nothing-left ms ns (sym e) .0) ∙ nothing-in q
 
 -- stores that are the same in each round in which there is a step: so in that of the first step
-here-alike : (m : Mark) (ms : List Mark) (S R : List Store) → ((q : ℕ) → (inRound q (m ∷ ms) ≡ []) ⊎ Alike q S R) → Alike (m .round) S R
+here-alike : (m : Mark) (ms : List Mark) (S R : List Store) → ((q : ℕ) → (inRound q (m ∷ ms) ≡ []) ⊎ Alike q S R)
+    → Alike (m .round) S R
 here-alike m ms S R same = elim (same (m .round)) [
   | inl none ↦ absurd (round-elsewhere (m .round) m ms none .0 refl)
   | inr e ↦ e
@@ -53,7 +55,8 @@ here-alike m ms S R same = elim (same (m .round)) [
 
 -- and after it in those of the others
 onward-alike : (m : Mark) (ms : List Mark) (s : Store) (S R : List Store) → length S ≡ length R
-    → ((q : ℕ) → (inRound q (m ∷ ms) ≡ []) ⊎ Alike q S R) → (q : ℕ) → (inRound q ms ≡ []) ⊎ Alike q (set S (m .round) s) (set R (m .round) s)
+    → ((q : ℕ) → (inRound q (m ∷ ms) ≡ []) ⊎ Alike q S R) → (q : ℕ)
+    → (inRound q ms ≡ []) ⊎ Alike q (set S (m .round) s) (set R (m .round) s)
 onward-alike m ms s S R long same q = elim (same q) [
   | inl none ↦ inl (round-elsewhere q m ms none .1)
   | inr e ↦ inr (set-alike q (m .round) s S R long e)
@@ -78,7 +81,8 @@ module _ (a : Accepted) where
   -- steps from stores that are the same in each round in which there is a step
   run-agrees : (x : ℕ) (ms : List Mark) (c : JobColumn) (S R : List Store) → length S ≡ length R
       → ((q : ℕ) → (inRound q ms ≡ []) ⊎ Alike q S R)
-      → Agreed (runMarks a x ms (record { column = c; stores = S })) (runMarks a x ms (record { column = c; stores = R })) S R
+      → Agreed (runMarks a x ms (record { column = c; stores = S }))
+      (runMarks a x ms (record { column = c; stores = R })) S R
   unfolding runMarks markStep stepped
   run-agrees x [] c S R long same = record { column = refl; stores = λ q e. e }
   run-agrees x (m ∷ ms) c S R long same =
@@ -92,7 +96,8 @@ module _ (a : Accepted) where
       (record { column = later .column; stores = λ q e. later .stores q (set-alike q (m .round) (effect .store) S R long e) })
 
   -- the run of two parts is that of the second after that of the first
-  pub run-append : (x : ℕ) (ms ns : List Mark) (c : ColumnRun) → runMarks a x (ms ++ ns) c ≡ runMarks a x ns (runMarks a x ms c)
+  pub run-append : (x : ℕ) (ms ns : List Mark) (c : ColumnRun)
+      → runMarks a x (ms ++ ns) c ≡ runMarks a x ns (runMarks a x ms c)
   unfolding runMarks
   run-append x [] ns c = refl
   run-append x (m ∷ ms) ns c = run-append x ms ns (markStep a x m c)
@@ -117,7 +122,8 @@ Settled now rest S R = (y q : ℕ) → (inRound q (getD now y []) ≡ []) ⊎ (A
 abbrev Parts : Marks → Marks → (ℕ → List Mark) → Type 0
 Parts h now rest = (y : ℕ) → getD h y [] ≡ getD now y [] ++ rest y
 
-first-settled : (now : Marks) (rest : ℕ → List Mark) (S R : List Store) → Settled now rest S R → (q : ℕ) → (inRound q (getD now 0 []) ≡ []) ⊎ Alike q S R
+first-settled : (now : Marks) (rest : ℕ → List Mark) (S R : List Store) → Settled now rest S R → (q : ℕ)
+    → (inRound q (getD now 0 []) ≡ []) ⊎ Alike q S R
 first-settled now rest S R settled q = elim (settled 0 q) [
   | inl none ↦ inl none
   | inr same ↦ inr (same .0)
@@ -125,8 +131,8 @@ first-settled now rest S R settled q = elim (settled 0 q) [
 
 module _ (a : Accepted) where
   -- after the first job
-  next-settled : (n : ℕ) (ms ns : List Mark) (now : Marks) (rest : ℕ → List Mark) (S R : List Store) → length S ≡ length R → ns ≡ ms ++ rest 0
-      → Settled (ms ∷ now) rest S R
+  next-settled : (n : ℕ) (ms ns : List Mark) (now : Marks) (rest : ℕ → List Mark) (S R : List Store)
+      → length S ≡ length R → ns ≡ ms ++ rest 0 → Settled (ms ∷ now) rest S R
       → Settled now (λ y. rest (suc y)) (runMarks a n ms (begin S) .stores) (runMarks a n ns (begin R) .stores)
   next-settled n ms ns now rest S R long parts settled y q = elim (settled (suc y) q) [
     | inl none ↦ inl none
@@ -142,9 +148,10 @@ module _ (a : Accepted) where
   still-long n ms ns S R long = run-length a n ms (begin S) ∙ long ∙ sym (run-length a n ns (begin R))
 
   -- the column of a job is that of its steps made on what the jobs before it leave in the whole history
-  columnsFrom-made : (n : ℕ) (h now : Marks) (rest : ℕ → List Mark) (S R : List Store) → length now ≡ length h → length S ≡ length R
-      → Parts h now rest → Settled now rest S R → (y : ℕ) → y < length h
-      → getD (columnsFrom a n now S .jobs) y unbegun ≡ runMarks a (n + y) (getD now y []) (begin (columnsFrom a n (take y h) R .stores)) .column
+  columnsFrom-made : (n : ℕ) (h now : Marks) (rest : ℕ → List Mark) (S R : List Store) → length now ≡ length h
+      → length S ≡ length R → Parts h now rest → Settled now rest S R → (y : ℕ) → y < length h
+      → getD (columnsFrom a n now S .jobs) y unbegun ≡ runMarks a (n + y) (getD now y [])
+      (begin (columnsFrom a n (take y h) R .stores)) .column
   unfolding columnsFrom
   columnsFrom-made n [] now rest S R as-long long parts settled y inside = absurd (omega arith)
   columnsFrom-made n (ns ∷ h) [] rest S R as-long long parts settled y inside = absurd (omega arith)
@@ -200,7 +207,8 @@ module _ (a : Accepted) (S : List Store) where
   -- round r's store is that of the whole history, where of the rounds up to r all steps are made, and of those after
   -- it none
   pub store-left : (h now : Marks) (rest : ℕ → List Mark) (r : ℕ) → ((y : ℕ) → getD h y [] ≡ getD now y [] ++ rest y)
-      → ((y : ℕ) → inRound r (rest y) ≡ []) → ((y q : ℕ) → r < q → inRound q (getD now y []) ≡ []) → ((y q : ℕ) → q < r → inRound q (rest y) ≡ [])
+      → ((y : ℕ) → inRound r (rest y) ≡ []) → ((y q : ℕ) → r < q → inRound q (getD now y []) ≡ [])
+      → ((y q : ℕ) → q < r → inRound q (rest y) ≡ [])
       → getD (columns a now S .stores) r noStore ≡ getD (columns a h S .stores) r noStore
   unfolding columns
   store-left h now rest r parts here later earlier = columnsFrom-left a 0 h now rest S S refl parts settled r refl here

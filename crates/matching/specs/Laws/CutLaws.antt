@@ -119,7 +119,8 @@ sequence-ordered (suc n) h =
 -- ---- the cut
 
 -- no step of job y is in round q
-none-in : (q y : ℕ) (ps : List Placed) → Every (λ p. p .number ≡ y → p .mark .round ≡ q → ⊥) ps → inRound q (ofJob y ps) ≡ []
+none-in : (q y : ℕ) (ps : List Placed) → Every (λ p. p .number ≡ y → p .mark .round ≡ q → ⊥) ps
+    → inRound q (ofJob y ps) ≡ []
 unfolding inRound ofJob only
 none-in q y [] none = refl
 none-in q y (p ∷ ps) none =
@@ -175,7 +176,8 @@ module _ (n : ℕ) (h : Marks) (done : List Placed) (p : Placed) (rest : List Pl
     ordered-split NoLater done p rest (subst (Ordered NoLater) split (sequence-ordered n h)) .1,
   )
 
-  none-made : (y q : ℕ) → ((d : Placed) → NoLater d p → d .number ≡ y → d .mark .round ≡ q → ⊥) → inRound q (getD now y []) ≡ []
+  none-made : (y q : ℕ) → ((d : Placed) → NoLater d p → d .number ≡ y → d .mark .round ≡ q → ⊥)
+      → inRound q (getD now y []) ≡ []
   none-made y q none =
       ap (inRound q) (made-of y)
       ∙ none-in q y done (every-imp (λ d. NoLater d p) (λ d. d .number ≡ y → d .mark .round ≡ q → ⊥) none done before)

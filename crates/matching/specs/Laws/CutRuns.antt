@@ -28,7 +28,8 @@ use Rattle.matching.specs.Laws.PlanReadingLaws as reading
 
 module _ (a : Accepted) (x : ℕ) where
   -- a whole run ends
-  pub whole-ends : (ms : List Mark) (previous : ℕ) (c : ColumnRun) → Whole a x previous ms c → runMarks a x ms c .column .ended ≡ true
+  pub whole-ends : (ms : List Mark) (previous : ℕ) (c : ColumnRun) → Whole a x previous ms c
+      → runMarks a x ms c .column .ended ≡ true
   unfolding runMarks
   whole-ends [] previous c whole = absurd whole
   whole-ends (m ∷ ms) previous c whole = elim (whole .1) [
@@ -37,8 +38,8 @@ module _ (a : Accepted) (x : ℕ) where
   ]
 
   -- no proper beginning of it does
-  whole-open : (ms : List Mark) (m : Mark) (more : List Mark) (previous : ℕ) (c : ColumnRun) → Whole a x previous (ms ++ m ∷ more) c
-      → c .column .ended ≡ false → runMarks a x ms c .column .ended ≡ false
+  whole-open : (ms : List Mark) (m : Mark) (more : List Mark) (previous : ℕ) (c : ColumnRun)
+      → Whole a x previous (ms ++ m ∷ more) c → c .column .ended ≡ false → runMarks a x ms c .column .ended ≡ false
   unfolding runMarks
   whole-open [] m more previous c whole going = going
   whole-open (n ∷ ms) m more previous c whole going = elim (whole .1) [
@@ -47,8 +48,8 @@ module _ (a : Accepted) (x : ℕ) where
   ]
 
   -- and the step after it is allowed
-  whole-next : (ms : List Mark) (m : Mark) (more : List Mark) (previous : ℕ) (c : ColumnRun) → Whole a x previous (ms ++ m ∷ more) c
-      → Allowed a x (lastRound previous ms) m (runMarks a x ms c)
+  whole-next : (ms : List Mark) (m : Mark) (more : List Mark) (previous : ℕ) (c : ColumnRun)
+      → Whole a x previous (ms ++ m ∷ more) c → Allowed a x (lastRound previous ms) m (runMarks a x ms c)
   unfolding runMarks lastRound lastOr
   whole-next [] m more previous c whole = whole .0
   whole-next (n ∷ ms) m more previous c whole = elim (whole .1) [
@@ -57,15 +58,16 @@ module _ (a : Accepted) (x : ℕ) where
   ]
 
   -- a beginning with something left of the whole
-  whole-partly : (ms rest : List Mark) (previous : ℕ) (c : ColumnRun) → Whole a x previous (ms ++ rest) c → c .column .ended ≡ false
-      → (rest ≡ [] → ⊥) → runMarks a x ms c .column .ended ≡ false
+  whole-partly : (ms rest : List Mark) (previous : ℕ) (c : ColumnRun) → Whole a x previous (ms ++ rest) c
+      → c .column .ended ≡ false → (rest ≡ [] → ⊥) → runMarks a x ms c .column .ended ≡ false
   whole-partly ms [] previous c whole going left = absurd (left refl)
   whole-partly ms (m ∷ more) previous c whole going left = whole-open ms m more previous c whole going
 
   -- ---- the steps that marks make
 
   -- one for each, after those so far
-  run-makes : (ms : List Mark) (c : ColumnRun) → length (runMarks a x ms c .column .steps) ≡ length (c .column .steps) + length ms
+  run-makes : (ms : List Mark) (c : ColumnRun)
+      → length (runMarks a x ms c .column .steps) ≡ length (c .column .steps) + length ms
   unfolding runMarks markStep stepped stepOf
   run-makes [] c = omega arith
   run-makes (m ∷ ms) c =
@@ -75,7 +77,8 @@ module _ (a : Accepted) (x : ℕ) where
       length-append (c .column .steps) (stepOf a x m (effectOf a x m c) ∷ []) in
       omega arith
 
-  run-keeps : (ms : List Mark) (c : ColumnRun) → (more : List Step) × (runMarks a x ms c .column .steps ≡ c .column .steps ++ more)
+  run-keeps : (ms : List Mark) (c : ColumnRun)
+      → (more : List Step) × (runMarks a x ms c .column .steps ≡ c .column .steps ++ more)
   unfolding runMarks markStep stepped stepOf
   run-keeps [] c = ([], sym (append-nil (c .column .steps)))
   run-keeps (m ∷ ms) c =
@@ -96,7 +99,8 @@ module _ (a : Accepted) (x : ℕ) where
 -- ---- each job of a history of whole runs
 
 module _ (a : Accepted) where
-  pub whole-at : (h : Marks) (S : List Store) (y : ℕ) → y < length h → AllWhole a 0 h S → Whole a y 0 (getD h y []) (beginning a h S y)
+  pub whole-at : (h : Marks) (S : List Store) (y : ℕ) → y < length h → AllWhole a 0 h S
+      → Whole a y 0 (getD h y []) (beginning a h S y)
   unfolding storesBefore
   whole-at h S y inside whole = let place : 0 + y ≡ y = omega arith in rw place at (reading.whole-at a h 0 S whole y inside)
 
@@ -116,7 +120,8 @@ module _ (a : Accepted) where
         (subst (λ (ms : List Mark). Whole a y 0 ms (beginning a h S y)) all (whole-parts y inside))
 
     -- one with a step left has not
-    pub cut-open : (y : ℕ) → y < length h → (cut .rest y ≡ [] → ⊥) → getD (columns a now S .jobs) y unbegun .ended ≡ false
+    pub cut-open : (y : ℕ) → y < length h → (cut .rest y ≡ [] → ⊥)
+        → getD (columns a now S .jobs) y unbegun .ended ≡ false
     unfolding unbegun
     cut-open y inside left =
         ap (λ (c : JobColumn). c .ended) (made-same a S cut y inside)
@@ -127,7 +132,8 @@ module _ (a : Accepted) where
     next-open = cut-open x (cut .known) (cons-some (cut .next))
 
     -- its job may make the next step
-    pub next-allowed : (c : ColumnRun) → c .column ≡ getD (columns a now S .jobs) x unbegun → Allowed a x (lastRound 0 (getD now x [])) m c
+    pub next-allowed : (c : ColumnRun) → c .column ≡ getD (columns a now S .jobs) x unbegun
+        → Allowed a x (lastRound 0 (getD now x [])) m c
     next-allowed c same =
         let here = subst (λ (ms : List Mark). Whole a x 0 (getD now x [] ++ ms) (beginning a h S x)) (cut .next) (whole-parts x (cut .known)) in
         let allowed = whole-next a x (getD now x []) m (cut .more) 0 (beginning a h S x) here in
@@ -141,13 +147,15 @@ module _ (a : Accepted) where
         }
 
     -- so its value is on offer
-    pub next-offered : member (m .value)
-        (values (instructionOf (a .table) (jobAt a (job x) .task) (getD (columns a now S .jobs) x unbegun .local .next))) ≡ true
+    pub next-offered : member (m .value) (values
+        (instructionOf (a .table) (jobAt a (job x) .task) (getD (columns a now S .jobs) x unbegun .local .next)))
+        ≡ true
     next-offered = next-allowed (record { column = getD (columns a now S .jobs) x unbegun; stores = [] }) refl .onOffer
 
     -- a job's steps so far are the first of its steps in the whole history
     pub steps-taken : (y : ℕ) → y < length h
-        → getD (columns a now S .jobs) y unbegun .steps ≡ take (length (getD now y [])) (getD (columns a h S .jobs) y unbegun .steps)
+        → getD (columns a now S .jobs) y unbegun .steps ≡ take (length (getD now y []))
+        (getD (columns a h S .jobs) y unbegun .steps)
     unfolding unbegun
     steps-taken y inside =
         let n = length (getD now y []) in

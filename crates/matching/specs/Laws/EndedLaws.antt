@@ -53,7 +53,8 @@ module _ (a : Accepted) (s : State) where
 
   -- one job more
   pub ended-more : (t : State) (x : Job) → IsJob a x → hasEnded s x ≡ false → hasEnded t x ≡ true
-      → ((y : Job) → IsJob a y → (y .0 ≡ x .0 → ⊥) → hasEnded t y ≡ hasEnded s y) → endedCount a t ≡ suc (endedCount a s)
+      → ((y : Job) → IsJob a y → (y .0 ≡ x .0 → ⊥) → hasEnded t y ≡ hasEnded s y)
+      → endedCount a t ≡ suc (endedCount a s)
   unfolding endedCount
   ended-more t x isX e f same =
       only-more (hasEnded s) (hasEnded t) (jobNumbers a) (x .0) x (omega (arith, jobs-length a))

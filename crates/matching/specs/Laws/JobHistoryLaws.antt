@@ -122,7 +122,8 @@ module _ (a : Accepted) (plan : Plan) (x left : ℕ) (c : ColumnRun) (previous o
       (record { whole = (allowed, inl (last .ends, refl)); bytes = mark-stands plan o inside })
 
   back-later : (on : Later a plan x left c previous o flags one)
-      → JobBack a plan x (markAt plan o .round) (o + 2) (markStep a x (markAt plan o) c) (on .rest) → JobBack a plan x previous o c one
+      → JobBack a plan x (markAt plan o .round) (o + 2) (markStep a x (markAt plan o) c) (on .rest)
+      → JobBack a plan x previous o c one
   unfolding markOf stepOf marksBytes each
   back-later on back = subst (JobBack a plan x previous o c) (on .made)
       (record {

@@ -70,17 +70,20 @@ require-true test number place e = rw e
 module _ (a : Accepted) (plan : Plan) (x : Job) (left : ℕ) (local : Local) (previous : Round) (running : runs.RunState)
     {effect : Effect} {step : Step} {next : runs.RunState} where
   -- a step that is allowed and is the End
-  job-ends : stepBytes a plan x local previous (running .offset) ≡ passed tt → stepEffect a plan x local running ≡ effect
-      → stepMade a plan x running effect ≡ step → runningAfter plan x running effect ≡ next → effect .ended ≡ true
+  job-ends : stepBytes a plan x local previous (running .offset) ≡ passed tt
+      → stepEffect a plan x local running ≡ effect → stepMade a plan x running effect ≡ step
+      → runningAfter plan x running effect ≡ next → effect .ended ≡ true
       → runJob a plan x (suc left) local previous running ≡ passed (record { steps = step ∷ []; running = next })
   unfolding runJob _>>=_ if_then_else_
   job-ends allowed does makes leaves ends = then-goes _ allowed ∙ rw (does, makes, leaves, ends) refl
 
   -- and one that is not
-  job-goes : stepBytes a plan x local previous (running .offset) ≡ passed tt → stepEffect a plan x local running ≡ effect
-      → stepMade a plan x running effect ≡ step → runningAfter plan x running effect ≡ next → effect .ended ≡ false → {rest : JobRun}
+  job-goes : stepBytes a plan x local previous (running .offset) ≡ passed tt
+      → stepEffect a plan x local running ≡ effect → stepMade a plan x running effect ≡ step
+      → runningAfter plan x running effect ≡ next → effect .ended ≡ false → {rest : JobRun}
       → runJob a plan x left (effect .local) (step .round) next ≡ passed rest
-      → runJob a plan x (suc left) local previous running ≡ passed (record { steps = step ∷ rest .steps; running = rest .running })
+      → runJob a plan x (suc left) local previous running ≡ passed
+      (record { steps = step ∷ rest .steps; running = rest .running })
   unfolding runJob _>>=_ if_then_else_
   job-goes allowed does makes leaves goes later = then-goes _ allowed ∙ rw (does, makes, leaves, goes, later) refl
 
@@ -102,12 +105,14 @@ module _ (a : Accepted) (plan : Plan) (x : ℕ) (o : ℕ) {m : Mark} {rest : Lis
   unfolding stepEffect effectOf
   mark-does flags = rw (two .first, two .second) refl
 
-  mark-makes : (flags : Flags) (effect : Effect) → stepMade a plan (job x) (standing o flags c) effect ≡ stepOf a x m effect
+  mark-makes : (flags : Flags) (effect : Effect)
+      → stepMade a plan (job x) (standing o flags c) effect ≡ stepOf a x m effect
   unfolding stepMade stepOf
   mark-makes flags effect = rw (two .first, two .second) refl
 
   mark-leaves : (flags : Flags)
-      → runningAfter plan (job x) (standing o flags c) (effectOf a x m c) ≡ standing (o + 2) (flagged (effectOf a x m c .failed) x flags) (markStep a x m c)
+      → runningAfter plan (job x) (standing o flags c) (effectOf a x m c) ≡ standing (o + 2)
+      (flagged (effectOf a x m c .failed) x flags) (markStep a x m c)
   unfolding runningAfter markStep stepped job
   mark-leaves flags = rw (two .first) refl
 
@@ -147,7 +152,8 @@ module _ (a : Accepted) (plan : Plan) (x left previous o : ℕ) {m : Mark} {rest
 -- ---- a job
 
 -- a run of job x over these marks, from c and an offset on
-pub record JobRead (a : Accepted) (x : ℕ) (ms : List Mark) (c : ColumnRun) (o : ℕ) (flags : Flags) (one : JobRun) : Type 0 where
+pub record JobRead (a : Accepted) (x : ℕ) (ms : List Mark) (c : ColumnRun) (o : ℕ) (flags : Flags) (one : JobRun) :
+    Type 0 where
   pub offset : one .running .offset ≡ o + 2 * length ms
   pub stores : one .running .stores ≡ runMarks a x ms c .stores
   pub steps : c .column .steps ++ one .steps ≡ runMarks a x ms c .column .steps
@@ -188,11 +194,11 @@ read-more a x m ms c o flags {rest} later =
 
 module _ (a : Accepted) (plan : Plan) (x : ℕ) where
   -- a job whose marks stand in the plan and are whole runs over them
-  pub job-runs : (ms : List Mark) (left previous o : ℕ) (c : ColumnRun) (flags : Flags) (rest : List ℕ) → Whole a x previous ms c
-      → drop o plan ≡ marksBytes ms ++ rest → length ms ≤ left
+  pub job-runs : (ms : List Mark) (left previous o : ℕ) (c : ColumnRun) (flags : Flags) (rest : List ℕ)
+      → Whole a x previous ms c → drop o plan ≡ marksBytes ms ++ rest → length ms ≤ left
       → (one : JobRun)
-      × (runJob a plan (job x) left (c .column .local) (round previous) (standing o flags c) ≡ passed one)
-      × JobRead a x ms c o flags one
+      × (runJob a plan (job x) left (c .column .local) (round previous) (standing o flags c) ≡ passed one) × JobRead a x
+      ms c o flags one
   unfolding marksBytes each
   job-runs [] left previous o c flags rest whole bytes short = absurd whole
   job-runs (m ∷ ms) zero previous o c flags rest whole bytes short = absurd (omega arith)
@@ -260,7 +266,8 @@ module _ {a : Accepted} (ok : IsAccepted a) (x : ℕ) (isJob : x < jobTotal a) w
         | inr on ↦ omega (arith, step (on .0), whole-within ms (m .round) (markStep a x m c) (on .1) (step (on .0) .1))
       ]
 
-  pub whole-short : (ms : List Mark) (stores : List Store) → Whole a x 0 ms (record { column = unbegun; stores = stores }) → length ms ≤ 16
+  pub whole-short : (ms : List Mark) (stores : List Store)
+      → Whole a x 0 ms (record { column = unbegun; stores = stores }) → length ms ≤ 16
   unfolding unbegun fresh base job jobTotal
   whole-short ms stores whole =
       let known = job-task (ok .isTimed) (job x) isJob in

@@ -35,7 +35,8 @@ jobs-member : (a : Accepted) (x : Job) → IsJob a x → List·Memᴰ x (jobNumb
 unfolding jobNumbers
 jobs-member a x isJob = Memᴰ·map (λ (n : ℕ). record { 0 = n }) (upTo-member (length (a .jobs)) (x .0) .1 isJob)
 
-pairs-member : (a : Accepted) (x y : Job) → IsJob a y → x .0 < y .0 → List·Memᴰ (record { lower = x; higher = y }) (pairs a)
+pairs-member : (a : Accepted) (x y : Job) → IsJob a y → x .0 < y .0
+    → List·Memᴰ (record { lower = x; higher = y }) (pairs a)
 unfolding pairs
 pairs-member a x y isJob lt =
     each-member (λ x. map (λ y. record { lower = x; higher = y }) (only (λ y. ltb (x .0) (y .0)) (jobNumbers a)))
@@ -133,8 +134,8 @@ unfolding beforeRule
 before-ends a runs x y rule h = ltb-true _ _ (implied-holds (before a x y) _ rule h)
 
 -- the third case, with its lock clause
-nested-within : (a : Accepted) (runs : JobRuns) (y x : Job) → mayPreempt a y x ≡ true → nested runs y x ≡ true → noStepWithin runs x y ≡ true
-    → lockRule a runs y x ≡ true → Within a runs y x
+nested-within : (a : Accepted) (runs : JobRuns) (y x : Job) → mayPreempt a y x ≡ true → nested runs y x ≡ true
+    → noStepWithin runs x y ≡ true → lockRule a runs y x ≡ true → Within a runs y x
 unfolding lockRule nested
 nested-within a runs y x may nest clear rule =
     let parts = and-both (leb (start runs x .0) (start runs y .0)) _ nest in

@@ -98,7 +98,8 @@ module _ (made later : Made) (x : Job) (st : Step) (more : later (x .0) ≡ made
 
 -- where no round is after r, the priority up to r is that after all steps
 pub upTo-all : (a : Accepted) (made : Made) (x : Job) (r : ℕ)
-    → ((k : ℕ) → k < length (madeRounds made x) → getD (madeRounds made x) k 0 ≤ r) → priorityUpTo a made x r ≡ priorityNow a made x
+    → ((k : ℕ) → k < length (madeRounds made x) → getD (madeRounds made x) k 0 ≤ r)
+    → priorityUpTo a made x r ≡ priorityNow a made x
 unfolding priorityUpTo priorityNow madeRounds
 upTo-all a made x r h =
     ap (λ (l : List Step). lastOr (base a x) (map (λ step. step .priorityAfter) l))
@@ -115,8 +116,8 @@ upTo-all a made x r h =
 -- ---- inside
 
 -- y inside x, where neither of the two made a step more
-pub inside-same : (a : Accepted) (made later : Made) (y x : Job) → later (y .0) ≡ made (y .0) → later (x .0) ≡ made (x .0)
-    → Inside a made y x → Inside a later y x
+pub inside-same : (a : Accepted) (made later : Made) (y x : Job) → later (y .0) ≡ made (y .0)
+    → later (x .0) ≡ made (x .0) → Inside a made y x → Inside a later y x
 inside-same a made later y x sameY sameX inside =
     let firstY = first-same made later y sameY in
     record {
@@ -136,8 +137,8 @@ inside-same a made later y x sameY sameX inside =
 
 -- and where x made one, in a round after y's last
 pub inside-more : (a : Accepted) (made later : Made) (y x : Job) (st : Step) → later (y .0) ≡ made (y .0)
-    → later (x .0) ≡ made (x .0) ++ (st ∷ []) → 0 < length (made (x .0)) → first made y ≤ last made y → last made y < st .round .0
-    → Inside a made y x → Inside a later y x
+    → later (x .0) ≡ made (x .0) ++ (st ∷ []) → 0 < length (made (x .0)) → first made y ≤ last made y
+    → last made y < st .round .0 → Inside a made y x → Inside a later y x
 inside-more a made later y x st sameY more some rises after inside =
     let firstY = first-same made later y sameY in
     let lastY = last-same made later y sameY in

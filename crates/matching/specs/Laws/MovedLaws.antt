@@ -37,7 +37,8 @@ use Rattle.matching.specs.Laws.TurnTraceLaws.{GoesOn, Starts, under-lowe
 
 -- ---- a job with no steps
 
-column-none : (a : Accepted) (n : ℕ) (h : Marks) (x : ℕ) (S : List Store) → getD h x [] ≡ [] → getD (columnsFrom a n h S .jobs) x unbegun ≡ unbegun
+column-none : (a : Accepted) (n : ℕ) (h : Marks) (x : ℕ) (S : List Store) → getD h x [] ≡ []
+    → getD (columnsFrom a n h S .jobs) x unbegun ≡ unbegun
 unfolding columnsFrom runMarks
 column-none a n [] x S e = refl
 column-none a n (ms ∷ h) zero S e = rw e refl
@@ -107,7 +108,8 @@ module _ {a : Accepted} (ok : IsAccepted a) {s : State} (inv : Invariant a s) {r
 
   module _ (v : ℕ) (effect : Effect) (is : perform (nextOf a (turn .frame)) v (turn .frame .local) (s .store) ≡ effect) where
     -- the step's effect is that of the mark on the job's column and the round's store
-    effect-same : effectOf a x (markAt r v) (record { column = getD (now .jobs) x unbegun; stores = now .stores }) ≡ effect
+    effect-same : effectOf a x (markAt r v) (record { column = getD (now .jobs) x unbegun; stores = now .stores })
+        ≡ effect
     unfolding effectOf nextOf job
     effect-same =
         ap₂ (λ (l : Local) (S : Store). perform (instructionOf (a .table) (jobAt a (turn .frame .job) .task) (l .next)) v l S)
@@ -143,7 +145,8 @@ module _ {a : Accepted} (ok : IsAccepted a) {s : State} (inv : Invariant a s) {r
     moved-other : (y : ℕ) → (y ≡ x → ⊥) → getD (moved .jobs) y unbegun ≡ getD (now .jobs) y unbegun
     moved-other y apart = getD-set-other (now .jobs) x y ownColumn unbegun apart
 
-    agree-lower : (fs : List Frame) → Every (λ f. f .job .0 < x) fs → Every (Agrees (now .jobs)) fs → Every (Agrees (moved .jobs)) fs
+    agree-lower : (fs : List Frame) → Every (λ f. f .job .0 < x) fs → Every (Agrees (now .jobs)) fs
+        → Every (Agrees (moved .jobs)) fs
     agree-lower [] lower agree = tt
     agree-lower (f ∷ fs) lower agree = (
       ap (λ (c : JobColumn). c .local) (moved-other (f .job .0) (λ e. omega (arith, lower .0))) ∙ agree .0,
@@ -161,7 +164,8 @@ module _ {a : Accepted} (ok : IsAccepted a) {s : State} (inv : Invariant a s) {r
               (ap (λ (c : JobColumn). c .local) moved-own, under)
         ]
 
-    pub moved-locals : (k : ℕ) (d : Frame) → k < length (after .active) → Agrees (moved .jobs) (getD (after .active) k d)
+    pub moved-locals : (k : ℕ) (d : Frame) → k < length (after .active)
+        → Agrees (moved .jobs) (getD (after .active) k d)
     moved-locals k d lt = every-at (Agrees (moved .jobs)) (after .active) k d agree-moved lt
 
     -- the turn's job has ended if its instruction was an End
@@ -212,5 +216,6 @@ module _ {a : Accepted} (ok : IsAccepted a) {s : State} (inv : Invariant a s) {r
     pub moved-present : getD (moved .stores) r noStore ≡ effect .store
     moved-present = getD-set-same (now .stores) r (effect .store) noStore (omega (arith, stores-all, round-open))
 
-    pub moved-past : (q : ℕ) → q < r → q + 1 < jobTotal a → getD (moved .stores) q noStore ≡ getD guesses (q + 1) noStore
+    pub moved-past : (q : ℕ) → q < r → q + 1 < jobTotal a
+        → getD (moved .stores) q noStore ≡ getD guesses (q + 1) noStore
     moved-past q lt inside = getD-set-other (now .stores) r q (effect .store) noStore (λ e. omega arith) ∙ t .past q lt inside

@@ -67,7 +67,8 @@ byte-value b v small = omega arith
 
 -- the parts of the byte of a value on offer
 pub offered-byte : {a : Accepted} → IsAccepted a → (x : Job) → IsJob a x → (p b v : ℕ)
-    → member v (values (instructionOf (a .table) (jobAt a x .task) p)) ≡ true → ((16 * b + v) / 16 ≡ b) × ((16 * b + v) % 16 ≡ v)
+    → member v (values (instructionOf (a .table) (jobAt a x .task) p)) ≡ true
+    → ((16 * b + v) / 16 ≡ b) × ((16 * b + v) % 16 ≡ v)
 offered-byte ok x isJob p b v offered =
     let small = job-offered ok x isJob p v offered in
     (byte-task b v small, byte-value b v small)

@@ -40,8 +40,8 @@ pub record OrderKept (a : Accepted) (s : State) (r : ℕ) (t : Trace) (done : Li
   pub unraised : (x : ℕ) → jobTotal a ≤ x → getD (s .failed) x false ≡ false
 
 -- runs of which another test says the same
-pub parts-same : (a : Accepted) (h : Marks) (S : List Store) (before after : ℕ → Bool) → ((x : ℕ) → x < length h → after x ≡ before x)
-    → Parts a h S before → Parts a h S after
+pub parts-same : (a : Accepted) (h : Marks) (S : List Store) (before after : ℕ → Bool)
+    → ((x : ℕ) → x < length h → after x ≡ before x) → Parts a h S before → Parts a h S after
 parts-same a h S before after same parts x below = subst (Part a h S x) (sym (same x below)) (parts x below)
 
 -- ---- where an order starts

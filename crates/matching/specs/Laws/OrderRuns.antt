@@ -42,7 +42,8 @@ module _ {a : Accepted} {s : State} {byte : ℕ} {next : State} (said : AllowedS
   trace-on t = trace-first a s r t byte bytes said
 
   -- and so does the history, which has one store more if the step was an End
-  stores-on : r + length (roundsFrom a s r (byte ∷ bytes) .stores) ≡ roundNext + length (roundsFrom a next roundNext bytes .stores)
+  stores-on : r + length (roundsFrom a s r (byte ∷ bytes) .stores) ≡ roundNext + length
+      (roundsFrom a next roundNext bytes .stores)
   unfolding roundsFrom noting if_then_else_
   stores-on =
       let due = said .due in
@@ -63,7 +64,8 @@ pub record Arrives (a : Accepted) (s : State) (r : ℕ) (t : Trace) (bytes done 
   pub kept : OrderKept a end round (traceFrom a s r t bytes) (done ++ bytes)
   pub stores : r + length (roundsFrom a s r bytes .stores) ≡ round
 
-pub kept-run : {a : Accepted} → IsAccepted a → (bytes : List ℕ) (s : State) (r : ℕ) (t : Trace) (done : List ℕ) {end : State} → Invariant a s
+pub kept-run : {a : Accepted} → IsAccepted a
+    → (bytes : List ℕ) (s : State) (r : ℕ) (t : Trace) (done : List ℕ) {end : State} → Invariant a s
     → OrderKept a s r t done → run a s bytes ≡ some end → Arrives a s r t bytes done end
 unfolding run traceFrom roundsFrom
 kept-run {a} ok [] s r t done {end} inv kept e =

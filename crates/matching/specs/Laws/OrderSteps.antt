@@ -45,7 +45,8 @@ use Rattle.matching.specs.Laws.TurnTraceLaws.{GoesOn, Starts, turn-kind,
 -- ---- one instruction, one job's rounds
 
 -- each operation by its number leaves as many variables as it found
-stored-length : (o : ℕ) (i : Instruction) (v : ℕ) (l : Local) (s : Store) → length (getD operationEffects o endJob i v l s .store) ≡ length s
+stored-length : (o : ℕ) (i : Instruction) (v : ℕ) (l : Local) (s : Store)
+    → length (getD operationEffects o endJob i v l s .store) ≡ length s
 unfolding operationEffects endJob loadVariable store setNumber add subtract skipLess skipEqual pick acquireLock releaseLock assert
 stored-length zero i v l s = refl
 stored-length (suc zero) i v l s = refl
@@ -141,12 +142,14 @@ module _ {a : Accepted} (ok : IsAccepted a) {s : State} (inv : Invariant a s) {r
       ap (λ (c : JobColumn). c .local) (sym (column-at a h (x .0) guesses listed)) ∙ agree-turn ok inv (kept .follows) good kind
 
   -- the step's own column, and another's
-  own-column : getD (columns a more guesses .jobs) (x .0) unbegun ≡ ownColumn ok inv (kept .follows) good kind v effect refl
+  own-column : getD (columns a more guesses .jobs) (x .0) unbegun ≡ ownColumn ok inv (kept .follows) good kind v
+      effect refl
   own-column =
       ap (λ (c : Columns). getD (c .jobs) (x .0) unbegun) (columns-moved ok inv (kept .follows) good kind v effect refl)
       ∙ getD-set-same (columns a h guesses .jobs) (x .0) _ unbegun (has-column ok inv (kept .follows) good kind)
 
-  other-column : (y : ℕ) → (y ≡ x .0 → ⊥) → getD (columns a more guesses .jobs) y unbegun ≡ getD (columns a h guesses .jobs) y unbegun
+  other-column : (y : ℕ) → (y ≡ x .0 → ⊥)
+      → getD (columns a more guesses .jobs) y unbegun ≡ getD (columns a h guesses .jobs) y unbegun
   other-column y apart =
       ap (λ (c : Columns). getD (c .jobs) y unbegun) (columns-moved ok inv (kept .follows) good kind v effect refl)
       ∙ getD-set-other (columns a h guesses .jobs) (x .0) y _ unbegun apart
@@ -191,7 +194,8 @@ module _ {a : Accepted} (ok : IsAccepted a) {s : State} (inv : Invariant a s) {r
   abbrev before : Made
   before = stepsBy a h guesses
 
-  steps-after : (y : ℕ) → madeAfter a r v (said .turn) (turnEffect a s v (said .turn)) before y ≡ stepsBy a more guesses y
+  steps-after : (y : ℕ)
+      → madeAfter a r v (said .turn) (turnEffect a s v (said .turn)) before y ≡ stepsBy a more guesses y
   unfolding madeAfter turnEffect turnStep stepped job
   steps-after y =
       elim (ℕ-discrete y (x .0)) [

@@ -50,8 +50,9 @@ jobs-are a x m =
     omega (arith, upTo-member (length (a .jobs)) (found .0) .0 (found .1), number)
 
 -- what holds of any two jobs holds of the listed pairs
-pairs-all : (a : Accepted) (P : Pair → Type 0) → ((x y : Job) → IsJob a x → IsJob a y → P (record { lower = x; higher = y }))
-    → (p : Pair) → List·Memᴰ p (pairs a) → P p
+pairs-all : (a : Accepted) (P : Pair → Type 0)
+    → ((x y : Job) → IsJob a x → IsJob a y → P (record { lower = x; higher = y })) → (p : Pair)
+    → List·Memᴰ p (pairs a) → P p
 unfolding pairs
 pairs-all a P h p m =
     let pairsFrom : Job → List Pair = λ x. map (λ y. record { lower = x; higher = y }) (only (λ y. ltb (x .0) (y .0)) (jobNumbers a)) in

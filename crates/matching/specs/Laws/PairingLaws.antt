@@ -100,7 +100,8 @@ module _ {a : Accepted} {s now : State} {r next : ℕ} {made later : Made} {x : 
   Rises m y k = (first m y ≤ getD (madeRounds m y) k 0) × (getD (madeRounds m y) k 0 ≤ last m y)
 
   -- a round that x had made lies between its first and this one
-  rising-old : (k : ℕ) → k < length (madeRounds made x) → (first later x ≤ getD (madeRounds made x) k 0) × (getD (madeRounds made x) k 0 ≤ r)
+  rising-old : (k : ℕ) → k < length (madeRounds made x)
+      → (first later x ≤ getD (madeRounds made x) k 0) × (getD (madeRounds made x) k 0 ≤ r)
   rising-old k lt =
       let old = paired .rising x k (one .isX) lt in
       let low : first later x ≤ first made x = elim opening [
@@ -157,15 +158,15 @@ module _ {a : Accepted} {s now : State} {r next : ℕ} {made later : Made} {x : 
       ]
 
   -- and x, which has not ended, comes before no job that has begun
-  preceding-other : Invariant a s → (w y : Job) → IsJob a w → IsJob a y → Other y → before a w y ≡ true → hasBegun s y ≡ true
-      → last later w < first later y
+  preceding-other : Invariant a s → (w y : Job) → IsJob a w → IsJob a y → Other y → before a w y ≡ true
+      → hasBegun s y ≡ true → last later w < first later y
   preceding-other inv w y isW isY apart h begun =
       by-job x (λ w. IsJob a w → before a w y ≡ true → last later w < first later y)
       (λ isX g. absurd (not-both _ (inv .preceded x y isX isY g begun) (one .unended)))
       (λ w other isW g. omega (arith, last-other w other, first-other y apart, paired .preceding w y isW isY g begun)) w isW h
 
-  pub preceding-after : Invariant a s → (w y : Job) → IsJob a w → IsJob a y → before a w y ≡ true → hasBegun now y ≡ true
-      → last later w < first later y
+  pub preceding-after : Invariant a s → (w y : Job) → IsJob a w → IsJob a y → before a w y ≡ true
+      → hasBegun now y ≡ true → last later w < first later y
   preceding-after inv w =
       by-job x (λ y. IsJob a w → IsJob a y → before a w y ≡ true → hasBegun now y ≡ true → last later w < first later y)
       (λ isW isX h begun. preceding-here w isW (before-says a w x h .0) h)

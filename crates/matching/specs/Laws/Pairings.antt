@@ -63,13 +63,17 @@ pub record Paired (a : Accepted) (s : State) (r : ℕ) (made : Made) : Type 0 wh
   pub priorities : (k : ℕ) (d : Frame) → k < length (s .active)
       → priorityNow a made (getD (s .active) k d .job) ≡ presentPriority a (getD (s .active) k d)
   -- x comes before y
-  pub preceding : (x y : Job) → IsJob a x → IsJob a y → before a x y ≡ true → hasBegun s y ≡ true → last made x < first made y
-  -- y may preempt x
-  pub both-ended : (x y : Job) → IsJob a x → IsJob a y → mayPreempt a y x ≡ true → hasEnded s x ≡ true → hasEnded s y ≡ true
-      → (last made x < first made y) ⊎ (last made y < first made x) ⊎ (Inside a made y x × (last made y < last made x))
-  pub lower-ended : (x y : Job) → IsJob a x → IsJob a y → mayPreempt a y x ≡ true → hasEnded s x ≡ true → isActive s y ≡ true
+  pub preceding : (x y : Job) → IsJob a x → IsJob a y → before a x y ≡ true → hasBegun s y ≡ true
       → last made x < first made y
-  pub higher-ended : (x y : Job) → IsJob a x → IsJob a y → mayPreempt a y x ≡ true → isActive s x ≡ true → hasEnded s y ≡ true
-      → (last made y < first made x) ⊎ Inside a made y x
-  pub both-active : (x y : Job) → IsJob a x → IsJob a y → mayPreempt a y x ≡ true → isActive s x ≡ true → isActive s y ≡ true
+  -- y may preempt x
+  pub both-ended : (x y : Job) → IsJob a x → IsJob a y → mayPreempt a y x ≡ true → hasEnded s x ≡ true
+      → hasEnded s y ≡ true
+      → (last made x < first made y) ⊎ (last made y < first made x)
+      ⊎ (Inside a made y x × (last made y < last made x))
+  pub lower-ended : (x y : Job) → IsJob a x → IsJob a y → mayPreempt a y x ≡ true → hasEnded s x ≡ true
+      → isActive s y ≡ true → last made x < first made y
+  pub higher-ended : (x y : Job) → IsJob a x → IsJob a y → mayPreempt a y x ≡ true → isActive s x ≡ true
+      → hasEnded s y ≡ true → (last made y < first made x) ⊎ Inside a made y x
+  pub both-active : (x y : Job) → IsJob a x → IsJob a y → mayPreempt a y x ≡ true → isActive s x ≡ true
+      → isActive s y ≡ true
       → (first made x ≤ first made y) × (last made x ≤ first made y) × (priorityNow a made x < base a y)

@@ -32,7 +32,8 @@ module _ (a : Accepted) where
 
   module _ (x : ℕ) (m : Mark) where
     -- a step that does not end the job
-    pub going-more : (ms : List Mark) (p : ℕ) (c : ColumnRun) → Going a x p ms c → Allowed a x (lastRound p ms) m (runMarks a x ms c)
+    pub going-more : (ms : List Mark) (p : ℕ) (c : ColumnRun) → Going a x p ms c
+        → Allowed a x (lastRound p ms) m (runMarks a x ms c)
         → markStep a x m (runMarks a x ms c) .column .ended ≡ false → Going a x p (ms ++ (m ∷ [])) c
     unfolding runMarks lastRound lastOr
     going-more [] p c going allowed goes = (allowed, goes, tt)
@@ -40,7 +41,8 @@ module _ (a : Accepted) where
         (going .0, going .1, going-more ms (n .round) (markStep a x n c) (going .2) allowed goes)
 
     -- and its End
-    pub going-ends : (ms : List Mark) (p : ℕ) (c : ColumnRun) → Going a x p ms c → Allowed a x (lastRound p ms) m (runMarks a x ms c)
+    pub going-ends : (ms : List Mark) (p : ℕ) (c : ColumnRun) → Going a x p ms c
+        → Allowed a x (lastRound p ms) m (runMarks a x ms c)
         → markStep a x m (runMarks a x ms c) .column .ended ≡ true → Whole a x p (ms ++ (m ∷ [])) c
     unfolding runMarks lastRound lastOr
     going-ends [] p c going allowed ends = (allowed, inl (ends, refl))
@@ -59,7 +61,8 @@ module _ (a : Accepted) where
         → markStep a x m (stored q s c) .column .ended ≡ b
     ended-frame m c b other e = ap (λ (r : ColumnRun). r .column .ended) (step-frame a x m q s c other) ∙ e
 
-    pub going-frame : (ms : List Mark) (p : ℕ) (c : ColumnRun) → inRound q ms ≡ [] → Going a x p ms c → Going a x p ms (stored q s c)
+    pub going-frame : (ms : List Mark) (p : ℕ) (c : ColumnRun) → inRound q ms ≡ [] → Going a x p ms c
+        → Going a x p ms (stored q s c)
     going-frame [] p c none going = tt
     going-frame (m ∷ ms) p c none going =
         let apart = round-elsewhere q m ms none in (
@@ -69,7 +72,8 @@ module _ (a : Accepted) where
               (going-frame ms (m .round) (markStep a x m c) (apart .1) (going .2)),
         )
 
-    pub whole-frame : (ms : List Mark) (p : ℕ) (c : ColumnRun) → inRound q ms ≡ [] → Whole a x p ms c → Whole a x p ms (stored q s c)
+    pub whole-frame : (ms : List Mark) (p : ℕ) (c : ColumnRun) → inRound q ms ≡ [] → Whole a x p ms c
+        → Whole a x p ms (stored q s c)
     whole-frame [] p c none whole = whole
     whole-frame (m ∷ ms) p c none whole =
         let apart = round-elsewhere q m ms none in (
@@ -93,14 +97,14 @@ module _ (a : Accepted) where
   reached-more x m ms c true going allowed e = going-ends x m ms 0 c going allowed e
   reached-more x m ms c false going allowed e = going-more x m ms 0 c going allowed e
 
-  reached-frame : (x q : ℕ) (s : Store) (ms : List Mark) (c : ColumnRun) (b : Bool) → inRound q ms ≡ [] → RunsTo a x ms c b
-      → RunsTo a x ms (stored q s c) b
+  reached-frame : (x q : ℕ) (s : Store) (ms : List Mark) (c : ColumnRun) (b : Bool) → inRound q ms ≡ []
+      → RunsTo a x ms c b → RunsTo a x ms (stored q s c) b
   reached-frame x q s ms c true none reached = whole-frame x q s ms 0 c none reached
   reached-frame x q s ms c false none reached = going-frame x q s ms 0 c none reached
 
   -- a run over a job's steps on the stores before it
-  part-of : (h : Marks) (S : List Store) (x : ℕ) (b : Bool) (ms : List Mark) (T : List Store) → ms ≡ getD h x [] → T ≡ storesBefore a h S x
-      → RunsTo a x ms (record { column = unbegun; stores = T }) b → Part a h S x b
+  part-of : (h : Marks) (S : List Store) (x : ℕ) (b : Bool) (ms : List Mark) (T : List Store) → ms ≡ getD h x []
+      → T ≡ storesBefore a h S x → RunsTo a x ms (record { column = unbegun; stores = T }) b → Part a h S x b
   part-of h S x b ms T steps stores reached =
       subst (λ (l : List Mark). RunsTo a x l (beginning a h S x) b) steps
       (subst (λ (R : List Store). RunsTo a x ms (record { column = unbegun; stores = R }) b) stores reached)
@@ -120,8 +124,8 @@ module _ (a : Accepted) where
       ap (λ (c : Columns). c .stores) (columns-frame a 0 q s (take x h) S (λ y. none-before q x h y (none y)))
 
   -- another guess for a round in which no job has a step
-  pub parts-guess : (h : Marks) (S : List Store) (q : ℕ) (s : Store) (ended : ℕ → Bool) → ((y : ℕ) → inRound q (getD h y []) ≡ [])
-      → Parts a h S ended → Parts a h (set S q s) ended
+  pub parts-guess : (h : Marks) (S : List Store) (q : ℕ) (s : Store) (ended : ℕ → Bool)
+      → ((y : ℕ) → inRound q (getD h y []) ≡ []) → Parts a h S ended → Parts a h (set S q s) ended
   parts-guess h S q s ended none parts x below =
       part-of h (set S q s) x (ended x) (getD h x []) (set (storesBefore a h S x) q s) refl (sym (before-guess h S q s none x))
       (reached-frame x q s (getD h x []) (beginning a h S x) (ended x) (none x) (parts x below))
@@ -165,7 +169,8 @@ module _ (a : Accepted) where
     -- job x, one step further
     part-gains : (b : Bool) → x < length h → Part a h S x false
         → Allowed a x (lastRound 0 (getD h x [])) m (runMarks a x (getD h x []) (beginning a h S x))
-        → markStep a x m (runMarks a x (getD h x []) (beginning a h S x)) .column .ended ≡ b → Part a (marked h x m) S x b
+        → markStep a x m (runMarks a x (getD h x []) (beginning a h S x)) .column .ended ≡ b
+        → Part a (marked h x m) S x b
     part-gains b inside part allowed e =
         part-of (marked h x m) S x b (getD h x [] ++ (m ∷ [])) (storesBefore a h S x) (sym (own-steps inside)) (sym (before-upto x (omega arith)))
         (reached-more x m (getD h x []) (beginning a h S x) b part allowed e)
@@ -217,8 +222,8 @@ module _ (a : Accepted) where
 
   -- the column of the job at place x is its run on the stores that those before it leave
   columnFrom-at : (h : Marks) (n x : ℕ) (S : List Store) → x < length h
-      → getD (columnsFrom a n h S .jobs) x unbegun
-      ≡ runMarks a (n + x) (getD h x []) (record { column = unbegun; stores = columnsFrom a n (take x h) S .stores }) .column
+      → getD (columnsFrom a n h S .jobs) x unbegun ≡ runMarks a (n + x) (getD h x [])
+      (record { column = unbegun; stores = columnsFrom a n (take x h) S .stores }) .column
   unfolding columnsFrom
   columnFrom-at [] n x S below = absurd (omega arith)
   columnFrom-at (ms ∷ h) n zero S below =

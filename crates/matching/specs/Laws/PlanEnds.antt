@@ -34,7 +34,8 @@ use Rattle.matching.specs.Laws.TraceSteps.{traceOf}
 
 module _ {a : Accepted} (ok : IsAccepted a) (plan : Plan) {runs : JobRuns} (legal : Legal a plan runs) where
   -- step by step to the end of the sequence
-  steps-on : (rest done : List Placed) (s : State) (r : ℕ) → PlanKept a plan s r done → sequence (jobTotal a) (marksOf runs) ≡ done ++ rest
+  steps-on : (rest done : List Placed) (s : State) (r : ℕ) → PlanKept a plan s r done
+      → sequence (jobTotal a) (marksOf runs) ≡ done ++ rest
       → (after : State) × (q : ℕ) × PlanKept a plan after q (sequence (jobTotal a) (marksOf runs))
   steps-on [] done s r kept split = (s, r, subst (PlanKept a plan s r) (sym (split ∙ append-nil done)) kept)
   steps-on (p ∷ rest) done s r kept split =

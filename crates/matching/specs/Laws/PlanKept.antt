@@ -132,9 +132,9 @@ module _ {a : Accepted} (ok : IsAccepted a) (plan : Plan) {runs : JobRuns} (lega
     -- an active job's present priority is that after its steps made
     module _ (inv : Invariant a s) {r : ℕ} {bytes : List ℕ} (t : Traced a s r S now bytes) where
       stand-priority : (k : ℕ) (d : Frame) → k < length (s .active)
-          → presentPriority a (getD (s .active) k d)
-          ≡ lastOr (base a (getD (s .active) k d .job))
-          (map (λ step. step .priorityAfter) (take (length (getD now (getD (s .active) k d .job .0) [])) (stepsOf runs (getD (s .active) k d .job))))
+          → presentPriority a (getD (s .active) k d) ≡ lastOr (base a (getD (s .active) k d .job)) (map
+          (λ step. step .priorityAfter)
+          (take (length (getD now (getD (s .active) k d .job .0) [])) (stepsOf runs (getD (s .active) k d .job))))
       unfolding presentPriority job jobTotal
       stand-priority k d lt =
           let f : Frame = getD (s .active) k d in
@@ -148,7 +148,8 @@ module _ {a : Accepted} (ok : IsAccepted a) (plan : Plan) {runs : JobRuns} (lega
           ∙ ap (λ (steps : List Step). after (take (length (getD now y [])) steps)) (sym (legal-steps ok plan legal y))
 
       -- so the state stands where the history is cut
-      plan-stands : ((y : ℕ) → y < jobTotal a → hasBegun s (job y) ≡ true → getD now y [] ≡ [] → ⊥) → Stands a s runs now (cut .rest)
+      plan-stands : ((y : ℕ) → y < jobTotal a → hasBegun s (job y) ≡ true → getD now y [] ≡ [] → ⊥)
+          → Stands a s runs now (cut .rest)
       plan-stands begun = record {
         begun-some = begun;
         some-begun = λ y lt some-made. elim (test-decided (hasBegun s (job y))) [
@@ -164,7 +165,8 @@ module _ {a : Accepted} (ok : IsAccepted a) (plan : Plan) {runs : JobRuns} (lega
 
 -- a turn with a value on offer is a step
 step-made : (a : Accepted) (s : State) (byte : ℕ) (turn : Turn) → turnOf a s (byte / 16) ≡ some turn
-    → member (byte % 16) (values (nextOf a (turn .frame))) ≡ true → step a s byte ≡ some (performed a s (byte % 16) turn)
+    → member (byte % 16) (values (nextOf a (turn .frame))) ≡ true
+    → step a s byte ≡ some (performed a s (byte % 16) turn)
 unfolding step stepWith bind if_then_else_
 step-made a s byte turn due offered = rw (due, offered) refl
 

@@ -66,7 +66,8 @@ module _ {a : Accepted} (ok : IsAccepted a) (plan : Plan) {runs : JobRuns} (lega
         ∙ sym (legal-back ok plan legal .isWritten)
 
   -- The order of a legal plan is complete, ends as the plan does, and is that plan again.
-  pub planned-order : (s : State) × Complete a (orderOf a runs) s × (plans.planEnd a runs ≡ orders.orderEnd s) × (planOf a (orderOf a runs) ≡ plan)
+  pub planned-order : (s : State) × Complete a (orderOf a runs) s × (plans.planEnd a runs ≡ orders.orderEnd s)
+      × (planOf a (orderOf a runs) ≡ plan)
   planned-order =
       let taken = plan-taken ok plan legal in
       let kept = taken .2 in

@@ -62,7 +62,8 @@ marksOf all = map (map markOf) (all .steps)
 pub record Allowed (a : Accepted) (x previous : ℕ) (m : Mark) (c : ColumnRun) : Type 0 where
   pub inPlan : m .round < jobTotal a
   pub inOrder : previous ≤ m .round
-  pub onOffer : member (m .value) (values (instructionOf (a .table) (jobAt a (job x) .task) (c .column .local .next))) ≡ true
+  pub onOffer : member (m .value) (values (instructionOf (a .table) (jobAt a (job x) .task) (c .column .local .next)))
+      ≡ true
 
 -- the marks of job x from here on are a run to its End
 abbrev pub Whole : Accepted → ℕ → ℕ → List Mark → ColumnRun → Type 0

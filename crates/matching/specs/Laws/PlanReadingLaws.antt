@@ -28,26 +28,31 @@ use Rattle.matching.specs.Laws.RoundLaws.{guesses-total, guess-of}
 -- ---- all jobs
 
 -- one job's run and that of those after it
-jobs-go : (a : Accepted) (plan : Plan) (x : Job) (xs : List Job) (running : runs.RunState) {one : JobRun} {others : JobRuns}
-    → runJob a plan x 16 fresh firstRound running ≡ passed one → runJobs a plan xs (one .running) ≡ passed others
-    → runJobs a plan (x ∷ xs) running ≡ passed (record { steps = one .steps ∷ others .steps; running = others .running })
+jobs-go : (a : Accepted) (plan : Plan) (x : Job) (xs : List Job) (running : runs.RunState) {one : JobRun}
+    {others : JobRuns} → runJob a plan x 16 fresh firstRound running ≡ passed one
+    → runJobs a plan xs (one .running) ≡ passed others
+    → runJobs a plan (x ∷ xs) running ≡ passed
+    (record { steps = one .steps ∷ others .steps; running = others .running })
 unfolding runJobs _>>=_
 jobs-go a plan x xs running first later = rw (first, later) refl
 
 -- equal offsets make equal runs
 moved : (steps : List (List Step)) (stores : List Store) (flags : Flags) {o p : ℕ} → o ≡ p
-    → _≡_ {A = Checked ℕ JobRuns} (passed (record { steps = steps; running = record { offset = o; stores = stores; failed = flags } }))
+    → _≡_ {A = Checked ℕ JobRuns}
+    (passed (record { steps = steps; running = record { offset = o; stores = stores; failed = flags } }))
     (passed (record { steps = steps; running = record { offset = p; stores = stores; failed = flags } }))
 moved steps stores flags e = λ i. passed (record { steps = steps; running = record { offset = e i; stores = stores; failed = flags } })
 
 -- what stands in the plan after some bytes that stand there
-bytes-after : (plan : Plan) (o : ℕ) (bytes rest : List ℕ) → drop o plan ≡ bytes ++ rest → drop (o + length bytes) plan ≡ rest
+bytes-after : (plan : Plan) (o : ℕ) (bytes rest : List ℕ) → drop o plan ≡ bytes ++ rest
+    → drop (o + length bytes) plan ≡ rest
 bytes-after plan o bytes rest e = sym (drop-drop (length bytes) o plan) ∙ ap (drop (length bytes)) e ∙ drop-append-seam bytes rest
 
 module _ (a : Accepted) where
   -- the history's jobs are whole, each at its place, and the other way round
   pub whole-at : (h : Marks) (x : ℕ) (stores : List Store) → AllWhole a x h stores → (k : ℕ) → k < length h
-      → Whole a (x + k) 0 (getD h k []) (record { column = unbegun; stores = columnsFrom a x (take k h) stores .stores })
+      → Whole a (x + k) 0 (getD h k [])
+      (record { column = unbegun; stores = columnsFrom a x (take k h) stores .stores })
   unfolding columnsFrom
   whole-at [] x stores whole k lt = absurd (omega arith)
   whole-at (ms ∷ h) x stores whole zero lt =
@@ -59,8 +64,8 @@ module _ (a : Accepted) where
       (whole-at h (suc x) _ (whole .1) k (omega arith))
 
   pub at-whole : (h : Marks) (x : ℕ) (stores : List Store)
-      → ((k : ℕ) → k < length h → Whole a (x + k) 0 (getD h k []) (record { column = unbegun; stores = columnsFrom a x (take k h) stores .stores }))
-      → AllWhole a x h stores
+      → ((k : ℕ) → k < length h → Whole a (x + k) 0 (getD h k [])
+      (record { column = unbegun; stores = columnsFrom a x (take k h) stores .stores })) → AllWhole a x h stores
   unfolding columnsFrom
   at-whole [] x stores every = tt
   at-whole (ms ∷ h) x stores every =
@@ -75,8 +80,8 @@ module _ (a : Accepted) where
 
 module _ {a : Accepted} (ok : IsAccepted a) (plan : Plan) where
   -- the jobs from number x on, whose marks stand in the plan and are whole, run over them
-  pub jobs-run : (h : Marks) (x : ℕ) (running : runs.RunState) (rest : List ℕ) → x + length h ≡ jobTotal a → AllWhole a x h (running .stores)
-      → drop (running .offset) plan ≡ each h marksBytes ++ rest
+  pub jobs-run : (h : Marks) (x : ℕ) (running : runs.RunState) (rest : List ℕ) → x + length h ≡ jobTotal a
+      → AllWhole a x h (running .stores) → drop (running .offset) plan ≡ each h marksBytes ++ rest
       → runJobs a plan (map job (from x (length h))) running ≡ passed (columnsRun a x h running)
   unfolding runJobs columnsRun columnsFrom flagsFrom each from
   jobs-run [] x running rest total whole bytes = moved [] (running .stores) (running .failed) (omega arith)

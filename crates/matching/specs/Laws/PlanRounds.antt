@@ -181,7 +181,8 @@ module _ (runs : JobRuns) {now : Marks} {x : ℕ} {m : Mark} (cut : Cut (marksOf
 
   -- of a job below x the steps up to the cut's round are those made
   steps-made : (y : ℕ) → y < x
-      → only (λ step. leb (step .round .0) (m .round)) (stepsOf runs (job y)) ≡ take (length (getD now y [])) (stepsOf runs (job y))
+      → only (λ step. leb (step .round .0) (m .round)) (stepsOf runs (job y)) ≡ take (length (getD now y []))
+      (stepsOf runs (job y))
   unfolding markOf
   steps-made y lt =
       let n = length (getD now y []) in
@@ -201,8 +202,8 @@ module _ (runs : JobRuns) {now : Marks} {x : ℕ} {m : Mark} (cut : Cut (marksOf
 
   -- so its priority then is that after the steps made
   pub priority-made : (a : Accepted) (y : ℕ) → y < x
-      → priorityAt a runs (job y) (round (m .round))
-      ≡ lastOr (base a (job y)) (map (λ step. step .priorityAfter) (take (length (getD now y [])) (stepsOf runs (job y))))
+      → priorityAt a runs (job y) (round (m .round)) ≡ lastOr (base a (job y))
+      (map (λ step. step .priorityAfter) (take (length (getD now y [])) (stepsOf runs (job y))))
   unfolding priorityAt
   priority-made a y lt = ap (λ (l : List Step). lastOr (base a (job y)) (map (λ step. step .priorityAfter) l)) (steps-made y lt)
 
@@ -236,7 +237,8 @@ module _ (runs : JobRuns) {now : Marks} {x : ℕ} {m : Mark} (cut : Cut (marksOf
         ]
 
     -- where x starts with its next step, it lies within each other job that has a step made and a step left
-    pub lies-within : (y : ℕ) → y < x → getD now x [] ≡ [] → Some (getD now y []) → Some (cut .rest y) → Within a runs (job x) (job y)
+    pub lies-within : (y : ℕ) → y < x → getD now x [] ≡ [] → Some (getD now y []) → Some (cut .rest y)
+        → Within a runs (job x) (job y)
     unfolding job
     lies-within y lt none some more =
         let here = ap (λ (r : Round). r .0) (starts-here none) in

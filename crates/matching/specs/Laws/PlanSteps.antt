@@ -61,7 +61,8 @@ module _ {a : Accepted} (ok : IsAccepted a) {s : State} (inv : Invariant a s) {r
   kind = turn-kind a s (byte / 16) (made .due)
 
   -- the columns say which jobs have ended then, and the round's store
-  step-endings : (y : ℕ) → y < jobTotal a → getD (columns a more guesses .jobs) y unbegun .ended ≡ hasEnded after (job y)
+  step-endings : (y : ℕ) → y < jobTotal a
+      → getD (columns a more guesses .jobs) y unbegun .ended ≡ hasEnded after (job y)
   step-endings y lt =
       ap (λ (c : Columns). getD (c .jobs) y unbegun .ended) (columns-moved ok inv t good kind (byte % 16) effect refl)
       ∙ moved-endings ok inv t good kind (byte % 16) effect refl y lt
@@ -81,7 +82,8 @@ module _ {a : Accepted} (ok : IsAccepted a) {s : State} (inv : Invariant a s) {r
 
 -- ---- one step more
 
-gathered-snoc : (h : Marks) (ps : List Placed) (p : Placed) → gathered h (ps ++ (p ∷ [])) ≡ marked (gathered h ps) (p .number) (p .mark)
+gathered-snoc : (h : Marks) (ps : List Placed) (p : Placed)
+    → gathered h (ps ++ (p ∷ [])) ≡ marked (gathered h ps) (p .number) (p .mark)
 unfolding gathered
 gathered-snoc h [] p = refl
 gathered-snoc h (q ∷ ps) p = gathered-snoc (marked h (q .number) (q .mark)) ps p
@@ -125,7 +127,8 @@ module _ {a : Accepted} (ok : IsAccepted a) (plan : Plan) {runs : JobRuns} (lega
   bytes-step : doneBytes a done ++ (byte ∷ []) ≡ doneBytes a next
   bytes-step = sym (map-snoc (placedByte a) done p)
 
-  endings : (y : ℕ) → y < jobTotal a → getD (columns a (doneMarks a next) S .jobs) y unbegun .ended ≡ hasEnded (due .after) (job y)
+  endings : (y : ℕ) → y < jobTotal a
+      → getD (columns a (doneMarks a next) S .jobs) y unbegun .ended ≡ hasEnded (due .after) (job y)
   endings y lt =
       ap (λ (h : Marks). getD (columns a h S .jobs) y unbegun .ended) (sym marks-step) ∙ step-endings ok (kept .inv) (kept .trace) made y lt
 
@@ -197,9 +200,8 @@ module _ {a : Accepted} (ok : IsAccepted a) (plan : Plan) {runs : JobRuns} (lega
       step-failed made y (λ e. omega (arith, e, whose, next-job ok plan legal kept p rest split)) ∙ kept .beyond y up
 
   -- the trace with the step
-  trace-step : traceOf a (doneBytes a next)
-      ≡ traced r (made .turn .frame .job .0) (byte % 16) (hasEnded (due .after) (made .turn .frame .job)) (due .after .store)
-      (traceOf a (doneBytes a done))
+  trace-step : traceOf a (doneBytes a next) ≡ traced r (made .turn .frame .job .0) (byte % 16)
+      (hasEnded (due .after) (made .turn .frame .job)) (due .after .store) (traceOf a (doneBytes a done))
   unfolding traceOf job made
   trace-step =
       let x : Job = made .turn .frame .job in
@@ -217,8 +219,8 @@ module _ {a : Accepted} (ok : IsAccepted a) (plan : Plan) {runs : JobRuns} (lega
       ∙ marks-step
 
   trace-guesses : (b : Bool) → hasEnded (due .after) (made .turn .frame .job) ≡ b
-      → traceOf a (doneBytes a next) .guesses
-      ≡ (if b then set (traceOf a (doneBytes a done) .guesses) (suc r) (due .after .store) else traceOf a (doneBytes a done) .guesses)
+      → traceOf a (doneBytes a next) .guesses ≡ (if b then set (traceOf a (doneBytes a done) .guesses) (suc r)
+      (due .after .store) else traceOf a (doneBytes a done) .guesses)
   unfolding traced
   trace-guesses b is =
       ap (λ (t : Trace). t .guesses) trace-step
@@ -242,7 +244,8 @@ module _ {a : Accepted} (ok : IsAccepted a) (plan : Plan) {runs : JobRuns} (lega
       ]
 
   -- the trace so far, with the plan's guesses
-  traced-more : (r : ℕ) (guesses : List Store) → guesses ≡ S → Traced a (due .after) r guesses stepMarks (doneBytes a done ++ (byte ∷ []))
+  traced-more : (r : ℕ) (guesses : List Store) → guesses ≡ S
+      → Traced a (due .after) r guesses stepMarks (doneBytes a done ++ (byte ∷ []))
       → Traced a (due .after) r S (doneMarks a next) (doneBytes a next)
   traced-more r guesses same t =
       subst (λ (l : List ℕ). Traced a (due .after) r S (doneMarks a next) l) bytes-step
@@ -250,7 +253,8 @@ module _ {a : Accepted} (ok : IsAccepted a) (plan : Plan) {runs : JobRuns} (lega
       (subst (λ (g : List Store). Traced a (due .after) r g stepMarks (doneBytes a done ++ (byte ∷ []))) same t))
 
   kept-with : (q : ℕ) → Traced a (due .after) q S (doneMarks a next) (doneBytes a next)
-      → ((n : ℕ) → n ≤ q → n < jobTotal a → getD (traceOf a (doneBytes a next) .guesses) n [] ≡ getD S n []) → PlanKept a plan (due .after) q next
+      → ((n : ℕ) → n ≤ q → n < jobTotal a → getD (traceOf a (doneBytes a next) .guesses) n [] ≡ getD S n [])
+      → PlanKept a plan (due .after) q next
   kept-with q t guesses = record {
     ran =
         ap (run a (initial a)) (sym bytes-step) ∙ run-more a (doneBytes a done) (initial a) (kept .ran) byte (due .taken);

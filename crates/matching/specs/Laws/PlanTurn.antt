@@ -49,9 +49,9 @@ pub record Stands (a : Accepted) (s : State) (runs : JobRuns) (now : Marks) (res
   pub ended-none : (y : ℕ) → y < jobTotal a → hasEnded s (job y) ≡ true → rest y ≡ []
   pub none-ended : (y : ℕ) → y < jobTotal a → rest y ≡ [] → hasEnded s (job y) ≡ true
   pub priorities : (k : ℕ) (d : Frame) → k < length (s .active)
-      → presentPriority a (getD (s .active) k d)
-      ≡ lastOr (base a (getD (s .active) k d .job))
-      (map (λ step. step .priorityAfter) (take (length (getD now (getD (s .active) k d .job .0) [])) (stepsOf runs (getD (s .active) k d .job))))
+      → presentPriority a (getD (s .active) k d) ≡ lastOr (base a (getD (s .active) k d .job)) (map
+      (λ step. step .priorityAfter)
+      (take (length (getD now (getD (s .active) k d .job .0) [])) (stepsOf runs (getD (s .active) k d .job))))
 
 -- the turn of job x: it goes on where it has a step made, and starts where it has none
 pub record NextTurn (a : Accepted) (s : State) (now : Marks) (x : ℕ) : Type 0 where
@@ -100,8 +100,8 @@ module _ {a : Accepted} (ok : IsAccepted a) (s : State) (x : Job) (isX : IsJob a
       (λ y isY t. (let tests = and-both (eqb (base a y) (base a x)) _ t in start-only may y isY (eqb-true _ _ (tests .0)) (tests .1))))
 
   -- no active job is of its task
-  start-among : Startable a s x → (active : List Frame) → all (λ f. mayPreempt a x (f .job)) active ≡ true → Every (IsRunning a s) active
-      → turnAmong a s (base a x) active ≡ startOf a s (base a x)
+  start-among : Startable a s x → (active : List Frame) → all (λ f. mayPreempt a x (f .job)) active ≡ true
+      → Every (IsRunning a s) active → turnAmong a s (base a x) active ≡ startOf a s (base a x)
   unfolding turnAmong if_then_else_ all
   start-among may [] over runs = refl
   start-among may (f ∷ under) over runs =

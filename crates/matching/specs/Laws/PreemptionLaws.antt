@@ -42,7 +42,8 @@ module _ {a : Accepted} (ok : IsAccepted a) {s now : State} {r next : ℕ} {made
   -- ---- x and one other job
 
   -- a job that x may preempt, and that has ended, made its last step before x's first
-  after-ended : (w : Job) → Other w → IsJob a w → mayPreempt a x w ≡ true → hasEnded s w ≡ true → last later w < first later x
+  after-ended : (w : Job) → Other w → IsJob a w → mayPreempt a x w ≡ true → hasEnded s w ≡ true
+      → last later w < first later x
   after-ended w apart isW may ended =
       let same = last-other paired one w apart in
       elim (opening paired one) [
@@ -116,8 +117,8 @@ module _ {a : Accepted} (ok : IsAccepted a) {s now : State} {r next : ℕ} {made
         | inr (inr h) ↦ inr (inr (inside-same a made later y w (one .more-other y other) (one .more-other w apart) (h .0), omega (arith, h .1)))
       ]
 
-  both-ended-after : (w y : Job) → IsJob a w → IsJob a y → mayPreempt a y w ≡ true → hasEnded now w ≡ true → hasEnded now y ≡ true
-      → Lying later w y
+  both-ended-after : (w y : Job) → IsJob a w → IsJob a y → mayPreempt a y w ≡ true → hasEnded now w ≡ true
+      → hasEnded now y ≡ true → Lying later w y
   both-ended-after =
       by-pair (λ w y. hasEnded now w ≡ true → hasEnded now y ≡ true → Lying later w y)
       (λ y apart isY may endedX endedY. lying-lower y apart isY may (was-ended y apart endedY))
@@ -125,8 +126,8 @@ module _ {a : Accepted} (ok : IsAccepted a) {s now : State} {r next : ℕ} {made
       (λ w y apart other isW isY may endedW endedY.
       lying-neither w y apart other (paired .both-ended w y isW isY may (was-ended w apart endedW) (was-ended y other endedY)))
 
-  lower-ended-after : (w y : Job) → IsJob a w → IsJob a y → mayPreempt a y w ≡ true → hasEnded now w ≡ true → isActive now y ≡ true
-      → last later w < first later y
+  lower-ended-after : (w y : Job) → IsJob a w → IsJob a y → mayPreempt a y w ≡ true → hasEnded now w ≡ true
+      → isActive now y ≡ true → last later w < first later y
   lower-ended-after =
       by-pair (λ w y. hasEnded now w ≡ true → isActive now y ≡ true → last later w < first later y)
       (λ y apart isY may ended active. absurd (none-above y apart isY may (one .active-before y apart active)))
@@ -140,8 +141,8 @@ module _ {a : Accepted} (ok : IsAccepted a) {s now : State} {r next : ℕ} {made
   inside-under w isW h =
       inside-ended a later x w (λ k lt. rising-after paired one w k isW lt .1) (h .0) (h .1) (h .2)
 
-  higher-ended-after : (w y : Job) → IsJob a w → IsJob a y → mayPreempt a y w ≡ true → isActive now w ≡ true → hasEnded now y ≡ true
-      → (last later y < first later w) ⊎ Inside a later y w
+  higher-ended-after : (w y : Job) → IsJob a w → IsJob a y → mayPreempt a y w ≡ true → isActive now w ≡ true
+      → hasEnded now y ≡ true → (last later y < first later w) ⊎ Inside a later y w
   higher-ended-after =
       by-pair (λ w y. isActive now w ≡ true → hasEnded now y ≡ true → (last later y < first later w) ⊎ Inside a later y w)
       (λ y apart isY may active ended. around-ended y apart isY may (was-ended y apart ended))
@@ -152,8 +153,8 @@ module _ {a : Accepted} (ok : IsAccepted a) {s now : State} {r next : ℕ} {made
         | inr inside ↦ inr (inside-same a made later y w (one .more-other y other) (one .more-other w apart) inside)
       ])
 
-  both-active-after : (w y : Job) → IsJob a w → IsJob a y → mayPreempt a y w ≡ true → isActive now w ≡ true → isActive now y ≡ true
-      → Stacked later w y
+  both-active-after : (w y : Job) → IsJob a w → IsJob a y → mayPreempt a y w ≡ true → isActive now w ≡ true
+      → isActive now y ≡ true → Stacked later w y
   both-active-after =
       by-pair (λ w y. isActive now w ≡ true → isActive now y ≡ true → Stacked later w y)
       (λ y apart isY may activeX activeY. absurd (none-above y apart isY may (one .active-before y apart activeY)))

@@ -38,7 +38,8 @@ unfolding inRound only if_then_else_
 inRound-other r m apart = rw (ne-eqb (m .round) r apart) refl
 
 -- one step more, in the round or not
-pub inRound-gains : (ms : List Mark) (m : Mark) → inRound (m .round) (ms ++ (m ∷ [])) ≡ inRound (m .round) ms ++ (m ∷ [])
+pub inRound-gains : (ms : List Mark) (m : Mark)
+    → inRound (m .round) (ms ++ (m ∷ [])) ≡ inRound (m .round) ms ++ (m ∷ [])
 inRound-gains ms m =
     inRound-append (m .round) ms (m ∷ []) ∙ ap (λ (l : List Mark). inRound (m .round) ms ++ l) (inRound-own m)
 
@@ -47,7 +48,8 @@ inRound-keeps r ms m apart =
     inRound-append r ms (m ∷ []) ∙ ap (λ (l : List Mark). inRound r ms ++ l) (inRound-other r m apart) ∙ append-nil (inRound r ms)
 
 -- so a job's steps in another round than the new step's are as before
-pub marked-keeps : (r : ℕ) (h : Marks) (x y : ℕ) (m : Mark) → m .round ≢ r → inRound r (getD (marked h x m) y []) ≡ inRound r (getD h y [])
+pub marked-keeps : (r : ℕ) (h : Marks) (x y : ℕ) (m : Mark) → m .round ≢ r
+    → inRound r (getD (marked h x m) y []) ≡ inRound r (getD h y [])
 unfolding marked
 marked-keeps r [] x y m apart = refl
 marked-keeps r (ms ∷ h) zero zero m apart = inRound-keeps r ms m apart
@@ -64,8 +66,8 @@ module _ (a : Accepted) where
   bytes-nothing x ms t e = rw e refl
 
   -- rows whose jobs have the same steps in the round
-  pub row-same : (r x : ℕ) (h g : Marks) → length h ≡ length g → ((y : ℕ) → inRound r (getD h y []) ≡ inRound r (getD g y []))
-      → rowFrom a r x h ≡ rowFrom a r x g
+  pub row-same : (r x : ℕ) (h g : Marks) → length h ≡ length g
+      → ((y : ℕ) → inRound r (getD h y []) ≡ inRound r (getD g y [])) → rowFrom a r x h ≡ rowFrom a r x g
   unfolding rowFrom
   row-same r x [] [] e same = refl
   row-same r x [] (ns ∷ g) e same = absurd (omega arith)
@@ -88,14 +90,16 @@ module _ (a : Accepted) where
 
   -- a job's bytes in the round of its new step
   bytes-gain : (x : ℕ) (ms : List Mark) (m : Mark)
-      → bytesOf a x (inRound (m .round) (ms ++ (m ∷ []))) ≡ bytesOf a x (inRound (m .round) ms) ++ ((16 * base a (job x) + m .value) ∷ [])
+      → bytesOf a x (inRound (m .round) (ms ++ (m ∷ []))) ≡ bytesOf a x (inRound (m .round) ms)
+      ++ ((16 * base a (job x) + m .value) ∷ [])
   unfolding bytesOf
   bytes-gain x ms m =
       ap (bytesOf a x) (inRound-gains ms m) ∙ map-snoc (λ (n : Mark). 16 * base a (job x) + n .value) (inRound (m .round) ms) m
 
   -- so a row that begins with the job and has nothing behind it gains that byte at its end
   first-gains : (x : ℕ) (ms : List Mark) (h : Marks) (m : Mark) → rowFrom a (m .round) (suc x) h ≡ []
-      → rowFrom a (m .round) x ((ms ++ (m ∷ [])) ∷ h) ≡ rowFrom a (m .round) x (ms ∷ h) ++ ((16 * base a (job x) + m .value) ∷ [])
+      → rowFrom a (m .round) x ((ms ++ (m ∷ [])) ∷ h) ≡ rowFrom a (m .round) x (ms ∷ h)
+      ++ ((16 * base a (job x) + m .value) ∷ [])
   unfolding rowFrom
   first-gains x ms h m none =
       rw none
@@ -104,8 +108,10 @@ module _ (a : Accepted) where
       ∙ ap (λ (l : List ℕ). l ++ ((16 * base a (job x) + m .value) ∷ [])) (sym (append-nil (bytesOf a x (inRound (m .round) ms)))))
 
   -- the row of the new step's own round gains its byte at the end, if no later job has a step in it
-  pub row-gains : (h : Marks) (start x : ℕ) (m : Mark) → x < length h → ((y : ℕ) → x < y → inRound (m .round) (getD h y []) ≡ [])
-      → rowFrom a (m .round) start (marked h x m) ≡ rowFrom a (m .round) start h ++ ((16 * base a (job (start + x)) + m .value) ∷ [])
+  pub row-gains : (h : Marks) (start x : ℕ) (m : Mark) → x < length h
+      → ((y : ℕ) → x < y → inRound (m .round) (getD h y []) ≡ [])
+      → rowFrom a (m .round) start (marked h x m) ≡ rowFrom a (m .round) start h
+      ++ ((16 * base a (job (start + x)) + m .value) ∷ [])
   unfolding rowFrom marked
   row-gains [] start x m lt none = absurd (omega arith)
   row-gains (ms ∷ h) start zero m lt none =
@@ -142,7 +148,8 @@ module _ (a : Accepted) where
       ∙ row-none n 0 k
 
   -- rounds without steps behind the others add nothing
-  pub rows-longer : (n m : ℕ) (h : Marks) → ((y q : ℕ) → n ≤ q → inRound q (getD h y []) ≡ []) → n ≤ m → rows a m h ≡ rows a n h
+  pub rows-longer : (n m : ℕ) (h : Marks) → ((y q : ℕ) → n ≤ q → inRound q (getD h y []) ≡ []) → n ≤ m
+      → rows a m h ≡ rows a n h
   rows-longer n m h none le = go m le
     where
       go : (k : ℕ) → n ≤ k → rows a k h ≡ rows a n h
@@ -165,8 +172,8 @@ module _ (a : Accepted) where
 
   -- The appending lemma: a step more of job x in the last round that has steps, with no step of a later job in it, is
   -- one byte more at the end.
-  pub rows-marked : (n : ℕ) (h : Marks) (x r v : ℕ) → x < length h → r < n → ((y : ℕ) → x < y → inRound r (getD h y []) ≡ [])
-      → ((y q : ℕ) → r < q → inRound q (getD h y []) ≡ [])
+  pub rows-marked : (n : ℕ) (h : Marks) (x r v : ℕ) → x < length h → r < n
+      → ((y : ℕ) → x < y → inRound r (getD h y []) ≡ []) → ((y q : ℕ) → r < q → inRound q (getD h y []) ≡ [])
       → rows a n (marked h x (record { round = r; value = v })) ≡ rows a n h ++ ((16 * base a (job x) + v) ∷ [])
   rows-marked n h x r v inside below later above =
       let m : Mark = record { round = r; value = v } in
@@ -184,7 +191,8 @@ module _ (a : Accepted) where
 
 module _ (a : Accepted) where
   -- a row, job by job
-  row-each : (r start : ℕ) (h : Marks) (f : ℕ → List ℕ) → ((y : ℕ) → f (start + y) ≡ bytesOf a (start + y) (inRound r (getD h y [])))
+  row-each : (r start : ℕ) (h : Marks) (f : ℕ → List ℕ)
+      → ((y : ℕ) → f (start + y) ≡ bytesOf a (start + y) (inRound r (getD h y [])))
       → each (from start (length h)) f ≡ rowFrom a r start h
   unfolding rowFrom from each
   row-each r start [] f same = refl
@@ -202,19 +210,22 @@ module _ (a : Accepted) where
   -- one step before others, in the round or not
   step-byte : (x : ℕ) (b : Bool) (step : Step) (steps : List Step) (ms : List Mark)
       → map (λ step. 16 * base a (job x) + step .value) steps ≡ bytesOf a x ms
-      → map (λ step. 16 * base a (job x) + step .value) (if b then step ∷ steps else steps) ≡ bytesOf a x (if b then markOf step ∷ ms else ms)
+      → map (λ step. 16 * base a (job x) + step .value) (if b then step ∷ steps else steps) ≡ bytesOf a x
+      (if b then markOf step ∷ ms else ms)
   unfolding bytesOf markOf if_then_else_
   step-byte x true step steps ms e = ap (λ (l : List ℕ). (16 * base a (job x) + step .value) ∷ l) e
   step-byte x false step steps ms e = e
 
   -- a job's bytes in a round are the same by its steps and by their marks
   step-bytes : (x r : ℕ) (steps : List Step)
-      → map (λ step. 16 * base a (job x) + step .value) (only (λ step. eqb (step .round .0) r) steps) ≡ bytesOf a x (inRound r (map markOf steps))
+      → map (λ step. 16 * base a (job x) + step .value) (only (λ step. eqb (step .round .0) r) steps) ≡ bytesOf a x
+      (inRound r (map markOf steps))
   unfolding bytesOf inRound only markOf
   step-bytes x r [] = refl
   step-bytes x r (step ∷ steps) = step-byte x (eqb (step .round .0) r) step _ _ (step-bytes x r steps)
 
-  job-bytes : (runs : JobRuns) (r x : ℕ) → stepBytesIn a runs r (job x) ≡ bytesOf a x (inRound r (getD (marksOf runs) x []))
+  job-bytes : (runs : JobRuns) (r x : ℕ)
+      → stepBytesIn a runs r (job x) ≡ bytesOf a x (inRound r (getD (marksOf runs) x []))
   unfolding stepBytesIn stepsOf marksOf job
   job-bytes runs r x =
       step-bytes x r (getD (runs .steps) x [])
@@ -234,7 +245,8 @@ module _ (a : Accepted) where
       place y = omega arith
 
   -- the order of a run is its history read by rows
-  pub rows-order : (runs : JobRuns) → length (runs .steps) ≡ jobTotal a → orderOf a runs ≡ rows a (jobTotal a) (marksOf runs)
+  pub rows-order : (runs : JobRuns) → length (runs .steps) ≡ jobTotal a
+      → orderOf a runs ≡ rows a (jobTotal a) (marksOf runs)
   unfolding orderOf rows
   rows-order runs whole =
       each-same (jobTotal a) (λ r. each (jobNumbers a) (stepBytesIn a runs r)) (λ r. rowFrom a r 0 (marksOf runs)) (λ r lt. run-row runs whole r)

@@ -31,7 +31,8 @@ module _ (a : Accepted) where
       ∙ ap (λ (l : List ℕ). l ++ map (placedByte a) (rowSteps r (suc x) h)) (map-map (placedByte a) place (inRound r ms))
       ∙ ap (λ (l : List ℕ). bytesOf a x (inRound r ms) ++ l) (row-bytes r (suc x) h)
 
-  all-bytes : (rs : List ℕ) (h : Marks) → map (placedByte a) (each rs (λ r. rowSteps r 0 h)) ≡ each rs (λ r. rowFrom a r 0 h)
+  all-bytes : (rs : List ℕ) (h : Marks)
+      → map (placedByte a) (each rs (λ r. rowSteps r 0 h)) ≡ each rs (λ r. rowFrom a r 0 h)
   unfolding each
   all-bytes [] h = refl
   all-bytes (r ∷ rs) h =
@@ -109,7 +110,8 @@ row-job r x (suc y) (ms ∷ h) =
     ∙ ap (λ (k : ℕ). ofJob k (rowSteps r (suc x) h)) place
     ∙ row-job r (suc x) y h
 
-rows-job : (y : ℕ) (h : Marks) (rs : List ℕ) → ofJob y (each rs (λ r. rowSteps r 0 h)) ≡ each rs (λ r. inRound r (getD h y []))
+rows-job : (y : ℕ) (h : Marks) (rs : List ℕ)
+    → ofJob y (each rs (λ r. rowSteps r 0 h)) ≡ each rs (λ r. inRound r (getD h y []))
 unfolding each ofJob only
 rows-job y h [] = refl
 rows-job y h (r ∷ rs) =
@@ -155,7 +157,8 @@ all-below n p (m ∷ ms) climbs =
 abbrev Splits : ℕ → List Mark → Type 0
 Splits n ms = only (isBelow (suc n)) ms ≡ only (isBelow n) ms ++ inRound n ms
 
-splits-at : (k n : ℕ) (m : Mark) (ms : List Mark) → RoundsFrom k (m .round) ms → m .round ≡ n → Splits n ms → Splits n (m ∷ ms)
+splits-at : (k n : ℕ) (m : Mark) (ms : List Mark) → RoundsFrom k (m .round) ms → m .round ≡ n → Splits n ms
+    → Splits n (m ∷ ms)
 unfolding inRound
 splits-at k n m ms climbs same later =
     let own : Mark → Bool = λ m. eqb (m .round) n in
@@ -230,7 +233,8 @@ gathered-length h (p ∷ ps) = gathered-length (marked h (p .number) (p .mark)) 
 
 -- a step more of a job is one more at its end
 own-more : (h : Marks) (p : Placed) (ps : List Placed) → p .number < length h
-    → getD (marked h (p .number) (p .mark)) (p .number) [] ++ ofJob (p .number) ps ≡ getD h (p .number) [] ++ ofJob (p .number) (p ∷ ps)
+    → getD (marked h (p .number) (p .mark)) (p .number) [] ++ ofJob (p .number) ps ≡ getD h (p .number) [] ++ ofJob
+    (p .number) (p ∷ ps)
 unfolding marked
 own-more h p ps lt =
     let column : List Mark = getD h (p .number) [] in
@@ -246,7 +250,8 @@ other-more h p ps y apart =
     ∙ ap (λ (l : List Mark). getD h y [] ++ l) (sym (ofJob-other y p ps apart))
 
 -- so each job's steps are those before, and then its own of the new ones
-pub gathered-job : (h : Marks) (ps : List Placed) (y : ℕ) → y < length h → getD (gathered h ps) y [] ≡ getD h y [] ++ ofJob y ps
+pub gathered-job : (h : Marks) (ps : List Placed) (y : ℕ) → y < length h
+    → getD (gathered h ps) y [] ≡ getD h y [] ++ ofJob y ps
 unfolding gathered marked ofJob only
 gathered-job h [] y lt = sym (append-nil (getD h y []))
 gathered-job h (p ∷ ps) y lt =

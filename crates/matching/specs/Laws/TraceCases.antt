@@ -165,7 +165,8 @@ module _ {a : Accepted} (ok : IsAccepted a) {s : State} (inv : Invariant a s) {r
       ∙ getD-set-same (now .stores) (suc r) (effect .store) noStore
       (omega (arith, lt, length-set (columns a h guesses .stores) r (effect .store), stores-all ok inv t good kind))
 
-  past-store : (q : ℕ) → q < suc r → q + 1 < jobTotal a → getD (columns a more opened .stores) q noStore ≡ getD opened (q + 1) noStore
+  past-store : (q : ℕ) → q < suc r → q + 1 < jobTotal a
+      → getD (columns a more opened .stores) q noStore ≡ getD opened (q + 1) noStore
   past-store q lt inside = elim (ℕ-discrete q r) [
     | yes same ↦
         let place : suc r ≡ q + 1 = omega arith in

@@ -35,15 +35,17 @@ flags-length x [] flags = refl
 flags-length x (c ∷ cs) flags = flags-length (suc x) cs (flagged (c .failed) x flags) ∙ flag-length (c .failed) x flags
 
 -- those below the first column's number stay
-flags-below : (x : ℕ) (cs : List JobColumn) (flags : Flags) (y : ℕ) → y < x → getD (flagsFrom x cs flags) y false ≡ getD flags y false
+flags-below : (x : ℕ) (cs : List JobColumn) (flags : Flags) (y : ℕ) → y < x
+    → getD (flagsFrom x cs flags) y false ≡ getD flags y false
 unfolding flagsFrom
 flags-below x [] flags y lt = refl
 flags-below x (c ∷ cs) flags y lt =
     flags-below (suc x) cs (flagged (c .failed) x flags) y (omega arith) ∙ flag-other (c .failed) x y flags (λ e. omega arith)
 
 -- and where none is raised yet, each is its column's
-flags-at : (x : ℕ) (cs : List JobColumn) (flags : Flags) → x + length cs ≤ length flags → ((n : ℕ) → x ≤ n → getD flags n false ≡ false)
-    → (y : ℕ) → getD (flagsFrom x cs flags) (x + y) false ≡ getD cs y unbegun .failed
+flags-at : (x : ℕ) (cs : List JobColumn) (flags : Flags) → x + length cs ≤ length flags
+    → ((n : ℕ) → x ≤ n → getD flags n false ≡ false) → (y : ℕ)
+    → getD (flagsFrom x cs flags) (x + y) false ≡ getD cs y unbegun .failed
 unfolding flagsFrom unbegun
 flags-at x [] flags room low y = low (x + y) (omega arith)
 flags-at x (c ∷ cs) flags room low zero =
@@ -61,7 +63,8 @@ flags-at x (c ∷ cs) flags room low (suc y) =
 -- ---- an order of no jobs
 
 -- where there is no job there is no step
-no-step : {a : Accepted} → IsAccepted a → jobTotal a ≡ 0 → (order : List ℕ) {s : State} → run a (initial a) order ≡ some s → initial a ≡ s
+no-step : {a : Accepted} → IsAccepted a → jobTotal a ≡ 0 → (order : List ℕ) {s : State}
+    → run a (initial a) order ≡ some s → initial a ≡ s
 unfolding run jobTotal
 no-step ok none [] e = cc
 no-step {a} ok none (byte ∷ bytes) e =

@@ -39,13 +39,15 @@ unfolding inRound only
 none-in n y q = ap (inRound q) (replicate-any {A = List Mark} n y [])
 
 -- the columns are those of jobs not begun
-pub start-column : (a : Accepted) (guesses : List Store) (x : ℕ) → getD (columns a (replicate (jobTotal a) []) guesses .jobs) x unbegun ≡ unbegun
+pub start-column : (a : Accepted) (guesses : List Store) (x : ℕ)
+    → getD (columns a (replicate (jobTotal a) []) guesses .jobs) x unbegun ≡ unbegun
 start-column a guesses x =
     ap (λ (c : Columns). getD (c .jobs) x unbegun) (columns-none a (jobTotal a) guesses) ∙ replicate-any (jobTotal a) x unbegun
 
 -- with no step made, round 0 begins with the initial store
 pub traced-initial : {a : Accepted} → IsAccepted a → (guesses : List Store) → length guesses ≡ jobTotal a
-    → (0 < jobTotal a → getD guesses 0 noStore ≡ a .table .store) → Traced a (initial a) 0 guesses (replicate (jobTotal a) []) []
+    → (0 < jobTotal a → getD guesses 0 noStore ≡ a .table .store)
+    → Traced a (initial a) 0 guesses (replicate (jobTotal a) []) []
 unfolding initial hasEnded noFlags unbegun job
 traced-initial {a} ok guesses long starts = record {
   listed = length-replicate (jobTotal a) [];
@@ -93,7 +95,8 @@ module _ {a : Accepted} (ok : IsAccepted a) {s : State} (inv : Invariant a s) {r
       ap (λ (next : State). hasEnded next stepJob) (sym (step-after made)) ∙ ended-here ok inv t (good .0) kind (byte % 16) effect refl
 
   -- where the step's job has ended, the next round begins with the store left
-  pub step-ends : hasEnded after stepJob ≡ true → Traced a after (suc r) (set guesses (suc r) (after .store)) stepMarks (done ++ (byte ∷ []))
+  pub step-ends : hasEnded after stepJob ≡ true
+      → Traced a after (suc r) (set guesses (suc r) (after .store)) stepMarks (done ++ (byte ∷ []))
   unfolding afterEffect
   step-ends ended =
       subst (λ (next : State). Traced a next (suc r) (set guesses (suc r) (next .store)) stepMarks (done ++ (byte ∷ []))) (step-after made)

@@ -35,7 +35,8 @@ module _ (a : Accepted) where
   unfolding run
   run-first s byte bytes e = bind-eq-some-iff (step a s byte) (λ next. run a next bytes) .0 e
 
-  run-on : (s : State) (byte : ℕ) (bytes : List ℕ) {next : State} → step a s byte ≡ some next → run a s (byte ∷ bytes) ≡ run a next bytes
+  run-on : (s : State) (byte : ℕ) (bytes : List ℕ) {next : State} → step a s byte ≡ some next
+      → run a s (byte ∷ bytes) ≡ run a next bytes
   unfolding run bind
   run-on s byte bytes e = rw e refl
 
@@ -49,15 +50,17 @@ module _ (a : Accepted) where
       run-on s b (bytes ++ (byte ∷ [])) (first .1) ∙ run-more bytes (first .0) (first .2) byte e
 
 -- every step of a run keeps the invariant
-pub run-invariant : {a : Accepted} → IsAccepted a → (bytes : List ℕ) {s mid : State} → Invariant a s → run a s bytes ≡ some mid → Invariant a mid
+pub run-invariant : {a : Accepted} → IsAccepted a → (bytes : List ℕ) {s mid : State} → Invariant a s
+    → run a s bytes ≡ some mid → Invariant a mid
 unfolding run
 run-invariant {a} ok [] inv ran = subst (Invariant a) (some-same ran) inv
 run-invariant {a} ok (b ∷ bytes) {s} inv ran =
     let first = run-first a s b bytes ran in
     run-invariant ok bytes (step-keeps ok inv b (first .1)) (first .2)
 
-pub more-invariant : {a : Accepted} → IsAccepted a → (bytes : List ℕ) {s mid : State} → Invariant a s → run a s bytes ≡ some mid
-    → (byte : ℕ) {after : State} → step a mid byte ≡ some after → Invariant a mid × Invariant a after
+pub more-invariant : {a : Accepted} → IsAccepted a → (bytes : List ℕ) {s mid : State} → Invariant a s
+    → run a s bytes ≡ some mid → (byte : ℕ) {after : State} → step a mid byte ≡ some after
+    → Invariant a mid × Invariant a after
 more-invariant ok bytes inv ran byte e =
     let here = run-invariant ok bytes inv ran in
     (here, step-keeps ok here byte e)

@@ -61,17 +61,20 @@ after r y value ends store h =
     }
 
 -- a job's steps where the first is its own, and where it is another's
-steps-own : (x : ℕ) (step : OrderStep) (steps : List OrderStep) → step .job .0 ≡ x → stepsOfJob x (step ∷ steps) ≡ step ∷ stepsOfJob x steps
+steps-own : (x : ℕ) (step : OrderStep) (steps : List OrderStep) → step .job .0 ≡ x
+    → stepsOfJob x (step ∷ steps) ≡ step ∷ stepsOfJob x steps
 unfolding only if_then_else_
 steps-own x step steps e = rw (eq-eqb (step .job .0) x e) refl
 
-steps-other : (x : ℕ) (step : OrderStep) (steps : List OrderStep) → step .job .0 ≢ x → stepsOfJob x (step ∷ steps) ≡ stepsOfJob x steps
+steps-other : (x : ℕ) (step : OrderStep) (steps : List OrderStep) → step .job .0 ≢ x
+    → stepsOfJob x (step ∷ steps) ≡ stepsOfJob x steps
 unfolding only if_then_else_
 steps-other x step steps apart = rw (ne-eqb (step .job .0) x apart) refl
 
 -- a mark at the end of its job's is the first of those that follow
 marks-step : (marks : Marks) (step : OrderStep) (steps : List OrderStep) (x : ℕ) → x < length marks
-    → getD (marked marks (step .job .0) (noted step)) x [] ++ map noted (stepsOfJob x steps) ≡ getD marks x [] ++ map noted (stepsOfJob x (step ∷ steps))
+    → getD (marked marks (step .job .0) (noted step)) x [] ++ map noted (stepsOfJob x steps) ≡ getD marks x [] ++ map
+    noted (stepsOfJob x (step ∷ steps))
 unfolding marked noted
 marks-step marks step steps x lt =
     elim (ℕ-discrete (step .job .0) x) [
@@ -93,10 +96,12 @@ pub record Follows (r : ℕ) (t : Trace) (h : OrderRounds) (end : Trace) : Type 
   pub jobs : length (end .marks) ≡ length (t .marks)
   pub rounds : length (end .guesses) ≡ length (t .guesses)
   -- each job's marks, then those of its steps in the history
-  pub steps : (x : ℕ) → x < length (t .marks) → getD (end .marks) x [] ≡ getD (t .marks) x [] ++ map noted (only (λ step. eqb (step .job .0) x) (h .steps))
+  pub steps : (x : ℕ) → x < length (t .marks)
+      → getD (end .marks) x [] ≡ getD (t .marks) x [] ++ map noted (only (λ step. eqb (step .job .0) x) (h .steps))
   -- the guesses up to round r, then the history's stores
   pub kept : (q : ℕ) → q ≤ r → getD (end .guesses) q [] ≡ getD (t .guesses) q []
-  pub stores : (i : ℕ) → i < length (h .stores) → suc r + i < length (t .guesses) → getD (end .guesses) (suc r + i) [] ≡ getD (h .stores) i []
+  pub stores : (i : ℕ) → i < length (h .stores) → suc r + i < length (t .guesses)
+      → getD (end .guesses) (suc r + i) [] ≡ getD (h .stores) i []
 
 follows-none : (r : ℕ) (t : Trace) → Follows r t (record { steps = []; stores = [] }) t
 unfolding only
@@ -125,8 +130,8 @@ module _ (r : ℕ) (y : Job) (value : ℕ) (store : Store) (t : Trace) (h : Orde
       }
 
   -- the stores after an End: its own, then those of the rounds after the next
-  end-stores : Follows (suc r) (traced r (y .0) value true store t) h end → (i : ℕ) → i < suc (length (h .stores)) → suc r + i < length (t .guesses)
-      → getD (end .guesses) (suc r + i) [] ≡ getD (store ∷ h .stores) i []
+  end-stores : Follows (suc r) (traced r (y .0) value true store t) h end → (i : ℕ) → i < suc (length (h .stores))
+      → suc r + i < length (t .guesses) → getD (end .guesses) (suc r + i) [] ≡ getD (store ∷ h .stores) i []
   unfolding traced if_then_else_
   end-stores f zero lt room =
       let place : suc r + 0 ≡ suc r = omega arith in
@@ -138,7 +143,8 @@ module _ (r : ℕ) (y : Job) (value : ℕ) (store : Store) (t : Trace) (h : Orde
       ap (λ (k : ℕ). getD (end .guesses) k []) place ∙ f .stores i (omega arith) (omega (arith, length-set (t .guesses) (suc r) store))
 
   -- an End, after which the next round begins
-  follows-end : Follows (suc r) (traced r (y .0) value true store t) h end → Follows r t (after r y value true store h) end
+  follows-end : Follows (suc r) (traced r (y .0) value true store t) h end
+      → Follows r t (after r y value true store h) end
   unfolding traced marked noted if_then_else_
   follows-end f =
       let step : OrderStep = record { job = y; round = record { 0 = r }; value = value } in
@@ -159,13 +165,15 @@ module _ (r : ℕ) (y : Job) (value : ℕ) (store : Store) (t : Trace) (h : Orde
 
 module _ (a : Accepted) where
   -- the trace of an order's bytes is that of their history
-  pub trace-follows : (bytes : List ℕ) (s : State) (r : ℕ) (t : Trace) → Follows r t (roundsFrom a s r bytes) (traceFrom a s r t bytes)
+  pub trace-follows : (bytes : List ℕ) (s : State) (r : ℕ) (t : Trace)
+      → Follows r t (roundsFrom a s r bytes) (traceFrom a s r t bytes)
   unfolding roundsFrom traceFrom noting
   trace-follows [] s r t = follows-none r t
   trace-follows (byte ∷ bytes) s r t = go (turnOf a s (byte / 16)) refl (λ next later now. trace-follows bytes next later now)
     where
       go : (turn : Option Turn) → turnOf a s (byte / 16) ≡ turn
-          → ((next : State) (later : ℕ) (now : Trace) → Follows later now (roundsFrom a next later bytes) (traceFrom a next later now bytes))
+          → ((next : State) (later : ℕ) (now : Trace) → Follows later now (roundsFrom a next later bytes)
+          (traceFrom a next later now bytes))
           → Follows r t (roundsFrom a s r (byte ∷ bytes)) (traceFrom a s r t (byte ∷ bytes))
       go none e rest = rw (e, traceFrom, roundsFrom) (follows-none r t)
       go (some turn) e rest =
@@ -208,14 +216,16 @@ module _ (a : Accepted) (order : List ℕ) where
 
   -- a job's marks are those of its steps
   pub marks-noted : (x : ℕ) → x < jobTotal a
-      → getD (traceOf a order .marks) x [] ≡ map noted (only (λ step. eqb (step .job .0) x) (roundsFrom a (initial a) 0 order .steps))
+      → getD (traceOf a order .marks) x [] ≡ map noted
+      (only (λ step. eqb (step .job .0) x) (roundsFrom a (initial a) 0 order .steps))
   unfolding startTrace
   marks-noted x lt =
       traced-whole .steps x (omega (arith, length-replicate {A = List Mark} (jobTotal a) []))
       ∙ ap (λ (l : List Mark). l ++ map noted (stepsOfJob x (roundsFrom a (initial a) 0 order .steps))) (getD-replicate (jobTotal a) x [] [] lt)
 
   -- so the bytes of all jobs are those of the marks
-  jobs-written : each (jobNumbers a) (jobBytes (roundsFrom a (initial a) 0 order .steps)) ≡ each (traceOf a order .marks) marksBytes
+  jobs-written : each (jobNumbers a) (jobBytes (roundsFrom a (initial a) 0 order .steps)) ≡ each
+      (traceOf a order .marks) marksBytes
   jobs-written =
       let steps : List OrderStep = roundsFrom a (initial a) 0 order .steps in
       let marks : Marks = traceOf a order .marks in

@@ -29,11 +29,13 @@ pub record Traced (a : Accepted) (s : State) (r : ℕ) (guesses : List Store) (h
   pub locals : (k : ℕ) (d : Frame) → k < length (s .active)
       → getD (columns a h guesses .jobs) (getD (s .active) k d .job .0) unbegun .local ≡ getD (s .active) k d .local
   pub endings : (x : ℕ) → x < jobTotal a → getD (columns a h guesses .jobs) x unbegun .ended ≡ hasEnded s (job x)
-  pub failures : (x : ℕ) → x < jobTotal a → getD (columns a h guesses .jobs) x unbegun .failed ≡ getD (s .failed) x false
+  pub failures : (x : ℕ) → x < jobTotal a
+      → getD (columns a h guesses .jobs) x unbegun .failed ≡ getD (s .failed) x false
   pub none-yet : (x : ℕ) → x < jobTotal a → hasBegun s (job x) ≡ false → getD h x [] ≡ []
   -- the store of this round, those that earlier rounds left, and the last
   pub present : r < jobTotal a → getD (columns a h guesses .stores) r noStore ≡ s .store
-  pub past : (q : ℕ) → q < r → q + 1 < jobTotal a → getD (columns a h guesses .stores) q noStore ≡ getD guesses (q + 1) noStore
+  pub past : (q : ℕ) → q < r → q + 1 < jobTotal a
+      → getD (columns a h guesses .stores) q noStore ≡ getD guesses (q + 1) noStore
   pub final : (q : ℕ) → suc q ≡ r → r ≡ jobTotal a → getD (columns a h guesses .stores) q noStore ≡ s .store
   -- no step is in a later round, and the jobs with a step in this one are active
   pub later : (y q : ℕ) → r < q → inRound q (getD h y []) ≡ []

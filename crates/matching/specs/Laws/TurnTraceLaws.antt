@@ -46,12 +46,14 @@ module _ (a : Accepted) (s : State) (i : ℕ) where
       let start = start-says a s (found .0) (and-both (eqb (base a (found .0)) i) _ (job .1) .1) in
       subst (Starts s) (found .2) (record { unbegun = start .unbegun; isFresh = refl; all = refl })
 
-  among-kind : (active : List Frame) → s .active ≡ active → {turn : Turn} → turnAmong a s i active ≡ some turn → GoesOn s turn ⊎ Starts s turn
+  among-kind : (active : List Frame) → s .active ≡ active → {turn : Turn} → turnAmong a s i active ≡ some turn
+      → GoesOn s turn ⊎ Starts s turn
   unfolding turnAmong if_then_else_
   among-kind [] same e = inr (start-kind e)
   among-kind (f ∷ under) same {turn} e = go (eqb (base a (f .job)) i) e
     where
-      go : (b : Bool) → (if b then some (record { frame = f; under = under }) else startOf a s i) ≡ some turn → GoesOn s turn ⊎ Starts s turn
+      go : (b : Bool) → (if b then some (record { frame = f; under = under }) else startOf a s i) ≡ some turn
+          → GoesOn s turn ⊎ Starts s turn
       go true h =
           let is : record { frame = f; under = under } ≡ turn = cc in
           inl (subst (GoesOn s) is same)
@@ -64,7 +66,8 @@ module _ (a : Accepted) (s : State) (i : ℕ) where
 
 -- ---- the active jobs' numbers
 
-found-lower : (y n : ℕ) (fs : List Frame) → Every (λ f. f .job .0 < n) fs → any (λ f. eqb (f .job .0) y) fs ≡ true → y < n
+found-lower : (y n : ℕ) (fs : List Frame) → Every (λ f. f .job .0 < n) fs → any (λ f. eqb (f .job .0) y) fs ≡ true
+    → y < n
 unfolding any
 found-lower y n [] lower h = absurd (false≢true h)
 found-lower y n (f ∷ fs) lower h = elim (or-either (eqb (f .job .0) y) _ h) [
@@ -74,7 +77,8 @@ found-lower y n (f ∷ fs) lower h = elim (or-either (eqb (f .job .0) y) _ h) [
 
 module _ {a : Accepted} (ok : IsAccepted a) {s : State} {turn : Turn} (good : GoodTurn a s turn) where
   -- those under the turn's job have lower numbers
-  lower-all : (fs : List Frame) → Every (IsRunning a s) fs → Every (Over a (turn .frame)) fs → Every (λ f. f .job .0 < turn .frame .job .0) fs
+  lower-all : (fs : List Frame) → Every (IsRunning a s) fs → Every (Over a (turn .frame)) fs
+      → Every (λ f. f .job .0 < turn .frame .job .0) fs
   lower-all [] running over = tt
   lower-all (f ∷ fs) running over =
       (preempts-lower (ok .isTimed) (turn .frame .job) (f .job) (running .0 .job) (over .0 .preempts) .1, lower-all fs (running .1) (over .1))
@@ -90,11 +94,13 @@ module _ {a : Accepted} (ok : IsAccepted a) {s : State} {turn : Turn} (good : Go
 
 module _ {a : Accepted} {s : State} {byte : ℕ} {after : State} (made : AllowedStep a s byte after) where
   -- the step is what its instruction does to the state
-  pub step-after : afterEffect s (made .turn) (perform (nextOf a (made .turn .frame)) (byte % 16) (made .turn .frame .local) (s .store)) ≡ after
+  pub step-after : afterEffect s (made .turn)
+      (perform (nextOf a (made .turn .frame)) (byte % 16) (made .turn .frame .local) (s .store)) ≡ after
   step-after = sym (performed-is a s (byte % 16) (made .turn)) ∙ made .made
 
   -- it raises no other job's flag
-  pub step-failed : (y : ℕ) → (y ≡ made .turn .frame .job .0 → ⊥) → getD (after .failed) y false ≡ getD (s .failed) y false
+  pub step-failed : (y : ℕ) → (y ≡ made .turn .frame .job .0 → ⊥)
+      → getD (after .failed) y false ≡ getD (s .failed) y false
   unfolding afterEffect
   step-failed y apart =
       let effect = perform (nextOf a (made .turn .frame)) (byte % 16) (made .turn .frame .local) (s .store) in

@@ -26,7 +26,8 @@ module _ (program upcoming : List ℕ) (top i : ℕ) {b : Bool} (runs : b ≡ ow
   unfolding maybeDue
   due-runs h = sym (or-left (ownedBy program i top) _ (sym runs ∙ h))
 
-  pub due-upcoming : b ≡ false → {c : Bool} → c ≡ ownedBy program i (getD upcoming i 0) → c ≡ maybeDue program upcoming top i
+  pub due-upcoming : b ≡ false → {c : Bool} → c ≡ ownedBy program i (getD upcoming i 0)
+      → c ≡ maybeDue program upcoming top i
   unfolding maybeDue
   due-upcoming h is = is ∙ sym (or-second (ownedBy program i top) _ (sym runs ∙ h))
 
@@ -51,7 +52,8 @@ module _ (program times : List ℕ) (locks : Ceilings) (p : Snapshot) (i : ℕ) 
 
   -- or the first job of task i not yet begun is one of it, and goes over every active job
   starts-owned : startsIn program times locks p i ≡ true
-      → (ownedBy program i (getD (p .upcoming) i 0) ≡ true) × (all (goesOver program times locks (getD (p .upcoming) i 0)) (stackOf p) ≡ true)
+      → (ownedBy program i (getD (p .upcoming) i 0) ≡ true)
+      × (all (goesOver program times locks (getD (p .upcoming) i 0)) (stackOf p) ≡ true)
   unfolding startsIn
   starts-owned h =
       let y = getD (p .upcoming) i 0 in
@@ -60,7 +62,8 @@ module _ (program times : List ℕ) (locks : Ceilings) (p : Snapshot) (i : ℕ) 
       (and-both (ltb i 8 && ltb (p .depth) 8) _ (e3 .0) .1, e4 .1)
 
   -- a turn that is due is one or the other
-  turn-cases : turnIn program times locks p i .due ≡ true → (runsIn program p i ≡ true) ⊎ (startsIn program times locks p i ≡ true)
+  turn-cases : turnIn program times locks p i .due ≡ true
+      → (runsIn program p i ≡ true) ⊎ (startsIn program times locks p i ≡ true)
   unfolding turnIn startIn if_then_else_ nobody
   turn-cases h =
       elim (test-decided (runsIn program p i)) [
@@ -81,7 +84,8 @@ module _ (program times : List ℕ) (locks : Ceilings) (p : Snapshot) (i : ℕ) 
       ]
 
   -- and where that fails, nobody's turn has come
-  pub not-due : {top : ℕ} {b : Bool} → top ≡ topJob p → b ≡ maybeDue program (p .upcoming) top i → b ≡ false → turnIn program times locks p i .due ≡ false
+  pub not-due : {top : ℕ} {b : Bool} → top ≡ topJob p → b ≡ maybeDue program (p .upcoming) top i → b ≡ false
+      → turnIn program times locks p i .due ≡ false
   not-due {top} is e fails =
       elim (test-decided (turnIn program times locks p i .due)) [
         | inl due ↦ absurd (not-both _ (turn-maybe due) (sym (e ∙ ap (λ (x : ℕ). maybeDue program (p .upcoming) x i) is) ∙ fails))
@@ -95,7 +99,8 @@ module _ (program times : List ℕ) (locks : Ceilings) (p : Snapshot) (i : ℕ) 
   owner-says y h = eqb-true _ _ (and-both (ltb y 32) _ h .1)
 
   -- what goes over every active job goes over the one started last
-  over-top : (y : ℕ) → all (goesOver program times locks y) (stackOf p) ≡ true → (p .depth ≡ 0 → ⊥) → goesOver program times locks y (topOf p) ≡ true
+  over-top : (y : ℕ) → all (goesOver program times locks y) (stackOf p) ≡ true → (p .depth ≡ 0 → ⊥)
+      → goesOver program times locks y (topOf p) ≡ true
   unfolding stackOf topOf
   over-top y h deep =
       ap (goesOver program times locks y) (sym (getD-take (p .depth) (p .stack) (p .depth - 1) beyond (omega arith)))
@@ -103,7 +108,8 @@ module _ (program times : List ℕ) (locks : Ceilings) (p : Snapshot) (i : ℕ) 
       (omega (arith, length-take-le (p .depth) (p .stack) (omega arith)))
 
   -- and is of a higher task than that
-  over-higher : (y : ℕ) → goesOver program times locks y (topOf p) ≡ true → ownerIn program (topOf p .job .0) < ownerIn program y
+  over-higher : (y : ℕ) → goesOver program times locks y (topOf p) ≡ true
+      → ownerIn program (topOf p .job .0) < ownerIn program y
   unfolding goesOver preemptsIn
   over-higher y h =
       let x = topOf p .job .0 in
@@ -129,7 +135,8 @@ module _ (program times : List ℕ) (locks : Ceilings) (p : Snapshot) (i : ℕ) 
         | inr starts ↦ starts-high starts (λ flat. let none = top-none p flat in omega (arith, none))
       ]
 
-  pub low-due : {top : ℕ} → top ≡ topJob p → top < 32 → i < ownerIn program top → turnIn program times locks p i .due ≡ false
+  pub low-due : {top : ℕ} → top ≡ topJob p → top < 32 → i < ownerIn program top
+      → turnIn program times locks p i .due ≡ false
   low-due is active low =
       elim (test-decided (turnIn program times locks p i .due)) [
         | inl due ↦

@@ -30,7 +30,8 @@ module _ (program : List ℕ) (top byte : ℕ) where
     unfolding firstByte if_then_else_
     first-far le = rw (lt-ltb top 32 active, le-ltb (ownerIn program top) 8 le) refl
 
-    pub first-raised : ownerIn program top < 8 → byte < 16 * ownerIn program top → 16 * ownerIn program top ≡ firstByte program top byte
+    pub first-raised : ownerIn program top < 8 → byte < 16 * ownerIn program top
+        → 16 * ownerIn program top ≡ firstByte program top byte
     unfolding firstByte if_then_else_
     first-raised near low =
         rw (lt-ltb top 32 active, lt-ltb (ownerIn program top) 8 near, lt-ltb byte (16 * ownerIn program top) low) refl

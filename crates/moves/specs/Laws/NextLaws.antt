@@ -36,7 +36,8 @@ none-above o v w le h =
     ]
 
 -- of a step that is allowed and one that is not, a test chooses the first exactly if it holds
-chosen : (b : Bool) (r s : Stepped) → r .allowed ≡ true → s .allowed ≡ false → (if_then_else_ {A = Stepped} b r s) .allowed ≡ b
+chosen : (b : Bool) (r s : Stepped) → r .allowed ≡ true → s .allowed ≡ false
+    → (if_then_else_ {A = Stepped} b r s) .allowed ≡ b
 unfolding if_then_else_
 chosen true r s h k = h
 chosen false r s h k = k
@@ -57,7 +58,8 @@ module _ (program : List ℕ) (f : Frame) (i : ℕ) where
         | inr past ↦ and-first (ltb (f .local .next) 16) _ past
       ]
 
-  not-offered : (v : ℕ) → member v (values (instructionIn program i (f .local .next))) ≡ false → offeredIn program f i v ≡ false
+  not-offered : (v : ℕ) → member v (values (instructionIn program i (f .local .next))) ≡ false
+      → offeredIn program f i v ≡ false
   unfolding offeredIn
   not-offered v h = and-last (ltb (f .local .next) 16) _ h
 
@@ -98,7 +100,8 @@ module _ (program : List ℕ) (f : Frame) (byte : ℕ) {o : Instruction} (read :
       (and-holds (eqb (o .operation) 8) _ (eq-eqb (o .operation) 8 pick) (lt-ltb (byte % 16) (o .b) lt)) (lt-ltb (byte % 16) 15 (omega arith)))
 
 -- above a Pick's last value, and above 0 for any other instruction, no value is on offer
-past-last : (o : Instruction) (v w : ℕ) → v < w → (eqb (o .operation) 8 && ltb v (o .b)) ≡ false → member w (values o) ≡ false
+past-last : (o : Instruction) (v w : ℕ) → v < w → (eqb (o .operation) 8 && ltb v (o .b)) ≡ false
+    → member w (values o) ≡ false
 past-last o v w lt h =
     elim (ℕ-discrete (o .operation) 8) [
       | yes pick ↦
@@ -162,7 +165,8 @@ module _ (program times : List ℕ) (locks : Ceilings) (p : Snapshot) (at : ℕ)
 
   module _ (due : d .due ≡ true) {b : Bool} (test : b ≡ offeredIn program (d .frame) (at / 16) (at % 16)) where
     -- else a byte is a step if its value is on offer
-    due-allowed : (k : ℕ) → k / 16 ≡ at / 16 → stepIn program times locks p k .allowed ≡ offeredIn program (d .frame) (at / 16) (k % 16)
+    due-allowed : (k : ℕ) → k / 16 ≡ at / 16
+        → stepIn program times locks p k .allowed ≡ offeredIn program (d .frame) (at / 16) (k % 16)
     due-allowed k e =
         ap (λ (r : Stepped). r .allowed) (sym (step-due program times locks p k (turn-at k e) (ap not due) refl))
         ∙ with-allowed program (d .frame) (k / 16) p (d .under) (k % 16)
@@ -176,8 +180,9 @@ module _ (program times : List ℕ) (locks : Ceilings) (p : Snapshot) (at : ℕ)
         (λ k le e. due-allowed k e ∙ none-offered program (d .frame) (at / 16) (at % 16) (k % 16) (omega arith) (sym test ∙ h))
 
     -- and where it steps, that is the next move
-    pub step-found : (first : ℕ) → at < 128 → first ≤ at → NoStep program times locks p first at → b ≡ true → {next : ℕ}
-        → next ≡ valueAfter program (d .frame) at → NextStep program times locks p first (record { byte = at; next = next; turn = d })
+    pub step-found : (first : ℕ) → at < 128 → first ≤ at → NoStep program times locks p first at → b ≡ true
+        → {next : ℕ} → next ≡ valueAfter program (d .frame) at
+        → NextStep program times locks p first (record { byte = at; next = next; turn = d })
     step-found first small low before h {next} e =
         let onward = subst (Onward (instructionIn program (at / 16) (d .frame .local .next)) at) (sym e) (after-onward program (d .frame) at small) in
         record {
@@ -196,8 +201,9 @@ module _ (program times : List ℕ) (locks : Ceilings) (p : Snapshot) (at : ℕ)
         }
 
 -- where no byte below 128 is a step, there is no move left
-pub no-move : (program times : List ℕ) (locks : Ceilings) (p : Snapshot) (first at : ℕ) → first ≤ 128 → NoStep program times locks p first at → 128 ≤ at
-    → {d : Due} → NextStep program times locks p first (record { byte = 128; next = 128; turn = d })
+pub no-move : (program times : List ℕ) (locks : Ceilings) (p : Snapshot) (first at : ℕ) → first ≤ 128
+    → NoStep program times locks p first at → 128 ≤ at → {d : Due}
+    → NextStep program times locks p first (record { byte = 128; next = 128; turn = d })
 no-move program times locks p first at low before high {d} =
     record {
       none-before = λ k le lt. before k le (omega arith);

@@ -13,7 +13,8 @@ use Rattle.notation.specs.Laws.ListLaws.{getD-member}
 use mathlib.Core.Logic.{_⊎_, inl, inr}
 
 -- a refusal is no pass
-pub refused-passed {ℓ} : {P A : Type 0} {X : Type ℓ} {number : ℕ} {place : P} {x : A} → refused number place ≡ passed x → X
+pub refused-passed {ℓ} : {P A : Type 0} {X : Type ℓ} {number : ℕ} {place : P} {x : A}
+    → refused number place ≡ passed x → X
 refused-passed e = absurd (let z : _≡_ {A = ℕ} 0 1 = cc in omega arith)
 
 -- a check passes one value
@@ -35,7 +36,8 @@ then-passed (refused number place) d e = refused-passed e
 then-passed (passed x) d e = (x, refl, e)
 
 -- a requirement that passed holds
-pub require-passed : {P : Type 0} (test : Bool) (number : ℕ) (place : P) {u : Unit {0}} → require test number place ≡ passed u → T test
+pub require-passed : {P : Type 0} (test : Bool) (number : ℕ) (place : P) {u : Unit {0}}
+    → require test number place ≡ passed u → T test
 unfolding require
 require-passed true number place e = tt
 require-passed false number place e = refused-passed e
@@ -60,8 +62,8 @@ noneOf-first number true place rest e = refused-passed e
 noneOf-first number false place rest e = (refl, e)
 
 -- no listed place has the fault
-pub noneOf-passed : {P : Type 0} (number : ℕ) (fault : P → Bool) {places : List P} {u : Unit {0}} → noneOf number fault places ≡ passed u
-    → {p : P} → List·Memᴰ p places → fault p ≡ false
+pub noneOf-passed : {P : Type 0} (number : ℕ) (fault : P → Bool) {places : List P} {u : Unit {0}}
+    → noneOf number fault places ≡ passed u → {p : P} → List·Memᴰ p places → fault p ≡ false
 unfolding noneOf
 noneOf-passed number fault e (List·Memᴰ·head {x} {xs} same) =
     ap fault same ∙ noneOf-first number (fault x) x (noneOf number fault xs) e .0
@@ -69,8 +71,8 @@ noneOf-passed number fault e (List·Memᴰ·tail {x} {xs} m) =
     noneOf-passed number fault (noneOf-first number (fault x) x (noneOf number fault xs) e .1) m
 
 -- the same by index
-pub noneOf-at : {P : Type 0} (number : ℕ) (fault : P → Bool) (places : List P) {u : Unit {0}} → noneOf number fault places ≡ passed u
-    → (k : ℕ) (d : P) → k < length places → fault (getD places k d) ≡ false
+pub noneOf-at : {P : Type 0} (number : ℕ) (fault : P → Bool) (places : List P) {u : Unit {0}}
+    → noneOf number fault places ≡ passed u → (k : ℕ) (d : P) → k < length places → fault (getD places k d) ≡ false
 noneOf-at number fault places e k d h = noneOf-passed number fault e (getD-member places k d h)
 
 -- a requirement that holds leaves the check to what follows, and one that does not decides it
@@ -85,8 +87,8 @@ unfolding require _>>_
 require-fails test number place rest e = rw e
 
 -- a check that is refused decides, and one that passes a value on leaves it to what follows
-pub bind-refused : {P A B : Type 0} {c : Checked P A} (k : A → Checked P B) {number : ℕ} {place : P} → c ≡ refused number place
-    → _>>=_ c k ≡ refused number place
+pub bind-refused : {P A B : Type 0} {c : Checked P A} (k : A → Checked P B) {number : ℕ} {place : P}
+    → c ≡ refused number place → _>>=_ c k ≡ refused number place
 unfolding _>>=_
 bind-refused k e = rw e
 
@@ -94,8 +96,8 @@ pub bind-goes : {P A B : Type 0} {c : Checked P A} (k : A → Checked P B) {x : 
 unfolding _>>=_
 bind-goes k e = rw e
 
-pub then-refused : {P A B : Type 0} {c : Checked P A} (d : Checked P B) {number : ℕ} {place : P} → c ≡ refused number place
-    → _>>_ c d ≡ refused number place
+pub then-refused : {P A B : Type 0} {c : Checked P A} (d : Checked P B) {number : ℕ} {place : P}
+    → c ≡ refused number place → _>>_ c d ≡ refused number place
 unfolding _>>_
 then-refused d e = rw e
 
@@ -106,14 +108,15 @@ then-goes d e = rw e
 -- ---- what a refusal says
 
 -- the place of a refusal is a listed one
-pub first-listed : {P : Type 0} (number : ℕ) (b : Bool) (q : P) (places : List P) (rest : Checked P (Unit {0})) {n : ℕ} {p : P}
-    → (if b then refused number q else rest) ≡ refused n p → (rest ≡ refused n p → List·Memᴰ p places) → List·Memᴰ p (q ∷ places)
+pub first-listed : {P : Type 0} (number : ℕ) (b : Bool) (q : P) (places : List P) (rest : Checked P (Unit {0}))
+    {n : ℕ} {p : P} → (if b then refused number q else rest) ≡ refused n p → (rest ≡ refused n p → List·Memᴰ p places)
+    → List·Memᴰ p (q ∷ places)
 unfolding if_then_else_
 first-listed number true q places rest {p} e later = let same : p ≡ q = cc in List·Memᴰ·head same
 first-listed number false q places rest e later = List·Memᴰ·tail (later e)
 
-pub noneOf-listed : {P : Type 0} (number : ℕ) (fault : P → Bool) (places : List P) {n : ℕ} {p : P} → noneOf number fault places ≡ refused n p
-    → List·Memᴰ p places
+pub noneOf-listed : {P : Type 0} (number : ℕ) (fault : P → Bool) (places : List P) {n : ℕ} {p : P}
+    → noneOf number fault places ≡ refused n p → List·Memᴰ p places
 unfolding noneOf
 noneOf-listed number fault [] e = absurd (let z : _≡_ {A = ℕ} 0 1 = cc in omega arith)
 noneOf-listed number fault (q ∷ places) e =
@@ -132,8 +135,8 @@ unfolding _>>=_
 bind-refuses (refused number place) k e = inl cc
 bind-refuses (passed x) k e = inr (x, e)
 
-pub bind-passes : {P A B : Type 0} (c : Checked P A) (g : A → B) {n : ℕ} {p : P} → _>>=_ c (λ x. passed (g x)) ≡ refused n p
-    → c ≡ refused n p
+pub bind-passes : {P A B : Type 0} (c : Checked P A) (g : A → B) {n : ℕ} {p : P}
+    → _>>=_ c (λ x. passed (g x)) ≡ refused n p → c ≡ refused n p
 unfolding _>>=_
 bind-passes (refused number place) g e = cc
 bind-passes (passed x) g e = absurd (let z : _≡_ {A = ℕ} 0 1 = cc in omega arith)
@@ -149,8 +152,8 @@ placed-refused g (refused number p) {n} {q} e =
 placed-refused g (passed x) e = absurd (let z : _≡_ {A = ℕ} 0 1 = cc in omega arith)
 
 -- where no listed place has the fault, the check passes
-pub none-faulty : {P : Type 0} (number : ℕ) (fault : P → Bool) (places : List P) → ((p : P) → List·Memᴰ p places → fault p ≡ false)
-    → noneOf number fault places ≡ passed tt
+pub none-faulty : {P : Type 0} (number : ℕ) (fault : P → Bool) (places : List P)
+    → ((p : P) → List·Memᴰ p places → fault p ≡ false) → noneOf number fault places ≡ passed tt
 unfolding noneOf if_then_else_
 none-faulty number fault [] h = refl
 none-faulty number fault (p ∷ ps) h = rw (h p (List·Memᴰ·head refl)) (none-faulty number fault ps (λ q m. h q (List·Memᴰ·tail m)))

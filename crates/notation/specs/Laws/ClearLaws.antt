@@ -31,7 +31,8 @@ cleared-none from before le =
       most = le;
     }
 
-pub cleared-length : {from : ℕ} {before : List ℕ} {i : ℕ} {now : List ℕ} → Cleared from before i now → 512 ≤ length before → length now ≡ length before
+pub cleared-length : {from : ℕ} {before : List ℕ} {i : ℕ} {now : List ℕ} → Cleared from before i now
+    → 512 ≤ length before → length now ≡ length before
 cleared-length {from} {before} {i} {now} cleared room =
     let front = length-take-le from before (omega (arith, cleared .least, cleared .most)) in
     let rest = length-drop i before in
@@ -40,8 +41,8 @@ cleared-length {from} {before} {i} {now} cleared room =
     ∙ length-append (take from before) (replicate (i - from) 0 ++ drop i before)
     ∙ omega (arith, length-append (replicate (i - from) 0) (drop i before), front, rest, zeros, cleared .least, cleared .most)
 
-pub cleared-more : {from : ℕ} {before : List ℕ} {i : ℕ} {now : List ℕ} → Cleared from before i now → 512 ≤ length before → i < 512
-    → Cleared from before (i + 1) (set now i 0)
+pub cleared-more : {from : ℕ} {before : List ℕ} {i : ℕ} {now : List ℕ} → Cleared from before i now
+    → 512 ≤ length before → i < 512 → Cleared from before (i + 1) (set now i 0)
 cleared-more {from} {before} {i} {now} cleared room lt =
     let front = take from before in
     let zeros = replicate {A = ℕ} (i - from) 0 in

@@ -159,16 +159,20 @@ counted-swap false c n = refl
 
 module _ {A : Type 0} where
   -- the first element counts if the test holds of it
-  only-counted : (test : A → Bool) (x : A) (xs : List A) → length (only test (x ∷ xs)) ≡ counted (test x) (length (only test xs))
+  only-counted : (test : A → Bool) (x : A) (xs : List A)
+      → length (only test (x ∷ xs)) ≡ counted (test x) (length (only test xs))
   unfolding only counted if_then_else_
   only-counted test x xs = go (test x)
     where
-      go : (b : Bool) → length (if b then x ∷ only test xs else only test xs) ≡ (if b then suc (length (only test xs)) else length (only test xs))
+      go : (b : Bool)
+          → length (if b then x ∷ only test xs else only test xs)
+          ≡ (if b then suc (length (only test xs)) else length (only test xs))
       go true = refl
       go false = refl
 
   -- and so does one more at the end
-  pub only-last : (test : A → Bool) (xs : List A) (y : A) → length (only test (xs ++ (y ∷ []))) ≡ counted (test y) (length (only test xs))
+  pub only-last : (test : A → Bool) (xs : List A) (y : A)
+      → length (only test (xs ++ (y ∷ []))) ≡ counted (test y) (length (only test xs))
   only-last test [] y = only-counted test y []
   only-last test (x ∷ xs) y =
       only-counted test x (xs ++ (y ∷ []))
@@ -182,7 +186,8 @@ module _ {A : Type 0} where
   only-most test [] = omega arith
   only-most test (x ∷ xs) = omega (arith, only-counted test x xs, counted-most (test x) (length (only test xs)), only-most test xs)
 
-  pub only-fewer : (test : A → Bool) (xs : List A) (k : ℕ) (d : A) → k < length xs → test (getD xs k d) ≡ false → length (only test xs) < length xs
+  pub only-fewer : (test : A → Bool) (xs : List A) (k : ℕ) (d : A) → k < length xs → test (getD xs k d) ≡ false
+      → length (only test xs) < length xs
   only-fewer test [] k d lt e = absurd (omega arith)
   only-fewer test (x ∷ xs) zero d lt e =
       omega (arith, only-counted test x xs, counted-out (test x) (length (only test xs)) e, only-most test xs)
@@ -201,8 +206,9 @@ module _ {A : Type 0} where
       ∙ sym (only-counted p x xs)
 
   -- one more where they differ at one
-  pub only-more : (p q : A → Bool) (xs : List A) (k : ℕ) (d : A) → k < length xs → p (getD xs k d) ≡ false → q (getD xs k d) ≡ true
-      → ((j : ℕ) → j < length xs → (j ≡ k → ⊥) → q (getD xs j d) ≡ p (getD xs j d)) → length (only q xs) ≡ suc (length (only p xs))
+  pub only-more : (p q : A → Bool) (xs : List A) (k : ℕ) (d : A) → k < length xs → p (getD xs k d) ≡ false
+      → q (getD xs k d) ≡ true → ((j : ℕ) → j < length xs → (j ≡ k → ⊥) → q (getD xs j d) ≡ p (getD xs j d))
+      → length (only q xs) ≡ suc (length (only p xs))
   unfolding counted if_then_else_
   only-more p q [] k d lt e f same = absurd (omega arith)
   only-more p q (x ∷ xs) zero d lt e f same =

@@ -40,7 +40,8 @@ nothing-left (x ∷ xs) ys e = absurd (omega (arith, ap length e))
 -- ---- elements by index
 
 -- a fact at each index is one of every element
-pub at-every : {A : Type 0} (P : A → Type 0) (d : A) (xs : List A) → ((k : ℕ) → k < length xs → P (getD xs k d)) → Every P xs
+pub at-every : {A : Type 0} (P : A → Type 0) (d : A) (xs : List A) → ((k : ℕ) → k < length xs → P (getD xs k d))
+    → Every P xs
 at-every P d [] h = tt
 at-every P d (x ∷ xs) h = (h 0 (omega arith), at-every P d xs (λ k lt. h (suc k) (omega arith)))
 
@@ -80,7 +81,8 @@ unfolding firstOr
 first-snoc-none d [] y e = refl
 first-snoc-none d (x ∷ xs) y e = absurd (omega arith)
 
-pub first-snoc-some : {A : Type 0} (d : A) (xs : List A) (y : A) → 0 < length xs → firstOr d (xs ++ (y ∷ [])) ≡ firstOr d xs
+pub first-snoc-some : {A : Type 0} (d : A) (xs : List A) (y : A) → 0 < length xs
+    → firstOr d (xs ++ (y ∷ [])) ≡ firstOr d xs
 unfolding firstOr
 first-snoc-some d [] y h = absurd (omega arith)
 first-snoc-some d (x ∷ xs) y h = refl
@@ -102,7 +104,8 @@ snoc-at xs y k d lt =
 -- ---- the elements of which a test holds
 
 -- the first element is kept or not
-pub only-in : {A : Type 0} (test : A → Bool) (x : A) (xs : List A) → test x ≡ true → only test (x ∷ xs) ≡ x ∷ only test xs
+pub only-in : {A : Type 0} (test : A → Bool) (x : A) (xs : List A) → test x ≡ true
+    → only test (x ∷ xs) ≡ x ∷ only test xs
 unfolding only if_then_else_
 only-in test x xs e = rw e refl
 
@@ -117,7 +120,8 @@ only-append test [] ys = refl
 only-append {A} test (x ∷ xs) ys = go (test x) (only-append test xs ys)
   where
     go : (b : Bool) → only test (xs ++ ys) ≡ only test xs ++ only test ys
-        → (if b then x ∷ only test (xs ++ ys) else only test (xs ++ ys)) ≡ (if b then x ∷ only test xs else only test xs) ++ only test ys
+        → (if b then x ∷ only test (xs ++ ys) else only test (xs ++ ys))
+        ≡ (if b then x ∷ only test xs else only test xs) ++ only test ys
     go true e = ap (λ (l : List A). x ∷ l) e
     go false e = e
 
@@ -133,12 +137,13 @@ only-none test [] h = refl
 only-none test (x ∷ xs) h = rw (h .0) (only-none test xs (h .1))
 
 -- the same by index
-pub only-every : {A : Type 0} (test : A → Bool) (d : A) (xs : List A) → ((k : ℕ) → k < length xs → test (getD xs k d) ≡ true)
-    → only test xs ≡ xs
+pub only-every : {A : Type 0} (test : A → Bool) (d : A) (xs : List A)
+    → ((k : ℕ) → k < length xs → test (getD xs k d) ≡ true) → only test xs ≡ xs
 only-every test d xs h = only-all test xs (at-every (λ x. test x ≡ true) d xs h)
 
 -- one that does not hold of the last drops it
-pub only-drops : {A : Type 0} (test : A → Bool) (xs : List A) (y : A) → test y ≡ false → only test (xs ++ (y ∷ [])) ≡ only test xs
+pub only-drops : {A : Type 0} (test : A → Bool) (xs : List A) (y : A) → test y ≡ false
+    → only test (xs ++ (y ∷ [])) ≡ only test xs
 unfolding only if_then_else_
 only-drops {A} test xs y e =
     let none : only test (y ∷ []) ≡ [] = rw e refl in
@@ -155,7 +160,8 @@ each-snoc {A} n f =
     ∙ ap (λ (l : List A). each (from 0 n) f ++ l) (append-nil (f (0 + n)) ∙ ap f (omega arith))
 
 -- the same part for each number below n
-pub each-same : {A : Type 0} (n : ℕ) (f g : ℕ → List A) → ((k : ℕ) → k < n → f k ≡ g k) → each (upTo n) f ≡ each (upTo n) g
+pub each-same : {A : Type 0} (n : ℕ) (f g : ℕ → List A) → ((k : ℕ) → k < n → f k ≡ g k)
+    → each (upTo n) f ≡ each (upTo n) g
 unfolding each upTo from
 each-same zero f g h = refl
 each-same {A} (suc n) f g h =
@@ -194,14 +200,15 @@ unfolding only if_then_else_
 member-only test [] m = absurd (List·Memᴰ·not-nil m)
 member-only test (y ∷ ys) {x} m = go (test y) m (λ n. member-only test ys n)
   where
-    go : (b : Bool) → List·Memᴰ x (if b then y ∷ only test ys else only test ys) → (List·Memᴰ x (only test ys) → List·Memᴰ x ys)
-        → List·Memᴰ x (y ∷ ys)
+    go : (b : Bool) → List·Memᴰ x (if b then y ∷ only test ys else only test ys)
+        → (List·Memᴰ x (only test ys) → List·Memᴰ x ys) → List·Memᴰ x (y ∷ ys)
     go true m later =
         elim (List·Memᴰ·cases-cons m) [ inl here ↦ List·Memᴰ·head here | inr there ↦ List·Memᴰ·tail (later there) ]
     go false m later = List·Memᴰ·tail (later m)
 
 -- an element of which the test holds is kept
-pub only-member : {A : Type 0} (test : A → Bool) {x : A} {xs : List A} → List·Memᴰ x xs → test x ≡ true → List·Memᴰ x (only test xs)
+pub only-member : {A : Type 0} (test : A → Bool) {x : A} {xs : List A} → List·Memᴰ x xs → test x ≡ true
+    → List·Memᴰ x (only test xs)
 unfolding only if_then_else_
 only-member test (List·Memᴰ·head {x = y} e) h =
     let holds : test y ≡ true = ap test (sym e) ∙ h in rw holds (List·Memᴰ·head e)
@@ -289,7 +296,8 @@ shifted f start zero = refl
 shifted f start (suc n) = ap (λ (l : List _). f (suc start) ∷ l) (shifted f (suc start) n)
 
 -- a list's elements, read by their indices
-pub by-index : {A B : Type 0} (g : A → B) (d : A) (xs : List A) → map (λ k. g (getD xs k d)) (upTo (length xs)) ≡ map g xs
+pub by-index : {A B : Type 0} (g : A → B) (d : A) (xs : List A)
+    → map (λ k. g (getD xs k d)) (upTo (length xs)) ≡ map g xs
 unfolding upTo from
 by-index g d [] = refl
 by-index g d (x ∷ xs) = ap (λ (l : List _). g x ∷ l) (shifted (λ k. g (getD (x ∷ xs) k d)) 0 (length xs) ∙ by-index g d xs)

@@ -13,7 +13,8 @@ use Rattle.notation.specs.Laws.PairLaws.{every-append}
 use Rattle.notation.specs.Ordered.{Every}
 
 -- it does not matter how many more than enough fill the list up
-filling : {A : Type 0} (x : A) (xs : List A) (n j k : ℕ) → n ≤ j → n ≤ k → take n (xs ++ replicate j x) ≡ take n (xs ++ replicate k x)
+filling : {A : Type 0} (x : A) (xs : List A) (n j k : ℕ) → n ≤ j → n ≤ k
+    → take n (xs ++ replicate j x) ≡ take n (xs ++ replicate k x)
 filling x xs zero j k hj hk = refl
 filling x [] (suc n) zero k hj hk = absurd (not-suc-le-zero hj)
 filling x [] (suc n) (suc j) zero hj hk = absurd (not-suc-le-zero hk)
@@ -47,7 +48,8 @@ padded-at (suc n) x (y ∷ xs) zero h = rw (padded-cons n x y xs) refl
 padded-at (suc n) x (y ∷ xs) (suc k) h = rw (padded-cons n x y xs) (padded-at n x xs k (le-of-suc-le-suc h))
 
 -- where the array holds the whole list, that is so at every index
-pub padded-any : {A : Type 0} (n : ℕ) (x : A) (xs : List A) (k : ℕ) → length xs ≤ n → getD (padded n x xs) k x ≡ getD xs k x
+pub padded-any : {A : Type 0} (n : ℕ) (x : A) (xs : List A) (k : ℕ) → length xs ≤ n
+    → getD (padded n x xs) k x ≡ getD xs k x
 padded-any n x xs k few =
     elim (decLt k n) [
       | yes inside ↦ padded-at n x xs k inside
@@ -80,7 +82,8 @@ every-take P (suc m) [] h = tt
 every-take P (suc m) (x ∷ xs) h = (h .0, every-take P m xs (h .1))
 
 -- what holds of the default and of what is stored holds of the whole array
-pub every-padded : {A : Type 0} (P : A → Type 0) (m : ℕ) (d : A) (xs : List A) → P d → Every P xs → Every P (padded m d xs)
+pub every-padded : {A : Type 0} (P : A → Type 0) (m : ℕ) (d : A) (xs : List A) → P d → Every P xs
+    → Every P (padded m d xs)
 unfolding padded
 every-padded P m d xs h k =
     every-take P m (xs ++ replicate m d) (every-append P xs (replicate m d) k (every-replicate P m d h))

@@ -9,13 +9,14 @@ use Rattle.notation.specs.Lists.{from, each}
 use Rattle.notation.specs.Ordered.{Every, Ordered}
 use mathlib.Core.Path.{refl, sym, subst}
 
-pub every-at : {A : Type 0} (P : A → Type 0) (xs : List A) (k : ℕ) (d : A) → Every P xs → k < length xs → P (getD xs k d)
+pub every-at : {A : Type 0} (P : A → Type 0) (xs : List A) (k : ℕ) (d : A) → Every P xs → k < length xs
+    → P (getD xs k d)
 every-at P [] k d h lt = absurd (not-suc-le-zero lt)
 every-at P (x ∷ xs) zero d h lt = h .0
 every-at P (x ∷ xs) (suc k) d h lt = every-at P xs k d (h .1) (le-of-suc-le-suc lt)
 
-pub ordered-at : {A : Type 0} (R : A → A → Type 0) (xs : List A) (j k : ℕ) (d : A) → Ordered R xs → j < k → k < length xs
-    → R (getD xs j d) (getD xs k d)
+pub ordered-at : {A : Type 0} (R : A → A → Type 0) (xs : List A) (j k : ℕ) (d : A) → Ordered R xs → j < k
+    → k < length xs → R (getD xs j d) (getD xs k d)
 ordered-at R [] j k d h lt below = absurd (not-suc-le-zero below)
 ordered-at R (x ∷ xs) j zero d h lt below = absurd (not-suc-le-zero lt)
 ordered-at R (x ∷ xs) zero (suc k) d h lt below = every-at (R x) xs k d (h .0) (le-of-suc-le-suc below)
@@ -49,7 +50,8 @@ pub ordered-map : {A B : Type 0} (R : B → B → Type 0) (f : A → B) (xs : Li
 ordered-map R f [] h = tt
 ordered-map R f (x ∷ xs) h = (every-map (R (f x)) f xs (h .0), ordered-map R f xs (h .1))
 
-pub ordered-imp : {A : Type 0} (R S : A → A → Type 0) → ((x y : A) → R x y → S x y) → (xs : List A) → Ordered R xs → Ordered S xs
+pub ordered-imp : {A : Type 0} (R S : A → A → Type 0) → ((x y : A) → R x y → S x y) → (xs : List A) → Ordered R xs
+    → Ordered S xs
 ordered-imp R S imp [] h = tt
 ordered-imp R S imp (x ∷ xs) h = (every-imp (R x) (S x) (imp x) xs (h .0), ordered-imp R S imp xs (h .1))
 
@@ -98,8 +100,8 @@ ordered-each R f (x ∷ xs) h k =
     ordered-append R (f x) (each xs f) (h .0) (ordered-each R f xs (h .1) (k .1)) (every-across R f (f x) xs (k .0))
 
 -- elements of a kind whose elements are all related
-pub every-ordered : {A : Type 0} (P : A → Type 0) (R : A → A → Type 0) → ((x y : A) → P x → P y → R x y) → (xs : List A) → Every P xs
-    → Ordered R xs
+pub every-ordered : {A : Type 0} (P : A → Type 0) (R : A → A → Type 0) → ((x y : A) → P x → P y → R x y)
+    → (xs : List A) → Every P xs → Ordered R xs
 every-ordered P R imp [] all = tt
 every-ordered P R imp (x ∷ xs) all =
     (every-imp P (R x) (λ y isP. imp x y (all .0) isP) xs (all .1), every-ordered P R imp xs (all .1))
@@ -118,7 +120,8 @@ ordered-split R (x ∷ xs) y ys all =
     ((every-middle (R x) xs y ys (all .0), later .0), later .1)
 
 -- what every image has, every element has of its image
-pub every-unmap : {A B : Type 0} (P : B → Type 0) (f : A → B) (xs : List A) → Every P (map f xs) → Every (λ x. P (f x)) xs
+pub every-unmap : {A B : Type 0} (P : B → Type 0) (f : A → B) (xs : List A) → Every P (map f xs)
+    → Every (λ x. P (f x)) xs
 every-unmap P f [] h = tt
 every-unmap P f (x ∷ xs) h = (h .0, every-unmap P f xs (h .1))
 

@@ -71,11 +71,13 @@ module _ {A : Type 0} (test : A → Bool) where
   first-only (x ∷ xs) zero d lt h only = rw h refl
   first-only (x ∷ xs) (suc k) d lt h only = go (test x) refl (first-only xs k d (omega arith) h (λ j l t. omega (arith, only (suc j) (omega arith) t)))
     where
-      go : (b : Bool) → test x ≡ b → firstWith test xs ≡ some (getD xs k d) → (if b then some x else firstWith test xs) ≡ some (getD xs k d)
+      go : (b : Bool) → test x ≡ b → firstWith test xs ≡ some (getD xs k d)
+          → (if b then some x else firstWith test xs) ≡ some (getD xs k d)
       go true e later = absurd (omega (arith, only 0 (omega arith) e))
       go false e later = later
 
-  pub first-none : (xs : List A) (d : A) → ((k : ℕ) → k < length xs → test (getD xs k d) ≡ false) → firstWith test xs ≡ none
+  pub first-none : (xs : List A) (d : A) → ((k : ℕ) → k < length xs → test (getD xs k d) ≡ false)
+      → firstWith test xs ≡ none
   unfolding firstWith if_then_else_
   first-none [] d h = refl
   first-none (x ∷ xs) d h = rw (h 0 (omega arith)) (first-none xs d (λ k lt. h (suc k) (omega arith)))
@@ -86,7 +88,8 @@ pub map-length : {A B : Type 0} (f : A → B) (xs : List A) → length (map f xs
 map-length f [] = refl
 map-length f (x ∷ xs) = ap suc (map-length f xs)
 
-pub map-at : {A B : Type 0} (f : A → B) (xs : List A) (k : ℕ) (d : A) (e : B) → k < length xs → getD (map f xs) k e ≡ f (getD xs k d)
+pub map-at : {A B : Type 0} (f : A → B) (xs : List A) (k : ℕ) (d : A) (e : B) → k < length xs
+    → getD (map f xs) k e ≡ f (getD xs k d)
 map-at f [] k d e lt = absurd (omega arith)
 map-at f (x ∷ xs) zero d e lt = refl
 map-at f (x ∷ xs) (suc k) d e lt = map-at f xs k d e (omega arith)

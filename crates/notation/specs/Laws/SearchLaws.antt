@@ -81,7 +81,8 @@ noneOf-append number fault (x ∷ xs) ys =
     (noneOf number fault xs))
 
 -- the check of the places under the numbers below n has come to i
-pub record CheckedTo {P : Type 0} (number : ℕ) (fault : P → Bool) (all : List P) (places : ℕ → List P) (n i : ℕ) : Type 0 where
+pub record CheckedTo {P : Type 0} (number : ℕ) (fault : P → Bool) (all : List P) (places : ℕ → List P) (n i : ℕ) :
+    Type 0 where
   pub within : i ≤ n
   pub same : noneOf number fault all ≡ noneOf number fault (each (from i (n - i)) places)
 

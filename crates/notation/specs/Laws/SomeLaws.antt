@@ -30,7 +30,8 @@ module _ (test : ℕ → Bool) (n k : ℕ) (on : any test (upTo n) ≡ any test 
   some-missing le = let none : n - k ≡ 0 = omega arith in on ∙ ap (λ (m : ℕ). any test (from k m)) none
 
 -- a test of some image
-pub any-map : {A B : Type 0} (f : A → B) (test : B → Bool) (xs : List A) → any test (map f xs) ≡ any (λ x. test (f x)) xs
+pub any-map : {A B : Type 0} (f : A → B) (test : B → Bool) (xs : List A)
+    → any test (map f xs) ≡ any (λ x. test (f x)) xs
 unfolding any
 any-map f test [] = refl
 any-map f test (x ∷ xs) = ap (λ (b : Bool). test (f x) || b) (any-map f test xs)

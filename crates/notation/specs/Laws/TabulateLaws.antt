@@ -25,8 +25,8 @@ values-are f n xs d size h =
     (λ k lt. h k (omega (arith, size)) ∙ sym (values-at f n k d (omega (arith, size))))
 
 -- eight of them, written out
-pub eight-values : {A : Type 0} (f : ℕ → A) {a b c d e g h i : A} → a ≡ f 0 → b ≡ f 1 → c ≡ f 2 → d ≡ f 3 → e ≡ f 4 → g ≡ f 5 → h ≡ f 6
-    → i ≡ f 7 → a ∷ b ∷ c ∷ d ∷ e ∷ g ∷ h ∷ i ∷ [] ≡ map f (upTo 8)
+pub eight-values : {A : Type 0} (f : ℕ → A) {a b c d e g h i : A} → a ≡ f 0 → b ≡ f 1 → c ≡ f 2 → d ≡ f 3 → e ≡ f 4
+    → g ≡ f 5 → h ≡ f 6 → i ≡ f 7 → a ∷ b ∷ c ∷ d ∷ e ∷ g ∷ h ∷ i ∷ [] ≡ map f (upTo 8)
 unfolding upTo from
 eight-values f ea eb ec ed ee eg eh ei = rw (ea, eb, ec, ed, ee, eg, eh, ei) refl
 

@@ -32,8 +32,8 @@ legal-passed index none e = refused-passed e
 legal-passed index (some s) e = ap some (passed-same e)
 
 -- its bytes are steps, and all jobs have ended after the last
-pub replay-runs : (a : Accepted) (bytes : List ℕ) (s : State) (index : ℕ) {after : State} → replayFrom a s index bytes ≡ passed after
-    → (run a s bytes ≡ some after) × (allEnded a after ≡ true)
+pub replay-runs : (a : Accepted) (bytes : List ℕ) (s : State) (index : ℕ) {after : State}
+    → replayFrom a s index bytes ≡ passed after → (run a s bytes ≡ some after) × (allEnded a after ≡ true)
 unfolding replayFrom run bind
 replay-runs a [] s index {after} e =
     let parts = then-passed (require (allEnded a s) 31 index) (passed s) e in
@@ -49,7 +49,8 @@ replay-runs a (byte ∷ bytes) s index {after} e =
 
 module _ {a : Accepted} (ok : IsAccepted a) where
   -- before a step not all jobs have ended: the job whose turn it is has not
-  pub step-unended : {s : State} → Invariant a s → (byte : ℕ) {after : State} → step a s byte ≡ some after → allEnded a s ≡ false
+  pub step-unended : {s : State} → Invariant a s → (byte : ℕ) {after : State} → step a s byte ≡ some after
+      → allEnded a s ≡ false
   unfolding allEnded
   step-unended {s} inv byte e =
       let made = step-says a s byte e in
@@ -60,8 +61,8 @@ module _ {a : Accepted} (ok : IsAccepted a) where
       ]
 
   -- steps after which all jobs have ended pass the replay
-  pub run-replays : (bytes : List ℕ) {s : State} → Invariant a s → (index : ℕ) {after : State} → run a s bytes ≡ some after
-      → allEnded a after ≡ true → replayFrom a s index bytes ≡ passed after
+  pub run-replays : (bytes : List ℕ) {s : State} → Invariant a s → (index : ℕ) {after : State}
+      → run a s bytes ≡ some after → allEnded a after ≡ true → replayFrom a s index bytes ≡ passed after
   unfolding run replayFrom bind legal
   run-replays [] {s} inv index {after} e ended =
       let same : s ≡ after = cc in
@@ -70,8 +71,8 @@ module _ {a : Accepted} (ok : IsAccepted a) where
       go (step a s byte) refl e (λ next kept h. run-replays bytes kept (suc index) h ended)
     where
       go : (o : Option State) → step a s byte ≡ o → bind o (λ next. run a next bytes) ≡ some after
-          → ((next : State) → Invariant a next → run a next bytes ≡ some after → replayFrom a next (suc index) bytes ≡ passed after)
-          → replayFrom a s index (byte ∷ bytes) ≡ passed after
+          → ((next : State) → Invariant a next → run a next bytes ≡ some after → replayFrom a next (suc index) bytes
+          ≡ passed after) → replayFrom a s index (byte ∷ bytes) ≡ passed after
       go none one h later = absurd (let z : _≡_ {A = ℕ} 0 1 = cc in omega arith)
       go (some next) one h later =
           require-holds (not (allEnded a s)) 32 index _ (ap not (step-unended inv byte one))
@@ -88,7 +89,8 @@ module _ {a : Accepted} (ok : IsAccepted a) where
   complete-ends whole = bind-goes _ (complete-replays whole)
 
   -- an order that passes the replay is complete, and has that end
-  pub replay-complete : (order : List ℕ) {e : End} → replay a order ≡ passed e → (s : State) × Complete a order s × (orderEnd s ≡ e)
+  pub replay-complete : (order : List ℕ) {e : End} → replay a order ≡ passed e
+      → (s : State) × Complete a order s × (orderEnd s ≡ e)
   unfolding replay
   replay-complete order h =
       let parts = bind-passed (replayFrom a (initial a) 0 order) (λ s. passed (orderEnd s)) h in

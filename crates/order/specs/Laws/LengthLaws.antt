@@ -93,12 +93,14 @@ module _ (a : Accepted) (s : State) where
         others = λ y apart. refl;
       })
 
-  placed-among : (i : ℕ) (active : List Frame) → s .active ≡ active → {turn : Turn} → turnAmong a s i active ≡ some turn → Placed s turn
+  placed-among : (i : ℕ) (active : List Frame) → s .active ≡ active → {turn : Turn}
+      → turnAmong a s i active ≡ some turn → Placed s turn
   unfolding turnAmong if_then_else_
   placed-among i [] same e = start-placed i e
   placed-among i (f ∷ under) same {turn} e = go (eqb (base a (f .job)) i) e
     where
-      go : (b : Bool) → (if b then some (record { frame = f; under = under }) else startOf a s i) ≡ some turn → Placed s turn
+      go : (b : Bool) → (if b then some (record { frame = f; under = under }) else startOf a s i) ≡ some turn
+          → Placed s turn
       go true h =
           let turns : record { frame = f; under = under } ≡ turn = cc in
           subst (Placed s) turns
@@ -181,8 +183,8 @@ module _ {a : Accepted} (ok : IsAccepted a) {s : State} (inv : Invariant a s) {t
         (rw (jobs-at a x x isJob) left-here)
 
 -- every step lowers what is left
-pub step-left : {a : Accepted} → IsAccepted a → {s : State} → Invariant a s → (byte : ℕ) {after : State} → step a s byte ≡ some after
-    → left a after < left a s
+pub step-left : {a : Accepted} → IsAccepted a → {s : State} → Invariant a s → (byte : ℕ) {after : State}
+    → step a s byte ≡ some after → left a after < left a s
 unfolding base
 step-left {a} ok {s} inv byte {after} e =
     let made = step-says a s byte e in
@@ -195,15 +197,15 @@ step-left {a} ok {s} inv byte {after} e =
     (left-falls ok inv good (turn-placed a s (byte / 16) (made .due)) _ (omega (arith, good .running .inside)) (onward .forward))
 
 -- the bytes of an order and the steps left after them are no more than the steps left before
-pub run-left : {a : Accepted} → IsAccepted a → {s : State} → Invariant a s → (bytes : List ℕ) {after : State} → run a s bytes ≡ some after
-    → length bytes + left a after ≤ left a s
+pub run-left : {a : Accepted} → IsAccepted a → {s : State} → Invariant a s → (bytes : List ℕ) {after : State}
+    → run a s bytes ≡ some after → length bytes + left a after ≤ left a s
 unfolding run bind
 run-left {a} ok {s} inv [] {after} e = let same : s ≡ after = cc in omega (arith, ap (left a) same)
 run-left {a} ok {s} inv (byte ∷ bytes) {after} e = go (step a s byte) refl e (λ next kept h. run-left ok kept bytes h)
   where
     go : (o : Option State) → step a s byte ≡ o → bind o (λ next. run a next bytes) ≡ some after
-        → ((next : State) → Invariant a next → run a next bytes ≡ some after → length bytes + left a after ≤ left a next)
-        → suc (length bytes) + left a after ≤ left a s
+        → ((next : State) → Invariant a next → run a next bytes ≡ some after → length bytes + left a after ≤ left a
+        next) → suc (length bytes) + left a after ≤ left a s
     go none one h later = absurd (let z : _≡_ {A = ℕ} 0 1 = cc in omega arith)
     go (some next) one h later = omega (arith, step-left ok inv byte one, later next (step-keeps ok inv byte one) h)
 

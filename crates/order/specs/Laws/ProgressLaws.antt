@@ -115,7 +115,8 @@ first-found test [] k d lt h = absurd (omega arith)
 first-found test (x ∷ xs) zero d lt h = (x, rw h refl)
 first-found test (x ∷ xs) (suc k) d lt h = go (test x) (first-found test xs k d (omega arith) h)
   where
-    go : (b : Bool) → (y : _) × (firstWith test xs ≡ some y) → (y : _) × ((if b then some x else firstWith test xs) ≡ some y)
+    go : (b : Bool) → (y : _) × (firstWith test xs ≡ some y)
+        → (y : _) × ((if b then some x else firstWith test xs) ≡ some y)
     go true later = (x, refl)
     go false later = later
 
@@ -164,7 +165,8 @@ module _ {a : Accepted} (ok : IsAccepted a) (s : State) where
 
   -- a job that has not ended, and whose lateness is the least
   least-job : allEnded a s ≡ false
-      → (y : Job) × IsJob a y × (hasEnded s y ≡ false) × ((x : Job) → IsJob a x → hasEnded s x ≡ false → lateness a y ≤ lateness a x)
+      → (y : Job) × IsJob a y × (hasEnded s y ≡ false)
+      × ((x : Job) → IsJob a x → hasEnded s x ≡ false → lateness a y ≤ lateness a x)
   unfolding allEnded
   least-job undone =
       elim (least-of (λ n. not (hasEnded s (record { 0 = n }))) (λ n. lateness a (record { 0 = n })) (length (a .jobs))) [
@@ -178,7 +180,8 @@ module _ {a : Accepted} (ok : IsAccepted a) (s : State) where
       ]
 
   -- whose turn it may be
-  turn-found : (active : List Frame) → s .active ≡ active → allEnded a s ≡ false → (i : ℕ) × (turn : Turn) × (turnOf a s i ≡ some turn)
+  turn-found : (active : List Frame) → s .active ≡ active → allEnded a s ≡ false
+      → (i : ℕ) × (turn : Turn) × (turnOf a s i ≡ some turn)
   unfolding turnOf turnAmong
   turn-found [] idle undone =
       let job = least-job undone in

@@ -38,12 +38,14 @@ use Rattle.order.specs.States.{State, initial, hasEnded, isActive, prese
 -- ---- flags
 
 -- a flag raised at x is raised there, and every other is as it was
-pub flag-here : (test : Bool) (x : ℕ) (flags : Flags) → x < length flags → getD (flagged test x flags) x false ≡ (test || getD flags x false)
+pub flag-here : (test : Bool) (x : ℕ) (flags : Flags) → x < length flags
+    → getD (flagged test x flags) x false ≡ (test || getD flags x false)
 unfolding flagged if_then_else_
 flag-here true x flags lt = getD-set-same flags x true false lt
 flag-here false x flags lt = refl
 
-pub flag-other : (test : Bool) (x y : ℕ) (flags : Flags) → (y ≡ x → ⊥) → getD (flagged test x flags) y false ≡ getD flags y false
+pub flag-other : (test : Bool) (x y : ℕ) (flags : Flags) → (y ≡ x → ⊥)
+    → getD (flagged test x flags) y false ≡ getD flags y false
 unfolding flagged if_then_else_
 flag-other true x y flags apart = getD-set-other flags x y true false apart
 flag-other false x y flags apart = refl
@@ -72,7 +74,8 @@ pub record GoodTurn (a : Accepted) (s : State) (turn : Turn) : Type 0 where
   pub under : Every (IsRunning a s) (turn .under)
   pub stacked : Ordered (Over a) (turn .under)
   pub within : (y : Job) → any (λ f. eqb (f .job .0) (y .0)) (turn .under) ≡ true → isActive s y ≡ true
-  pub kept : (y : Job) → (y .0 ≡ turn .frame .job .0 → ⊥) → isActive s y ≡ true → any (λ f. eqb (f .job .0) (y .0)) (turn .under) ≡ true
+  pub kept : (y : Job) → (y .0 ≡ turn .frame .job .0 → ⊥) → isActive s y ≡ true
+      → any (λ f. eqb (f .job .0) (y .0)) (turn .under) ≡ true
   pub preceded : (x : Job) → IsJob a x → before a x (turn .frame .job) ≡ true → hasEnded s x ≡ true
 
 -- a test that does not hold may stand between two others
@@ -111,7 +114,8 @@ over-all a y l (f ∷ fs) p q =
     (record { preempts = first .0; above = ltb-true _ _ (second .0) }, over-all a y l fs (first .1) (second .1))
 
 -- a turn made of a job that was found
-pub map-some : {A B : Type 0} (f : A → B) (o : Option A) {t : B} → Option·map f o ≡ some t → (y : A) × (o ≡ some y) × (f y ≡ t)
+pub map-some : {A B : Type 0} (f : A → B) (o : Option A) {t : B} → Option·map f o ≡ some t
+    → (y : A) × (o ≡ some y) × (f y ≡ t)
 map-some f none e = absurd (let z : _≡_ {A = ℕ} 0 1 = cc in omega arith)
 map-some f (some y) e = (y, refl, cc)
 
@@ -137,7 +141,8 @@ module _ {a : Accepted} (ok : IsAccepted a) {s : State} (inv : Invariant a s) wh
       }
 
   -- a start is of the task that was asked for
-  pub good-start : (i : ℕ) {turn : Turn} → startOf a s i ≡ some turn → GoodTurn a s turn × (base a (turn .frame .job) ≡ i)
+  pub good-start : (i : ℕ) {turn : Turn} → startOf a s i ≡ some turn
+      → GoodTurn a s turn × (base a (turn .frame .job) ≡ i)
   unfolding startOf
   good-start i {turn} e =
       let found = map-some _ (firstWith (λ y. eqb (base a y) i && mayStart a s y) (jobNumbers a)) e in
@@ -171,7 +176,8 @@ module _ {a : Accepted} (ok : IsAccepted a) {s : State} (inv : Invariant a s) wh
             preceded = λ x isJob h. inv .preceded x (f .job) isJob (running .0 .job) h (or-right (hasEnded s (f .job)) (isActive s (f .job)) active);
           }
 
-      go : (b : Bool) → eqb (base a (f .job)) i ≡ b → (if b then some (record { frame = f; under = under }) else startOf a s i) ≡ some turn
+      go : (b : Bool) → eqb (base a (f .job)) i ≡ b
+          → (if b then some (record { frame = f; under = under }) else startOf a s i) ≡ some turn
           → GoodTurn a s turn × (base a (turn .frame .job) ≡ i)
       go true here h =
           let same : record { frame = f; under = under } ≡ turn = cc in
@@ -227,7 +233,8 @@ module _ {a : Accepted} (ok : IsAccepted a) {s : State} (inv : Invariant a s) {t
 
   -- another job that is active by then is under it
   under-has : (y : Job) → (y .0 ≡ x .0 → ⊥) → (b : Bool)
-      → any (λ f. eqb (f .job .0) (y .0)) (if b then turn .under else record { job = x; local = effect .local } ∷ turn .under) ≡ true
+      → any (λ f. eqb (f .job .0) (y .0))
+      (if b then turn .under else record { job = x; local = effect .local } ∷ turn .under) ≡ true
       → any (λ f. eqb (f .job .0) (y .0)) (turn .under) ≡ true
   unfolding any if_then_else_
   under-has y apart true h = h
@@ -244,7 +251,8 @@ module _ {a : Accepted} (ok : IsAccepted a) {s : State} (inv : Invariant a s) {t
 
   -- and what had begun has begun
   under-kept : (y : Job) → (b : Bool) → any (λ f. eqb (f .job .0) (y .0)) (turn .under) ≡ true
-      → any (λ f. eqb (f .job .0) (y .0)) (if b then turn .under else record { job = x; local = effect .local } ∷ turn .under) ≡ true
+      → any (λ f. eqb (f .job .0) (y .0))
+      (if b then turn .under else record { job = x; local = effect .local } ∷ turn .under) ≡ true
   unfolding any if_then_else_
   under-kept y true h = h
   under-kept y false h = or-right (eqb (x .0) (y .0)) _ h
@@ -258,7 +266,9 @@ module _ {a : Accepted} (ok : IsAccepted a) {s : State} (inv : Invariant a s) {t
       ]
 
   -- the turn's job has begun
-  here-active : (b : Bool) → (b || any (λ f. eqb (f .job .0) (x .0)) (if b then turn .under else record { job = x; local = effect .local } ∷ turn .under)) ≡ true
+  here-active : (b : Bool)
+      → (b || any (λ f. eqb (f .job .0) (x .0))
+      (if b then turn .under else record { job = x; local = effect .local } ∷ turn .under)) ≡ true
   unfolding any if_then_else_
   here-active true = refl
   here-active false = or-left (eqb (x .0) (x .0)) _ (eq-eqb (x .0) (x .0) refl)
@@ -267,8 +277,8 @@ module _ {a : Accepted} (ok : IsAccepted a) {s : State} (inv : Invariant a s) {t
   unfolding hasBegun hasEnded isActive afterEffect
   begun-here = rw (flag-here (effect .ended) (x .0) (s .ended) flagged-here, good .running .unended) (between (effect .ended) _ (here-active (effect .ended)))
 
-  preceded-after : (w y : Job) → IsJob a w → IsJob a y → before a w y ≡ true → hasBegun (afterEffect s turn effect) y ≡ true
-      → hasEnded (afterEffect s turn effect) w ≡ true
+  preceded-after : (w y : Job) → IsJob a w → IsJob a y → before a w y ≡ true
+      → hasBegun (afterEffect s turn effect) y ≡ true → hasEnded (afterEffect s turn effect) w ≡ true
   preceded-after w y isW isY h begun =
       ended-stays w
       (elim (ℕ-discrete (y .0) (x .0)) [
@@ -286,7 +296,8 @@ module _ {a : Accepted} (ok : IsAccepted a) {s : State} (inv : Invariant a s) {t
         inside = running .inside;
       }
 
-  under-runs : (fs : List Frame) → Every (IsRunning a s) fs → Every (Over a (turn .frame)) fs → Every (IsRunning a (afterEffect s turn effect)) fs
+  under-runs : (fs : List Frame) → Every (IsRunning a s) fs → Every (Over a (turn .frame)) fs
+      → Every (IsRunning a (afterEffect s turn effect)) fs
   under-runs [] runs over = tt
   under-runs (f ∷ fs) runs over = (over-apart f (runs .0) (over .0), under-runs fs (runs .1) (over .1))
 
@@ -318,8 +329,9 @@ module _ {a : Accepted} (ok : IsAccepted a) {s : State} (inv : Invariant a s) {t
       under : Every (IsRunning a (afterEffect s turn effect)) (turn .under)
       under = under-runs (turn .under) (good .under) (good .over)
 
-      keeps : (fs : List Frame) → afterEffect s turn effect .active ≡ fs → Every (IsRunning a (afterEffect s turn effect)) fs
-          → Ordered (Over a) fs → Invariant a (afterEffect s turn effect)
+      keeps : (fs : List Frame) → afterEffect s turn effect .active ≡ fs
+          → Every (IsRunning a (afterEffect s turn effect)) fs → Ordered (Over a) fs
+          → Invariant a (afterEffect s turn effect)
       keeps fs e runs stacked = record {
         flags = flags-kept;
         running = subst (Every (IsRunning a (afterEffect s turn effect))) (sym e) runs;
@@ -356,18 +368,20 @@ module _ {a : Accepted} {s : State} {byte : ℕ} {after : State} where
   offered-says turn due true o h = record { turn = turn; due = due; offered = o; made = cc }
   offered-says turn due false o h = absurd (let z : _≡_ {A = ℕ} 0 1 = cc in omega arith)
 
-  turn-says : (o : Option Turn) → turnOf a s (byte / 16) ≡ o → bind o (stepWith a s (byte % 16)) ≡ some after → AllowedStep a s byte after
+  turn-says : (o : Option Turn) → turnOf a s (byte / 16) ≡ o → bind o (stepWith a s (byte % 16)) ≡ some after
+      → AllowedStep a s byte after
   unfolding stepWith bind
   turn-says none due h = absurd (let z : _≡_ {A = ℕ} 0 1 = cc in omega arith)
   turn-says (some turn) due h = offered-says turn due (member (byte % 16) (values (nextOf a (turn .frame)))) refl h
 
-pub step-says : (a : Accepted) (s : State) (byte : ℕ) {after : State} → step a s byte ≡ some after → AllowedStep a s byte after
+pub step-says : (a : Accepted) (s : State) (byte : ℕ) {after : State} → step a s byte ≡ some after
+    → AllowedStep a s byte after
 unfolding step
 step-says a s byte e = turn-says (turnOf a s (byte / 16)) refl e
 
 -- "the state after a step is reachable": every step keeps the invariant
-pub step-keeps : {a : Accepted} → IsAccepted a → {s : State} → Invariant a s → (byte : ℕ) {after : State} → step a s byte ≡ some after
-    → Invariant a after
+pub step-keeps : {a : Accepted} → IsAccepted a → {s : State} → Invariant a s → (byte : ℕ) {after : State}
+    → step a s byte ≡ some after → Invariant a after
 step-keeps {a} ok {s} inv byte e =
     let made = step-says a s byte e in
     subst (Invariant a) (made .made) (performed-keeps ok inv (byte % 16) (good-turn ok inv (byte / 16) (made .due) .0))

@@ -24,15 +24,18 @@ module _ (p : Snapshot) (count at : ℕ) {b : Bool} (e : b ≡ any (λ flag. fla
   ended-held h is = rw (sym e ∙ not-true b h) is
 
   pub ended-failed : not b ≡ false
-      → record { found = true; stopped = false; count = count; length = at; store = p .store; failed = p .failed } ≡ endedAt p count at
+      → record { found = true; stopped = false; count = count; length = at; store = p .store; failed = p .failed }
+      ≡ endedAt p count at
   unfolding endedAt if_then_else_
   ended-failed h = rw (sym e ∙ not-false b h) refl
 
 -- ---- a complete order that fails
 
 pub ended-shown : (bytes : List ℕ) (count at : ℕ) {b : Bool} {store : List ℕ} {failed : List Bool}
-    → b ≡ any (λ flag. flag) (snapshotIn bytes .failed) → not b ≡ false → store ≡ bytesAt bytes 0 8 → failed ≡ snapshotIn bytes .failed
-    → record { found = true; stopped = false; count = count; length = at; store = store; failed = failed } ≡ endedAt (snapshotIn bytes) count at
+    → b ≡ any (λ flag. flag) (snapshotIn bytes .failed) → not b ≡ false → store ≡ bytesAt bytes 0 8
+    → failed ≡ snapshotIn bytes .failed
+    → record { found = true; stopped = false; count = count; length = at; store = store; failed = failed } ≡ endedAt
+    (snapshotIn bytes) count at
 unfolding snapshotIn
 ended-shown bytes count at e h stored flags =
     ap₂ (λ (xs : List ℕ) (ys : List Bool). record { found = true; stopped = false; count = count; length = at; store = xs; failed = ys }) stored flags

@@ -10,6 +10,7 @@ use Rattle.snapshots.specs.Code.ReplayParts.{replayEndAt, replayedOf}
 
 pub outcome-made : (number place : ℕ) (bytes : List ℕ) {store : List ℕ} {failed : List Bool}
     → store ≡ bytesAt bytes 0 8 → failed ≡ snapshotIn bytes .failed
-    → _≡_ {A = Replayed} (record { number = number; place = place; store = store; failed = failed }) (replayedOf (replayEndAt number place (snapshotIn bytes)))
+    → _≡_ {A = Replayed} (record { number = number; place = place; store = store; failed = failed })
+    (replayedOf (replayEndAt number place (snapshotIn bytes)))
 unfolding replayedOf snapshotIn
 outcome-made number place bytes stored flags = rw (stored, flags) refl

@@ -30,8 +30,8 @@ unfolding if_then_else_
 turn-kept true p stepped kept h = kept h
 turn-kept false p stepped kept h = refl
 
-pub step-kept : (program times : List ℕ) (locks : Ceilings) (p : Snapshot) (byte : ℕ) → stepIn program times locks p byte .allowed ≡ false
-    → stepIn program times locks p byte .state ≡ p
+pub step-kept : (program times : List ℕ) (locks : Ceilings) (p : Snapshot) (byte : ℕ)
+    → stepIn program times locks p byte .allowed ≡ false → stepIn program times locks p byte .state ≡ p
 unfolding stepIn dueStep stepWithIn
 step-kept program times locks p byte = turn-kept _ p _ (choice-kept _ p _)
 

@@ -48,7 +48,8 @@ abbrev pub storedAt : List ℕ → ℕ → Instruction → List ℕ
 storedAt program n o = set (storedThird program n o) (4 * n + 3) (o .c)
 
 -- a place that is none of the four keeps its number
-stored-off : (program : List ℕ) (n : ℕ) (o : Instruction) (k : ℕ) → (4 * n ≤ k → k ≤ 4 * n + 3 → ⊥) → getD (storedAt program n o) k 0 ≡ getD program k 0
+stored-off : (program : List ℕ) (n : ℕ) (o : Instruction) (k : ℕ) → (4 * n ≤ k → k ≤ 4 * n + 3 → ⊥)
+    → getD (storedAt program n o) k 0 ≡ getD program k 0
 stored-off program n o k off =
     getD-set-other (storedThird program n o) (4 * n + 3) k (o .c) 0 (λ e. off (omega arith) (omega arith))
     ∙ getD-set-other (storedSecond program n o) (4 * n + 2) k (o .b) 0 (λ e. off (omega arith) (omega arith))
@@ -113,7 +114,8 @@ module _ (program : List ℕ) (n : ℕ) (o : Instruction) (room : length program
       λ j. record { operation = first j; a = second j; b = third j; c = fourth j }
 
 pub bodies-more : {t : Table} {n : ℕ} {program : List ℕ} → BodiesTo t n program → n < 128 → {o : Instruction}
-    → o ≡ getD (getD (t .entries) (n / 16) noTask .body) (n % 16) endInstruction → BodiesTo t (n + 1) (storedAt program n o)
+    → o ≡ getD (getD (t .entries) (n / 16) noTask .body) (n % 16) endInstruction
+    → BodiesTo t (n + 1) (storedAt program n o)
 unfolding ownerIn
 bodies-more {t} {n} {program} bodies few {o} read =
     record {
@@ -134,7 +136,8 @@ bodies-more {t} {n} {program} bodies few {o} read =
 
 -- an instruction read from the arrays is the table's, whatever the defaults
 pub instruction-read : {t : Table} → Shaped t → (n : ℕ) → n < 128 → (d : TaskEntry) (e : Instruction)
-    → getD (getD (t .entries) (n / 16) d .body) (n % 16) e ≡ getD (getD (t .entries) (n / 16) noTask .body) (n % 16) endInstruction
+    → getD (getD (t .entries) (n / 16) d .body) (n % 16) e ≡ getD (getD (t .entries) (n / 16) noTask .body) (n % 16)
+    endInstruction
 instruction-read {t} shaped n few d e =
     let sixteen : _≤_ 1 16 = omega arith in
     let task : n / 16 < 8 = omega (arith, div-add-mod' n 16) in
@@ -150,7 +153,8 @@ bodies-all bodies enough = record { held = λ i p low lt. bodies .held i p low (
 -- ---- the owners and the times
 
 -- past the bodies, a store changes no instruction
-past-bodies : (program : List ℕ) (x v i p : ℕ) → p < 16 → 16 * i + p < 128 → instructionIn (set program (512 + x) v) i p ≡ instructionIn program i p
+past-bodies : (program : List ℕ) (x v i p : ℕ) → p < 16 → 16 * i + p < 128
+    → instructionIn (set program (512 + x) v) i p ≡ instructionIn program i p
 unfolding instructionIn
 past-bodies program x v i p low lt =
     let off : (k : ℕ) → k < 512 → getD (set program (512 + x) v) k 0 ≡ getD program k 0 = λ k below. getD-set-other program (512 + x) k v 0 (λ e. omega arith) in
@@ -214,7 +218,8 @@ pub times-all : {list : JobList} {n : ℕ} {times : List ℕ} → TimesTo list n
 times-all held enough =
     record { arrivals = λ x lt. held .arrivals x (omega arith); finishes = λ x lt. held .finishes x (omega arith); room = held .room }
 
-pub owners-all : {t : Table} {list : JobList} {n m : ℕ} {program : List ℕ} → OwnersTo t list n program → n ≡ m → OwnersTo t list m program
+pub owners-all : {t : Table} {list : JobList} {n m : ℕ} {program : List ℕ} → OwnersTo t list n program → n ≡ m
+    → OwnersTo t list m program
 owners-all {t} {list} {program = program} owners e = subst (λ (k : ℕ). OwnersTo t list k program) e owners
 
 -- ---- the whole
@@ -229,9 +234,9 @@ unfolding ownerIn
 bodies-none t = record { held = λ i p low lt. absurd (omega arith); unowned = λ x lt. eights (512 + x) 544 (omega arith); room = refl }
 
 -- an instruction of a task's body is the lent one
-body-lent : {a : Accepted} → IsAccepted a → {list : JobList} {n : ℕ} {program : List ℕ} → OwnersTo (a .table) list n program
-    → (i : Task) (p : ℕ) → i .0 < length (tasksOf (a .table)) → p < length (bodyOf (taskOf (a .table) i))
-    → instructionIn program (i .0) p ≡ instructionOf (a .table) i p
+body-lent : {a : Accepted} → IsAccepted a → {list : JobList} {n : ℕ} {program : List ℕ}
+    → OwnersTo (a .table) list n program → (i : Task) (p : ℕ) → i .0 < length (tasksOf (a .table))
+    → p < length (bodyOf (taskOf (a .table) i)) → instructionIn program (i .0) p ≡ instructionOf (a .table) i p
 unfolding instructionOf
 body-lent {a} ok owners i p known inside =
     let shaped = ok .isMade .shaped in
@@ -246,8 +251,8 @@ body-lent {a} ok owners i p known inside =
     ∙ ap (λ (x : TaskEntry). getD (bodyOf x) p endInstruction) same
 
 -- filled from an accepted table's parts, the arrays hold the table
-pub arrays-lent : {a : Accepted} → IsAccepted a → {list : JobList} → list ≡ jobListOf (a .jobs) → {program times : List ℕ}
-    → OwnersTo (a .table) list (list .count) program → TimesTo list 32 times
+pub arrays-lent : {a : Accepted} → IsAccepted a → {list : JobList} → list ≡ jobListOf (a .jobs)
+    → {program times : List ℕ} → OwnersTo (a .table) list (list .count) program → TimesTo list 32 times
     → Lends a program times (record { count = a .table .locks; ceilings = a .table .ceilings })
 unfolding ceilingsOf base jobListOf
 arrays-lent {a} ok {list} listed {program} {times} owners held =

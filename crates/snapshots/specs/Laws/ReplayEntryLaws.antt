@@ -28,7 +28,8 @@ use Rattle.order.specs.Laws.StepLaws.{initial-invariant}
 
 module _ (f : File) (x : AcceptAnswer) (says : AcceptedAs x (accept f)) where
   -- a file that is refused
-  pub answers-refused : (order : List ℕ) {n p : ℕ} → x .check ≡ Refused n p → runAnswer (refused n p) ≡ replayAnswer f order
+  pub answers-refused : (order : List ℕ) {n p : ℕ} → x .check ≡ Refused n p
+      → runAnswer (refused n p) ≡ replayAnswer f order
   unfolding replayAnswer replayed unwritten
   answers-refused order e = sym (ap (λ (c : Checked ℕ End). runAnswer (unwritten c)) (bind-refused _ (accepted-refused x (accept f) says e)))
 
@@ -52,7 +53,8 @@ module _ (f : File) (x : AcceptAnswer) (says : AcceptedAs x (accept f)) where
       replay-answer e = sym (ap (λ (c : Checked ℕ End). runAnswer (unwritten c)) (bind-goes _ (found .1) ∙ e))
 
       -- what a fault of the order comes to
-      outcome-fault : (c : Checked ℕ State) → replayFrom a (initial a) 0 order ≡ c → ReplayedAs r c → (r .number ≡ 0 → ⊥)
+      outcome-fault : (c : Checked ℕ State) → replayFrom a (initial a) 0 order ≡ c → ReplayedAs r c
+          → (r .number ≡ 0 → ⊥)
           → (r .place < 2 ^ 32) × (runAnswer (refused (r .number) (r .place)) ≡ replayAnswer f order)
       unfolding replay unwritten
       outcome-fault (refused n p) e h faulty =

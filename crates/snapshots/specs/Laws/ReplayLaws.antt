@@ -76,11 +76,13 @@ module _ (a : Accepted) (s : State) (index byte : ℕ) (bytes : List ℕ) where
 -- ---- the first snapshot
 
 -- a job of a lower task is passed over
-pub first-on : (program : List ℕ) (k start n : ℕ) → ownerIn program start < k → firstFrom program k start (suc n) ≡ firstFrom program k (suc start) n
+pub first-on : (program : List ℕ) (k start n : ℕ) → ownerIn program start < k
+    → firstFrom program k start (suc n) ≡ firstFrom program k (suc start) n
 unfolding firstFrom
 first-on program k start n h = rw (lt-ltb (ownerIn program start) k h, firstFrom) refl
 
-pub first-stops : (program : List ℕ) (k start n : ℕ) → k ≤ ownerIn program start → firstFrom program k start (suc n) ≡ start
+pub first-stops : (program : List ℕ) (k start n : ℕ) → k ≤ ownerIn program start
+    → firstFrom program k start (suc n) ≡ start
 unfolding firstFrom
 first-stops program k start n h = rw (le-ltb (ownerIn program start) k h, firstFrom) refl
 
@@ -94,7 +96,8 @@ first-from program k start (suc n) =
     ]
 
 -- the first job of task k or above is not above any such job
-first-within : (program : List ℕ) (k x start n : ℕ) → start ≤ x → x < start + n → k ≤ ownerIn program x → firstFrom program k start n ≤ x
+first-within : (program : List ℕ) (k x start n : ℕ) → start ≤ x → x < start + n → k ≤ ownerIn program x
+    → firstFrom program k start n ≤ x
 unfolding firstFrom
 first-within program k x start zero le lt h = omega arith
 first-within program k x start (suc n) le lt h =
@@ -117,7 +120,8 @@ first-beyond program k x start (suc n) le lt h =
 
 module _ {a : Accepted} (ok : IsAccepted a) {program times : List ℕ} {locks : Ceilings} (lends : Lends a program times locks) where
   -- task k's entry
-  first-upcoming : (store : List ℕ) (k : ℕ) → k < 8 → getD (firstSnapshot program store .upcoming) k 0 ≡ firstFrom program k 0 32
+  first-upcoming : (store : List ℕ) (k : ℕ) → k < 8
+      → getD (firstSnapshot program store .upcoming) k 0 ≡ firstFrom program k 0 32
   unfolding firstSnapshot upTo from
   first-upcoming store k lt =
       map-at (λ k. firstFrom program k 0 32) (upTo 8) k 0 0 lt ∙ ap (λ (i : ℕ). firstFrom program i 0 32) (getD-upTo 8 k 0 lt)
@@ -163,8 +167,9 @@ module _ {a : Accepted} (ok : IsAccepted a) {program times : List ℕ} {locks : 
 
   -- one byte keeps the two together
   replay-step : {p : Snapshot} {s : State} → Invariant a s → Shows a p s → (index byte : ℕ) (bytes : List ℕ)
-      → ((after : State) → Invariant a after → Shows a (stepIn program times locks p byte .state) after
-      → ReplayEndsAs a (replayIn program times locks (stepIn program times locks p byte .state) (suc index) bytes) (replayFrom a after (suc index) bytes))
+      → ((after : State) → Invariant a after → Shows a (stepIn program times locks p byte .state) after → ReplayEndsAs
+      a (replayIn program times locks (stepIn program times locks p byte .state) (suc index) bytes)
+      (replayFrom a after (suc index) bytes))
       → ReplayEndsAs a (replayIn program times locks p index (byte ∷ bytes)) (replayFrom a s index (byte ∷ bytes))
   replay-step {p} {s} inv shows index byte bytes onward =
       let same = finished-agreed ok lends inv shows in
@@ -189,7 +194,8 @@ module _ {a : Accepted} (ok : IsAccepted a) {program times : List ℕ} {locks : 
       replay-step inv shows index byte bytes (λ after kept shown. replay-agreed bytes kept shown (suc index))
 
 -- what is kept of an outcome
-pub replay-kept : (a : Accepted) (e : ReplayEnd) (c : Checked ℕ State) → ReplayEndsAs a e c → ReplayedAs (replayedOf e) c
+pub replay-kept : (a : Accepted) (e : ReplayEnd) (c : Checked ℕ State) → ReplayEndsAs a e c
+    → ReplayedAs (replayedOf e) c
 unfolding replayedOf
 replay-kept a e (refused number place) ends = ends
 replay-kept a e (passed s) ends = (ends .0, ends .1, ends .2 .store, ends .2 .failed)
@@ -201,15 +207,16 @@ pub record Fault (a : Accepted) (s : State) (index number place : ℕ) : Type 0 
   pub numbered : 1 ≤ number
   pub near : place ≤ index + left a s
 
-fault-here : {a : Accepted} {s : State} {index n number place : ℕ} → _≡_ {A = Checked ℕ State} (refused n index) (refused number place) → 1 ≤ n
-    → Fault a s index number place
+fault-here : {a : Accepted} {s : State} {index n number place : ℕ}
+    → _≡_ {A = Checked ℕ State} (refused n index) (refused number place) → 1 ≤ n → Fault a s index number place
 fault-here {index = index} {n} {number} {place} same positive =
     let first : n ≡ number = cc in
     let second : index ≡ place = cc in
     record { numbered = omega arith; near = omega arith }
 
 module _ {a : Accepted} (ok : IsAccepted a) where
-  end-fault : (s : State) (index : ℕ) {number place : ℕ} → replayFrom a s index [] ≡ refused number place → Fault a s index number place
+  end-fault : (s : State) (index : ℕ) {number place : ℕ} → replayFrom a s index [] ≡ refused number place
+      → Fault a s index number place
   unfolding replayFrom
   end-fault s index e =
       elim (test-decided (allEnded a s)) [
@@ -218,8 +225,9 @@ module _ {a : Accepted} (ok : IsAccepted a) where
       ]
 
   byte-fault : {s : State} → Invariant a s → (index byte : ℕ) (bytes : List ℕ) {number place : ℕ}
-      → ((after : State) → Invariant a after → replayFrom a after (suc index) bytes ≡ refused number place → Fault a after (suc index) number place)
-      → (o : Option State) → step a s byte ≡ o → replayFrom a s index (byte ∷ bytes) ≡ refused number place → Fault a s index number place
+      → ((after : State) → Invariant a after → replayFrom a after (suc index) bytes ≡ refused number place → Fault a
+      after (suc index) number place) → (o : Option State) → step a s byte ≡ o
+      → replayFrom a s index (byte ∷ bytes) ≡ refused number place → Fault a s index number place
   byte-fault {s} inv index byte bytes later none h e =
       elim (test-decided (allEnded a s)) [
         | inl ended ↦ fault-here (sym (extra a s index byte bytes ended) ∙ e) (omega arith)

@@ -28,7 +28,8 @@ module _ (program : List ℕ) (k x : ℕ) (on : firstFrom program k 0 32 ≡ fir
   first-found lt h = sym (onward lt ∙ first-stops program k x (31 - x) h)
 
   -- one of a lower task is passed over
-  pub first-later : x < 32 → ownerIn program x < k → firstFrom program k 0 32 ≡ firstFrom program k (x + 1) (32 - (x + 1))
+  pub first-later : x < 32 → ownerIn program x < k
+      → firstFrom program k 0 32 ≡ firstFrom program k (x + 1) (32 - (x + 1))
   first-later lt h =
       onward lt ∙ first-on program k x (31 - x) h ∙ ap (λ (n : ℕ). firstFrom program k n (31 - x)) (sym (add-one x))
       ∙ ap (firstFrom program k (x + 1)) (omega arith)
@@ -45,7 +46,8 @@ module _ (program : List ℕ) (p : Snapshot) where
   unfolding finishedIn
   finished-deep deep = sym (and-first (eqb (p .depth) 0) _ (ne-eqb (p .depth) 0 deep))
 
-  pub finished-flat : p .depth ≡ 0 → {b : Bool} → b ≡ any (hasUpcoming program (p .upcoming)) (upTo 8) → not b ≡ finishedIn program p
+  pub finished-flat : p .depth ≡ 0 → {b : Bool} → b ≡ any (hasUpcoming program (p .upcoming)) (upTo 8)
+      → not b ≡ finishedIn program p
   unfolding finishedIn
   finished-flat flat e = ap not e ∙ sym (and-second (eqb (p .depth) 0) _ (eq-eqb (p .depth) 0 flat))
 
@@ -59,7 +61,8 @@ Reached program times locks start order p index =
 module _ (program times : List ℕ) (locks : Ceilings) (start : Snapshot) (order : List ℕ) (p : Snapshot) (index : ℕ)
     (reached : Reached program times locks start order p index) {b : Bool} (finished : b ≡ finishedIn program p) where
   next : index < length order
-      → replayIn program times locks start 0 order ≡ replayIn program times locks p index (getD order index 0 ∷ drop (suc index) order)
+      → replayIn program times locks start 0 order ≡ replayIn program times locks p index
+      (getD order index 0 ∷ drop (suc index) order)
   next lt = reached ∙ ap (replayIn program times locks p index) (drop-cons order index 0 lt)
 
   pub replay-past : index < length order → b ≡ true
@@ -84,7 +87,8 @@ module _ (program times : List ℕ) (locks : Ceilings) (start : Snapshot) (order
   last le = reached ∙ ap (replayIn program times locks p index) (drop-of-length-le order le)
 
   ended : (c : Bool) → finishedIn program p ≡ c
-      → replayIn program times locks p index [] ≡ record { number = if c then 0 else 31; place = if c then 0 else index; state = p }
+      → replayIn program times locks p index [] ≡ record
+      { number = if c then 0 else 31; place = if c then 0 else index; state = p }
   unfolding replayIn
   ended c e = rw e refl
 

@@ -28,7 +28,8 @@ use Rattle.timing.specs.Laws.BaseLaws.{base-rises, base-small}
 -- ---- the lent relations
 
 module _ {a : Accepted} {program times : List ℕ} {locks : Ceilings} (lends : Lends a program times locks) where
-  pub before-lent : (x y : Job) → IsJob a x → IsJob a y → (x .0 ≡ y .0 → ⊥) → beforeIn program times (x .0) (y .0) ≡ before a x y
+  pub before-lent : (x y : Job) → IsJob a x → IsJob a y → (x .0 ≡ y .0 → ⊥)
+      → beforeIn program times (x .0) (y .0) ≡ before a x y
   unfolding beforeIn before
   before-lent x y isX isY apart =
       rw (lends .latest x isX, lends .arrival x isX, lends .arrival y isY, lends .owner x isX, lends .owner y isY)
@@ -51,7 +52,8 @@ module _ {a : Accepted} (ok : IsAccepted a) {program times : List ℕ} {locks : 
   upcoming k = record { 0 = getD (p .upcoming) k 0 }
 
   -- an owned number is a job of that task
-  pub owned-job : (k x : ℕ) → k < 8 → ownedBy program k x ≡ true → IsJob a (record { 0 = x }) × (base a (record { 0 = x }) ≡ k)
+  pub owned-job : (k x : ℕ) → k < 8 → ownedBy program k x ≡ true
+      → IsJob a (record { 0 = x }) × (base a (record { 0 = x }) ≡ k)
   unfolding ownedBy
   owned-job k x lt h =
       let tests = and-both (ltb x 32) _ h in

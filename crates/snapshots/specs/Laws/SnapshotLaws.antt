@@ -63,7 +63,8 @@ module _ {a : Accepted} (ok : IsAccepted a) {program times : List ℕ} {locks : 
     small = omega (arith, base-small ok x isX)
 
     -- its next instruction is the lent one
-    pub instruction-lent : (turn .frame .local .next < 16) × (instructionIn program i (turn .frame .local .next) ≡ nextOf a (turn .frame))
+    pub instruction-lent : (turn .frame .local .next < 16)
+        × (instructionIn program i (turn .frame .local .next) ≡ nextOf a (turn .frame))
     unfolding nextOf base
     instruction-lent =
         let owner = jobAt a x .task in
@@ -96,7 +97,8 @@ module _ {a : Accepted} (ok : IsAccepted a) {program times : List ℕ} {locks : 
       depth-shown true = omega arith
       depth-shown false = omega arith
 
-      full-shown : (b : Bool) → length (if b then p .stack else set (p .stack) under (record { job = x; local = effect .local })) ≡ 8
+      full-shown : (b : Bool)
+          → length (if b then p .stack else set (p .stack) under (record { job = x; local = effect .local })) ≡ 8
       unfolding if_then_else_
       full-shown true = shows .full
       full-shown false = length-set (p .stack) under _ ∙ shows .full
@@ -123,7 +125,8 @@ module _ {a : Accepted} (ok : IsAccepted a) {program times : List ℕ} {locks : 
       begun-other : (y : Job) → (y .0 ≡ x .0 → ⊥) → hasBegun s′ y ≡ hasBegun s y
       begun-other y apart = both-ways _ _ (begun-before ok inv good effect y apart) (begun-stays ok inv good effect y apart)
 
-      begun-shown : (y : Job) → IsJob a y → hasBegun s′ y ≡ ltb (y .0) (getD (set (p .upcoming) i (x .0 + 1)) (base a y) 0)
+      begun-shown : (y : Job) → IsJob a y
+          → hasBegun s′ y ≡ ltb (y .0) (getD (set (p .upcoming) i (x .0 + 1)) (base a y) 0)
       begun-shown y isY =
           elim (ℕ-discrete (base a y) i) [
             | yes same ↦
@@ -136,7 +139,8 @@ module _ {a : Accepted} (ok : IsAccepted a) {program times : List ℕ} {locks : 
                 ∙ ap (λ (n : ℕ). ltb (y .0) n) (sym (getD-set-other (p .upcoming) i (base a y) (x .0 + 1) 0 apart))
           ]
 
-      lowest-shown : (k : ℕ) (y : Job) → k < 8 → IsJob a y → base a y < k → y .0 < getD (set (p .upcoming) i (x .0 + 1)) k 0
+      lowest-shown : (k : ℕ) (y : Job) → k < 8 → IsJob a y → base a y < k
+          → y .0 < getD (set (p .upcoming) i (x .0 + 1)) k 0
       lowest-shown k y lt isY low =
           elim (ℕ-discrete k i) [
             | yes same ↦
@@ -206,7 +210,8 @@ module _ {a : Accepted} (ok : IsAccepted a) {program times : List ℕ} {locks : 
               subst (Agreed byte) (sym is) (λ h. absurd (true≢false (sym h)), λ h. step-of ∙ rw e refl)
         ]
 
-  due-agreed : (byte : ℕ) (d : Due) → Turned ok lends inv shows (byte / 16) d → Agreed byte (dueStep program p (byte / 16) (byte % 16) d)
+  due-agreed : (byte : ℕ) (d : Due) → Turned ok lends inv shows (byte / 16) d
+      → Agreed byte (dueStep program p (byte / 16) (byte % 16) d)
   unfolding dueStep if_then_else_ step bind
   due-agreed byte d turned =
       elim (test-decided (d .due)) [

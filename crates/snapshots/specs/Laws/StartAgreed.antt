@@ -47,7 +47,8 @@ regroup true false false t = refl
 regroup false q r t = refl
 
 -- bases rise along the active jobs, so there are no more of them than bases
-deep : (a : Accepted) (fs : List Frame) → Ordered (Over a) fs → (n : ℕ) → Every (λ f. base a (f .job) < n) fs → length fs ≤ n
+deep : (a : Accepted) (fs : List Frame) → Ordered (Over a) fs → (n : ℕ) → Every (λ f. base a (f .job) < n) fs
+    → length fs ≤ n
 deep a [] stacked n below = omega arith
 deep a (f ∷ fs) stacked n below =
     omega (
@@ -87,7 +88,8 @@ module _ {a : Accepted} (ok : IsAccepted a) {program times : List ℕ} {locks : 
         (owned .0, owned .1, sym (before-lent lends (upcoming k) y (owned .0) isY apart) ∙ parts .1)
 
     -- if all that comes before y has ended, it waits for none
-    pub no-wait : ((x : Job) → IsJob a x → before a x y ≡ true → hasEnded s x ≡ true) → waits program times (p .upcoming) (y .0) ≡ false
+    pub no-wait : ((x : Job) → IsJob a x → before a x y ≡ true → hasEnded s x ≡ true)
+        → waits program times (p .upcoming) (y .0) ≡ false
     unfolding waits upTo from
     no-wait preceded =
         at-none (waitsFor program times (p .upcoming) (y .0)) (upTo 8) 0
@@ -116,13 +118,15 @@ module _ {a : Accepted} (ok : IsAccepted a) {program times : List ℕ} {locks : 
         (ap not (ne-eqb (u .0) (y .0) apart)))
         (before-lent lends u y (first .1) isY apart ∙ earlier-too ok u x y (first .0) isX (first .2) apart h)
 
-    for-none : waits program times (p .upcoming) (y .0) ≡ false → (k : ℕ) → k < 8 → waitsFor program times (p .upcoming) (y .0) k ≡ false
+    for-none : waits program times (p .upcoming) (y .0) ≡ false → (k : ℕ) → k < 8
+        → waitsFor program times (p .upcoming) (y .0) k ≡ false
     unfolding waits upTo from
     for-none free k lt =
         ap (waitsFor program times (p .upcoming) (y .0)) (sym (getD-upTo 8 k 0 lt))
         ∙ none-at (waitsFor program times (p .upcoming) (y .0)) (upTo 8) k 0 free lt
 
-    over-active : all (λ f. mayPreempt a y (f .job)) (s .active) ≡ true → (x : Job) → before a x y ≡ true → isActive s x ≡ true → ⊥
+    over-active : all (λ f. mayPreempt a y (f .job)) (s .active) ≡ true → (x : Job) → before a x y ≡ true
+        → isActive s x ≡ true → ⊥
     unfolding isActive
     over-active over x h active =
         let found = any-at (λ f. eqb (f .job .0) (x .0)) (s .active) noFrame active in
@@ -131,8 +135,9 @@ module _ {a : Accepted} (ok : IsAccepted a) {program times : List ℕ} {locks : 
         before-or-preempted a x y h (ap (λ (n : ℕ). mayPreempt a y (record { 0 = n })) (sym same) ∙ may)
 
     -- and the other way round, if it may preempt every active job
-    pub wait-all : waits program times (p .upcoming) (y .0) ≡ false → all (λ f. mayPreempt a y (f .job)) (s .active) ≡ true
-        → (x : Job) → IsJob a x → before a x y ≡ true → hasEnded s x ≡ true
+    pub wait-all : waits program times (p .upcoming) (y .0) ≡ false
+        → all (λ f. mayPreempt a y (f .job)) (s .active) ≡ true → (x : Job) → IsJob a x → before a x y ≡ true
+        → hasEnded s x ≡ true
     unfolding hasBegun
     wait-all free over x isX h = elim (test-decided (hasEnded s x)) [
       | inl ended ↦ ended
@@ -153,8 +158,8 @@ module _ {a : Accepted} (ok : IsAccepted a) {program times : List ℕ} {locks : 
         (regroup (mayPreempt a y (f .job)) _ _ _)
 
     -- the job goes over every active one
-    goes-over-all : all (goesOver program times locks (y .0)) (stackOf p)
-        ≡ (all (λ f. mayPreempt a y (f .job)) (s .active) && all (λ f. ltb (presentPriority a f) (base a y)) (s .active))
+    goes-over-all : all (goesOver program times locks (y .0)) (stackOf p) ≡ (all (λ f. mayPreempt a y (f .job))
+        (s .active) && all (λ f. ltb (presentPriority a f) (base a y)) (s .active))
     goes-over-all =
         sym (all-reverse _ (stackOf p)) ∙ ap (all (goesOver program times locks (y .0))) (sym (shows .active))
         ∙ over-each (s .active) (inv .running)

@@ -28,7 +28,8 @@ module _ {A : Type 0} (test : A → Bool) (d : A) (l : List A) (k n : ℕ) where
       let inside : k < length (take n l) = rw (length-take-le n l fits) h in
       rw (add-one, drop-cons (take n l) k d inside, getD-take n l k d h) refl
 
-  pub all-fails : k < n → n ≤ length l → (b : Bool) → b ≡ test (getD l k d) → not b ≡ true → all test (drop k (take n l)) ≡ false
+  pub all-fails : k < n → n ≤ length l → (b : Bool) → b ≡ test (getD l k d) → not b ≡ true
+      → all test (drop k (take n l)) ≡ false
   unfolding all
   all-fails h fits b same fails = rw (more-front h fits) (and-first (test (getD l k d)) _ (sym same ∙ not-true b fails))
 
@@ -141,7 +142,8 @@ module _ (program : Program) (times : LentTimes) (locks : Ceilings) (p : Snapsho
   unfolding startsIn
   starts-unowned h = five-third (ltb i 8) (ltb (p .depth) 8) (ownedBy program i y) _ _ h
 
-  pub starts-waiting : waits program times (p .upcoming) (getD (p .upcoming) i 0) ≡ true → startsIn program times locks p i ≡ false
+  pub starts-waiting : waits program times (p .upcoming) (getD (p .upcoming) i 0) ≡ true
+      → startsIn program times locks p i ≡ false
   unfolding startsIn
   starts-waiting h =
       five-fourth (ltb i 8) (ltb (p .depth) 8) (ownedBy program i y) (not (waits program times (p .upcoming) y)) _ (ap not h)
@@ -159,7 +161,7 @@ module _ (program : Program) (times : LentTimes) (locks : Ceilings) (p : Snapsho
   start-none h = rw h refl
 
   pub start-due : startsIn program times locks p i ≡ true
-      → startIn program times locks p i
-      ≡ record { due = true; frame = record { job = record { 0 = getD (p .upcoming) i 0 }; local = fresh }; under = p .depth }
+      → startIn program times locks p i ≡ record
+      { due = true; frame = record { job = record { 0 = getD (p .upcoming) i 0 }; local = fresh }; under = p .depth }
   unfolding startIn if_then_else_
   start-due h = rw h refl

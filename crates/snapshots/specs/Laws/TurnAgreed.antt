@@ -116,7 +116,8 @@ module _ {a : Accepted} (ok : IsAccepted a) {program times : List ℕ} {locks : 
   unfolding turnOf turnAmong
   turn-none-active i none-there = ap (turnAmong a s i) (no-active none-there)
 
-  runs-turned : (i : ℕ) → runsIn program p i ≡ true → Turned i (record { due = true; frame = topOf p; under = p .depth - 1 })
+  runs-turned : (i : ℕ) → runsIn program p i ≡ true
+      → Turned i (record { due = true; frame = topOf p; under = p .depth - 1 })
   unfolding runsIn if_then_else_ topTurn
   runs-turned i h =
       let tests = and-both (ltb i 8 && ltb 0 (p .depth)) _ h in

@@ -29,7 +29,8 @@ module _ (program : List ℕ) (p : Snapshot) (i : ℕ) where
   unfolding runsIn
   runs-flat h = sym (and-first (ltb i 8 && ltb 0 (p .depth)) _ (and-last (ltb i 8) _ (le-ltb 0 (p .depth) (omega arith))))
 
-  pub runs-top : i < 8 → (p .depth ≡ 0 → ⊥) → {b : Bool} → b ≡ ownedBy program i (topOf p .job .0) → b ≡ runsIn program p i
+  pub runs-top : i < 8 → (p .depth ≡ 0 → ⊥) → {b : Bool} → b ≡ ownedBy program i (topOf p .job .0)
+      → b ≡ runsIn program p i
   unfolding runsIn
   runs-top small deep e =
       e ∙ sym (and-second (ltb i 8 && ltb 0 (p .depth)) _ (and-holds (ltb i 8) _ (lt-ltb i 8 small) (lt-ltb 0 (p .depth) (omega arith))))
@@ -130,8 +131,8 @@ module _ (program times : List ℕ) (locks : Ceilings) (p : Snapshot) (byte : �
       sym stays ∙ step-of
 
   -- else the job that is due steps
-  pub step-due : not (d .due) ≡ false → {r : Stepped} → r ≡ stepWithIn program p (d .frame) (d .under) (byte / 16) (byte % 16)
-      → r ≡ stepIn program times locks p byte
+  pub step-due : not (d .due) ≡ false → {r : Stepped}
+      → r ≡ stepWithIn program p (d .frame) (d .under) (byte / 16) (byte % 16) → r ≡ stepIn program times locks p byte
   unfolding dueStep if_then_else_
   step-due h made =
       let goes : dueStep program p (byte / 16) (byte % 16) d ≡ stepWithIn program p (d .frame) (d .under) (byte / 16) (byte % 16) =

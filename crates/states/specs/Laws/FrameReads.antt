@@ -19,13 +19,13 @@ read-from l at n = ap (λ (b : ℕ). b ∷ map (λ k. getD l (at + k) 0) (from 1
 
 -- bytes read one by one
 pub eight-read : (l : List ℕ) (at : ℕ)
-    → getD l at 0 ∷ getD l (at + 1) 0 ∷ getD l (at + 2) 0 ∷ getD l (at + 3) 0 ∷ getD l (at + 4) 0 ∷ getD l (at + 5) 0 ∷ getD l (at + 6) 0
-    ∷ getD l (at + 7) 0 ∷ []
-    ≡ bytesAt l at 8
+    → getD l at 0 ∷ getD l (at + 1) 0 ∷ getD l (at + 2) 0 ∷ getD l (at + 3) 0 ∷ getD l (at + 4) 0 ∷ getD l (at + 5) 0
+    ∷ getD l (at + 6) 0 ∷ getD l (at + 7) 0 ∷ [] ≡ bytesAt l at 8
 unfolding readFrom from
 eight-read l at = read-from l at 7
 
-four-read : (l : List ℕ) (at : ℕ) → getD l (at + 4) 0 ∷ getD l (at + 5) 0 ∷ getD l (at + 6) 0 ∷ getD l (at + 7) 0 ∷ [] ≡ bytesAt l (at + 4) 4
+four-read : (l : List ℕ) (at : ℕ)
+    → getD l (at + 4) 0 ∷ getD l (at + 5) 0 ∷ getD l (at + 6) 0 ∷ getD l (at + 7) 0 ∷ [] ≡ bytesAt l (at + 4) 4
 unfolding bytesAt upTo from
 four-read l at =
     let first : at + 4 ≡ at + 4 + 0 = omega arith in

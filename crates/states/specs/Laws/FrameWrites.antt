@@ -16,13 +16,15 @@ use Rattle.notation.specs.Laws.TabulateLaws.{values-of, same-values}
 -- a frame is known by its parts
 frame-is : (bytes : List ℕ) (k : ℕ) (f : Frame) → getD bytes (frameAt k) 0 ≡ f .job .0
     → getD bytes (frameAt k + 2) 0 + 256 * getD bytes (frameAt k + 3) 0 ≡ f .local .next
-    → bytesAt bytes (frameAt k + 4) 4 ≡ f .local .registers → bytesAt bytes (frameAt k + 8) 8 ≡ f .local .held → frameIn bytes k ≡ f
+    → bytesAt bytes (frameAt k + 4) 4 ≡ f .local .registers → bytesAt bytes (frameAt k + 8) 8 ≡ f .local .held
+    → frameIn bytes k ≡ f
 unfolding frameIn
 frame-is bytes k f job next registers held =
     λ t. record { job = record { 0 = job t }; local = record { next = next t; registers = registers t; held = held t } }
 
 -- bytes that are the same hold the same frame
-pub frame-same : (before after : List ℕ) (k : ℕ) → ((j : ℕ) → frameAt k ≤ j → j < frameAt k + 16 → getD after j 0 ≡ getD before j 0)
+pub frame-same : (before after : List ℕ) (k : ℕ)
+    → ((j : ℕ) → frameAt k ≤ j → j < frameAt k + 16 → getD after j 0 ≡ getD before j 0)
     → frameIn after k ≡ frameIn before k
 unfolding frameIn
 frame-same before after k same =
@@ -38,7 +40,8 @@ unfoldable pub ownBytes : ℕ → ℕ → ℕ → List ℕ → List ℕ
 ownBytes x low high registers =
     x ∷ 0 ∷ low ∷ high ∷ getD registers 0 0 ∷ getD registers 1 0 ∷ getD registers 2 0 ∷ getD registers 3 0 ∷ []
 
-own-register : (x low high : ℕ) (registers : List ℕ) (k : ℕ) → k < 4 → getD (ownBytes x low high registers) (4 + k) 0 ≡ getD registers k 0
+own-register : (x low high : ℕ) (registers : List ℕ) (k : ℕ) → k < 4
+    → getD (ownBytes x low high registers) (4 + k) 0 ≡ getD registers k 0
 unfolding ownBytes
 own-register x low high registers zero lt = refl
 own-register x low high registers (suc zero) lt = refl
@@ -47,9 +50,11 @@ own-register x low high registers (suc (suc (suc zero))) lt = refl
 own-register x low high registers (suc (suc (suc (suc k)))) lt = absurd (omega arith)
 
 -- these written, and then its locks, it is the active job at position k
-pub frame-written : (before own after : List ℕ) (k : ℕ) (x : Job) (local : Local) (low high : ℕ) → low + 256 * high ≡ local .next
-    → length (local .registers) ≡ 4 → length (local .held) ≡ 8 → Replaced before own (64 + 16 * k) (ownBytes (x .0) low high (local .registers))
-    → Replaced own after (64 + 16 * k + 8) (local .held) → FrameReplaced before after k (record { job = x; local = local })
+pub frame-written : (before own after : List ℕ) (k : ℕ) (x : Job) (local : Local) (low high : ℕ)
+    → low + 256 * high ≡ local .next → length (local .registers) ≡ 4 → length (local .held) ≡ 8
+    → Replaced before own (64 + 16 * k) (ownBytes (x .0) low high (local .registers))
+    → Replaced own after (64 + 16 * k + 8) (local .held)
+    → FrameReplaced before after k (record { job = x; local = local })
 unfolding frameAt ownBytes bytesAt
 frame-written before own after k x local low high next four eight first second = record {
   same = second .same ∙ first .same;
@@ -74,8 +79,10 @@ frame-written before own after k x local low high next four eight first second =
     read j lt = second .outside (64 + 16 * k + j) (inl (omega arith)) ∙ first .inside j lt
 
 -- the low byte of its next position first
-pub frame-put : (before own after : List ℕ) (k : ℕ) (x : Job) (local : Local) → length (local .registers) ≡ 4 → length (local .held) ≡ 8
+pub frame-put : (before own after : List ℕ) (k : ℕ) (x : Job) (local : Local) → length (local .registers) ≡ 4
+    → length (local .held) ≡ 8
     → Replaced before own (64 + 16 * k) (ownBytes (x .0) (local .next % 256) (local .next / 256) (local .registers))
-    → Replaced own after (64 + 16 * k + 8) (local .held) → FrameReplaced before after k (record { job = x; local = local })
+    → Replaced own after (64 + 16 * k + 8) (local .held)
+    → FrameReplaced before after k (record { job = x; local = local })
 frame-put before own after k x local four eight first second =
     frame-written before own after k x local (local .next % 256) (local .next / 256) (omega arith) four eight first second

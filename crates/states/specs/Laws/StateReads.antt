@@ -63,8 +63,8 @@ module _ (bytes : List ℕ) where
     top-is deep = rw depth-is (stack-at (getD bytes 48 0 - 1) beyond (omega arith))
 
 -- whether a task's first job not yet begun is one of the task
-pub upcoming-owned : (program bytes : List ℕ) (i : ℕ) → i < 8 → {b : Bool} → b ≡ ownedBy program i (getD bytes (8 + i) 0)
-    → b ≡ ownedBy program i (getD (snapshotIn bytes .upcoming) i 0)
+pub upcoming-owned : (program bytes : List ℕ) (i : ℕ) → i < 8 → {b : Bool}
+    → b ≡ ownedBy program i (getD bytes (8 + i) 0) → b ≡ ownedBy program i (getD (snapshotIn bytes .upcoming) i 0)
 upcoming-owned program bytes i lt e = e ∙ ap (ownedBy program i) (sym (upcoming-at bytes i 0 lt))
 
 -- ---- what a job waits for
@@ -80,8 +80,9 @@ module _ (program times bytes : List ℕ) (y k : ℕ) (small : k < 8) where
   pub waits-itself : getD bytes (8 + k) 0 ≡ y → false ≡ waitsFor program times (snapshotIn bytes .upcoming) y k
   waits-itself h = sym (start.waits-itself program times _ y k (upcoming-at bytes k 0 small ∙ h))
 
-  pub waits-other : {b : Bool} → b ≡ ownedBy program k (getD bytes (8 + k) 0) → not b ≡ false → (getD bytes (8 + k) 0 ≡ y → ⊥) → {r : Bool}
-      → r ≡ beforeIn program times (getD bytes (8 + k) 0) y → r ≡ waitsFor program times (snapshotIn bytes .upcoming) y k
+  pub waits-other : {b : Bool} → b ≡ ownedBy program k (getD bytes (8 + k) 0) → not b ≡ false
+      → (getD bytes (8 + k) 0 ≡ y → ⊥) → {r : Bool} → r ≡ beforeIn program times (getD bytes (8 + k) 0) y
+      → r ≡ waitsFor program times (snapshotIn bytes .upcoming) y k
   waits-other {b} owned h apart before =
       let e = upcoming-at bytes k 0 small in
       before ∙ ap (λ (n : ℕ). beforeIn program times n y) (sym e)
@@ -95,9 +96,10 @@ owned-read program k x {b} owned h = start.owned-job program k x (sym owned ∙ 
 
 module _ (program times : List ℕ) (locks : Ceilings) (bytes : List ℕ) (y k : ℕ) where
   -- a job that may preempt the active job at position k starts over it if its base is above the present priority
-  pub over-priority : getD bytes (64 + 16 * k) 0 < 32 → {b : Bool} → b ≡ preemptsIn program times y (getD bytes (64 + 16 * k) 0) → not b ≡ false
-      → {held : List ℕ} → held ≡ bytesAt bytes (64 + 16 * k + 8) 8
-      → {r : ℕ} → r ≡ priority (take (locks .count) (locks .ceilings)) (getD program (512 + getD bytes (64 + 16 * k) 0) 0) held
+  pub over-priority : getD bytes (64 + 16 * k) 0 < 32 → {b : Bool}
+      → b ≡ preemptsIn program times y (getD bytes (64 + 16 * k) 0) → not b ≡ false → {held : List ℕ}
+      → held ≡ bytesAt bytes (64 + 16 * k + 8) 8 → {r : ℕ}
+      → r ≡ priority (take (locks .count) (locks .ceilings)) (getD program (512 + getD bytes (64 + 16 * k) 0) 0) held
       → ltb r (getD program (512 + y) 0) ≡ goesOver program times locks y (frameIn bytes k)
   unfolding frameIn frameAt ownerIn
   over-priority job {b} preempts h locked {r} made =
@@ -144,7 +146,8 @@ module _ (program times : List ℕ) (locks : Ceilings) (bytes : List ℕ) (i : �
     first : getD (snapshotIn bytes .upcoming) i 0 ≡ getD bytes (8 + i) 0
     first = upcoming-at bytes i 0 small
 
-    owns : {b : Bool} → b ≡ ownedBy program i (getD bytes (8 + i) 0) → ownedBy program i (getD (snapshotIn bytes .upcoming) i 0) ≡ b
+    owns : {b : Bool} → b ≡ ownedBy program i (getD bytes (8 + i) 0)
+        → ownedBy program i (getD (snapshotIn bytes .upcoming) i 0) ≡ b
     owns owned = ap (ownedBy program i) first ∙ sym owned
 
     waiting : {b : Bool} → b ≡ waits program times (snapshotIn bytes .upcoming) (getD bytes (8 + i) 0)
@@ -155,13 +158,13 @@ module _ (program times : List ℕ) (locks : Ceilings) (bytes : List ℕ) (i : �
         → false ≡ startsIn program times locks (snapshotIn bytes) i
     starts-unowned {b} owned h = sym (start.starts-unowned program times locks (snapshotIn bytes) i (owns owned ∙ not-true b h))
 
-    pub starts-waiting : {b : Bool} → b ≡ waits program times (snapshotIn bytes .upcoming) (getD bytes (8 + i) 0) → b ≡ true
-        → false ≡ startsIn program times locks (snapshotIn bytes) i
+    pub starts-waiting : {b : Bool} → b ≡ waits program times (snapshotIn bytes .upcoming) (getD bytes (8 + i) 0)
+        → b ≡ true → false ≡ startsIn program times locks (snapshotIn bytes) i
     starts-waiting wait h = sym (start.starts-waiting program times locks (snapshotIn bytes) i (waiting wait ∙ h))
 
-    pub starts-over : getD bytes 48 0 < 8 → {b : Bool} → b ≡ ownedBy program i (getD bytes (8 + i) 0) → not b ≡ false → {w : Bool}
-        → w ≡ waits program times (snapshotIn bytes .upcoming) (getD bytes (8 + i) 0) → w ≡ false → {r : Bool}
-        → r ≡ all (goesOver program times locks (getD bytes (8 + i) 0)) (stackOf (snapshotIn bytes))
+    pub starts-over : getD bytes 48 0 < 8 → {b : Bool} → b ≡ ownedBy program i (getD bytes (8 + i) 0) → not b ≡ false
+        → {w : Bool} → w ≡ waits program times (snapshotIn bytes .upcoming) (getD bytes (8 + i) 0) → w ≡ false
+        → {r : Bool} → r ≡ all (goesOver program times locks (getD bytes (8 + i) 0)) (stackOf (snapshotIn bytes))
         → r ≡ startsIn program times locks (snapshotIn bytes) i
     starts-over room {b} owned h wait free made =
         made
@@ -227,8 +230,9 @@ module _ (program : List ℕ) (f : Frame) (i v : ℕ) where
   unfolding offeredIn
   offered-past h = sym (and-first (ltb (f .local .next) 16) _ (le-ltb _ 16 h))
 
-  pub offered-read : f .local .next < 16 → {instruction : Instruction} → instruction ≡ instructionIn program i (f .local .next) → {b : Bool}
-      → b ≡ member v (values instruction) → b ≡ offeredIn program f i v
+  pub offered-read : f .local .next < 16 → {instruction : Instruction}
+      → instruction ≡ instructionIn program i (f .local .next) → {b : Bool} → b ≡ member v (values instruction)
+      → b ≡ offeredIn program f i v
   unfolding offeredIn
   offered-read inside read offer =
       offer ∙ ap (λ (n : Instruction). member v (values n)) read ∙ sym (and-second (ltb (f .local .next) 16) _ (lt-ltb _ 16 inside))

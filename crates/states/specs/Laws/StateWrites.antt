@@ -30,7 +30,8 @@ written-next before now at new k done lt room = record {
     more : length (take (k + 1) new) ≡ k + 1
     more = length-take-le (k + 1) new (omega arith)
 
-    inside : (j : ℕ) → j < length (take (k + 1) new) → getD (set now (at + k) (getD new k 0)) (at + j) 0 ≡ getD (take (k + 1) new) j 0
+    inside : (j : ℕ) → j < length (take (k + 1) new)
+        → getD (set now (at + k) (getD new k 0)) (at + j) 0 ≡ getD (take (k + 1) new) j 0
     inside j few =
         elim (ℕ-discrete j k) [
           | yes same ↦
@@ -50,14 +51,15 @@ pub written-none : (before : List ℕ) (at : ℕ) (new : List ℕ) → Replaced 
 written-none before at new = record { same = refl; inside = λ k few. absurd (omega arith); outside = λ k away. refl }
 
 -- and all of them
-pub written-all : (before now : List ℕ) (at : ℕ) (new : List ℕ) (k : ℕ) → Replaced before now at (take k new) → length new ≤ k
-    → Replaced before now at new
+pub written-all : (before now : List ℕ) (at : ℕ) (new : List ℕ) (k : ℕ) → Replaced before now at (take k new)
+    → length new ≤ k → Replaced before now at new
 written-all before now at new k done all = subst (Replaced before now at) (take-all k new all) done
 
 -- ---- what stands where
 
 -- the new bytes stand where they were written
-pub bytes-new : (before after : List ℕ) (at : ℕ) (new : List ℕ) (n : ℕ) → length new ≡ n → Replaced before after at new → bytesAt after at n ≡ new
+pub bytes-new : (before after : List ℕ) (at : ℕ) (new : List ℕ) (n : ℕ) → length new ≡ n
+    → Replaced before after at new → bytesAt after at n ≡ new
 unfolding bytesAt
 bytes-new before after at new n whole done =
     same-values (λ k. getD after (at + k) 0) (λ k. getD new k 0) n (λ k lt. done .inside k (omega arith)) ∙ values-of new n whole
@@ -71,7 +73,8 @@ bytes-same before after at n same =
 
 -- one byte of them written
 pub bytes-set : (before after : List ℕ) (at n i v : ℕ) → getD after (at + i) 0 ≡ v
-    → ((k : ℕ) → at ≤ k → k < at + n → (k ≡ at + i → ⊥) → getD after k 0 ≡ getD before k 0) → bytesAt after at n ≡ set (bytesAt before at n) i v
+    → ((k : ℕ) → at ≤ k → k < at + n → (k ≡ at + i → ⊥) → getD after k 0 ≡ getD before k 0)
+    → bytesAt after at n ≡ set (bytesAt before at n) i v
 unfolding bytesAt
 bytes-set before after at n i v here same =
     set-values (λ k. getD after (at + k) 0) (λ k. getD before (at + k) 0) n i v here

@@ -88,8 +88,8 @@ module _ {before noted : List ℕ} {x : Job} {i : ℕ} {effect : Effect} (whole 
   -- the bytes below 48 kept, the rest as it should be
   made : (after : List ℕ) → ((k : ℕ) → k < 48 → getD after k 0 ≡ getD noted k 0)
       → getD after 48 0 ≡ (if effect .ended then under else under + 1)
-      → map (frameIn after) (upTo 8)
-      ≡ (if effect .ended then map (frameIn before) (upTo 8) else set (map (frameIn before) (upTo 8)) under (record { job = x; local = effect .local }))
+      → map (frameIn after) (upTo 8) ≡ (if effect .ended then map (frameIn before) (upTo 8) else set
+      (map (frameIn before) (upTo 8)) under (record { job = x; local = effect .local }))
       → snapshotIn after ≡ afterIn (snapshotIn before) x under i effect
   unfolding snapshotIn afterIn flagIn
   made after low depth stack =
@@ -137,5 +137,6 @@ module _ {before noted : List ℕ} {x : Job} {i : ℕ} {effect : Effect} (whole 
       depth : getD after 48 0 ≡ under + 1
       depth = placed .outside 48 (inl (omega arith)) ∙ getD-set-same noted 48 (under + 1) 0 (omega (arith, n .same))
 
-      away : (k j : ℕ) → (k ≡ under → ⊥) → frameAt k ≤ j → j < frameAt k + 16 → (j < frameAt under) ⊎ (frameAt under + 16 ≤ j)
+      away : (k j : ℕ) → (k ≡ under → ⊥) → frameAt k ≤ j → j < frameAt k + 16
+          → (j < frameAt under) ⊎ (frameAt under + 16 ≤ j)
       away k j apart low high = elim (decLt k under) [ yes lower ↦ inl (omega arith) | no other ↦ inr (omega arith) ]

@@ -20,11 +20,10 @@ use Rattle.snapshots.specs.Laws.StepPartLaws.{with-offered, with-refused}
 use Rattle.states.specs.Laws.FrameReads.{eight-read}
 
 -- what an instruction makes of the store read byte by byte
-pub made-so : (program bytes : List ℕ) (f : Frame) (under i v : ℕ) {instruction : Instruction} {effect : Effect} {q : Snapshot}
-    → instruction ≡ instructionIn program i (f .local .next)
-    → effect
-    ≡ perform instruction v (f .local)
-    (getD bytes 0 0 ∷ getD bytes 1 0 ∷ getD bytes 2 0 ∷ getD bytes 3 0 ∷ getD bytes 4 0 ∷ getD bytes 5 0 ∷ getD bytes 6 0 ∷ getD bytes 7 0 ∷ [])
+pub made-so : (program bytes : List ℕ) (f : Frame) (under i v : ℕ) {instruction : Instruction} {effect : Effect}
+    {q : Snapshot} → instruction ≡ instructionIn program i (f .local .next)
+    → effect ≡ perform instruction v (f .local) (getD bytes 0 0 ∷ getD bytes 1 0 ∷ getD bytes 2 0 ∷ getD bytes 3 0
+    ∷ getD bytes 4 0 ∷ getD bytes 5 0 ∷ getD bytes 6 0 ∷ getD bytes 7 0 ∷ [])
     → q ≡ afterIn (snapshotIn bytes) (f .job) under i effect → q ≡ madeIn program (snapshotIn bytes) f under i v
 unfolding madeIn snapshotIn
 made-so program bytes f under i v {instruction} read done after =
@@ -45,7 +44,8 @@ module _ (program times : List ℕ) (locks : Ceilings) (bytes : List ℕ) (byte 
   Is allowed state =
       (allowed ≡ stepIn program times locks (snapshotIn bytes) byte .allowed) × (state ≡ stepIn program times locks (snapshotIn bytes) byte .state)
 
-  parts : {allowed : Bool} {state : Snapshot} → record { allowed = allowed; state = state } ≡ stepIn program times locks (snapshotIn bytes) byte
+  parts : {allowed : Bool} {state : Snapshot}
+      → record { allowed = allowed; state = state } ≡ stepIn program times locks (snapshotIn bytes) byte
       → Is allowed state
   parts e = (ap (λ (r : Stepped). r .allowed) e, ap (λ (r : Stepped). r .state) e)
 
@@ -62,7 +62,8 @@ module _ (program times : List ℕ) (locks : Ceilings) (bytes : List ℕ) (byte 
         (sym (with-refused program (snapshotIn bytes) (d .frame) (d .under) (byte / 16) (byte % 16) (sym offer ∙ not-true b h))))
 
     -- it is
-    pub step-made : not b ≡ false → {q : Snapshot} → q ≡ madeIn program (snapshotIn bytes) (d .frame) (d .under) (byte / 16) (byte % 16) → Is true q
+    pub step-made : not b ≡ false → {q : Snapshot}
+        → q ≡ madeIn program (snapshotIn bytes) (d .frame) (d .under) (byte / 16) (byte % 16) → Is true q
     step-made h made =
         parts
         (step-due program times locks (snapshotIn bytes) byte is due

@@ -32,7 +32,8 @@ module _ (seen : List Bool) (reached : List ℕ) (marked : seen ≡ marks reache
         noneOf-upTo 6 (λ k. not (member k reached)) n r below (λ k h. reached-at k true (omega arith) (before k h))
         (reached-at r false (omega arith) here)
 
-    pub stray-none : ((k : ℕ) → k < n → getD seen k false ≡ true) → noneOf 6 (λ k. not (member k reached)) (upTo n) ≡ passed tt
+    pub stray-none : ((k : ℕ) → k < n → getD seen k false ≡ true)
+        → noneOf 6 (λ k. not (member k reached)) (upTo n) ≡ passed tt
     stray-none all =
         noneOf-upTo-none 6 (λ k. not (member k reached)) n (λ k h. reached-at k true (omega arith) (all k h))
 
@@ -66,7 +67,8 @@ module _ (kind : Kind) (allowed : ℕ) (f : File) (again : Bool) (holder index :
     unfolding follow
     follow-again e = require-fails _ 3 holder _ (rw (lt-ltb index (records f) inside, e))
 
-    follow-inside : again ≡ false → follow kind allowed f again holder index ≡ _>>_ (require (ltb 0 allowed) 5 index) (recordOf kind f index)
+    follow-inside : again ≡ false
+        → follow kind allowed f again holder index ≡ _>>_ (require (ltb 0 allowed) 5 index) (recordOf kind f index)
     unfolding follow
     follow-inside e = require-holds _ 3 holder _ (rw (lt-ltb index (records f) inside, e))
 

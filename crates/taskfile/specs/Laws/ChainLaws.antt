@@ -95,7 +95,8 @@ site-record f (AtInstruction i p) h =
     ∙ linked-at f mostInstructions (byteAt f (linkAfter f (byteAt f 0 2) (i .0)) 2) p 0 (h .1)
 
 -- the arrays of a table hold what the chains spell
-pub tasks-held : (f : File) (c : Chains) → length (c .tasks) ≤ mostTasks → tasksOf (tableAt f c) ≡ map (entryAt f) (c .tasks)
+pub tasks-held : (f : File) (c : Chains) → length (c .tasks) ≤ mostTasks
+    → tasksOf (tableAt f c) ≡ map (entryAt f) (c .tasks)
 unfolding tasksOf tableAt
 tasks-held f c h = padded-held mostTasks noTask (entryAt f) (c .tasks) h
 

@@ -34,8 +34,8 @@ module _ {A : Type 0} (all : A → List ℕ) (count : A → ℕ) (x : Chained) (
       → x .seen ≡ marks (all a ++ reached) → ChainedAs all count x reached c
   chained-passed c e h k m = rw e (h, k, m)
 
-  refused-chained : (c : Checked ℕ A) {number place : ℕ} → ChainedAs all count x reached c → x .check ≡ Refused number place
-      → c ≡ refused number place
+  refused-chained : (c : Checked ℕ A) {number place : ℕ} → ChainedAs all count x reached c
+      → x .check ≡ Refused number place → c ≡ refused number place
   refused-chained (refused n p) h e = cc
   refused-chained (passed a) h e = absurd (let z : _≡_ {A = ℕ} 0 1 = cc in omega arith)
 
@@ -95,14 +95,16 @@ module _ (kind : Kind) (allowed : ℕ) (f : File) (seen : List Bool) (holder ind
           (step-passed kind allowed f seen holder index step followed byte reached marked passes)
           ∙ rw (← next-is)
 
-      pub chain-breaks : {number place : ℕ} → rest .check ≡ Refused number place → (x : Chained) → x .check ≡ rest .check
-          → (reached : List ℕ) → seen ≡ marks reached → ChainRead x kind allowed f reached holder index
+      pub chain-breaks : {number place : ℕ} → rest .check ≡ Refused number place → (x : Chained)
+          → x .check ≡ rest .check → (reached : List ℕ) → seen ≡ marks reached
+          → ChainRead x kind allowed f reached holder index
       chain-breaks e x same reached marked =
           let others = refused-chained _ _ rest _ _ (read (index ∷ reached) (marks-more seen reached index byte marked)) e in
           chained-refused _ _ x reached _ (chain-on reached marked ∙ bind-refused _ others) (same ∙ e)
 
       pub chain-longer : rest .check ≡ Passed → (reached : List ℕ) → seen ≡ marks reached
-          → ChainRead (record { check = Passed; count = rest .count + 1; seen = rest .seen }) kind allowed f reached holder index
+          → ChainRead (record { check = Passed; count = rest .count + 1; seen = rest .seen }) kind allowed f reached
+          holder index
       chain-longer e reached marked =
           let others = passed-chained _ _ rest _ _ (read (index ∷ reached) (marks-more seen reached index byte marked)) e in
           chained-passed _ _ _ reached _ (chain-on reached marked ∙ bind-goes _ (others .1)) refl (omega (arith, others .2))
@@ -118,7 +120,8 @@ module _ (f : File) (holder first : ℕ) (first-is : first ≡ byteAt f holder 2
   body-empty e same =
       chained-refused _ _ x reached _ (require-fails _ 5 holder _ (ap not (eq-eqb _ 0 (sym first-is ∙ e)))) same
 
-  pub body-follows : (first ≡ 0 → ⊥) → ChainRead x InstructionRecord 16 f reached holder first → BodyRead x f reached holder
+  pub body-follows : (first ≡ 0 → ⊥) → ChainRead x InstructionRecord 16 f reached holder first
+      → BodyRead x f reached holder
   unfolding bodyChain
   body-follows some read =
       let holds : not (eqb (byteAt f holder 2) 0) ≡ true = ap not (ne-eqb _ 0 (λ e. some (first-is ∙ e))) in
@@ -154,8 +157,9 @@ module _ (allowed : ℕ) (f : File) (seen : List Bool) (holder index : ℕ) wher
           tasks-go f reached holder allowed index some
           (step-passed TaskRecord allowed f seen holder index step followed byte reached marked passes)
 
-      pub body-breaks : {number place : ℕ} → whole .check ≡ Refused number place → (x : Chained) → x .check ≡ whole .check
-          → (reached : List ℕ) → seen ≡ marks reached → TasksRead x allowed f reached holder index
+      pub body-breaks : {number place : ℕ} → whole .check ≡ Refused number place → (x : Chained)
+          → x .check ≡ whole .check → (reached : List ℕ) → seen ≡ marks reached
+          → TasksRead x allowed f reached holder index
       body-breaks e x same reached marked =
           let body = refused-chained _ _ whole _ _ (bodyRead (index ∷ reached) (marks-more seen reached index byte marked)) e in
           chained-refused _ _ x reached _ (tasks-on reached marked ∙ bind-refused _ body) (same ∙ e)
@@ -177,14 +181,16 @@ module _ (allowed : ℕ) (f : File) (seen : List Bool) (holder index : ℕ) wher
               read (index ∷ body .0 ++ reached) (body .3 ∙ marks-moved (body .0) (index ∷ []) reached),
             )
 
-        pub tasks-break : {number place : ℕ} → rest .check ≡ Refused number place → (x : Chained) → x .check ≡ rest .check
-            → (reached : List ℕ) → seen ≡ marks reached → TasksRead x allowed f reached holder index
+        pub tasks-break : {number place : ℕ} → rest .check ≡ Refused number place → (x : Chained)
+            → x .check ≡ rest .check → (reached : List ℕ) → seen ≡ marks reached
+            → TasksRead x allowed f reached holder index
         tasks-break e x same reached marked =
             let found = after-body reached marked in
             chained-refused _ _ x reached _ (found .1 ∙ bind-refused _ (refused-chained _ _ rest _ _ (found .2) e)) (same ∙ e)
 
         pub tasks-longer : rest .check ≡ Passed → (reached : List ℕ) → seen ≡ marks reached
-            → TasksRead (record { check = Passed; count = rest .count + 1; seen = rest .seen }) allowed f reached holder index
+            → TasksRead (record { check = Passed; count = rest .count + 1; seen = rest .seen }) allowed f reached
+            holder index
         unfolding recordsOf each
         tasks-longer e reached marked =
             let found = after-body reached marked in

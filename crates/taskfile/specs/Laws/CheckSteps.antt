@@ -17,7 +17,8 @@ unfolding checkOf
 checkOf-passed (refused number place) e = absurd (let z : _≡_ {A = ℕ} 0 1 = cc in omega arith)
 checkOf-passed (passed x) e = (x, refl)
 
-pub checkOf-refused : {A : Type 0} (c : Checked ℕ A) {number place : ℕ} → checkOf c ≡ Refused number place → c ≡ refused number place
+pub checkOf-refused : {A : Type 0} (c : Checked ℕ A) {number place : ℕ} → checkOf c ≡ Refused number place
+    → c ≡ refused number place
 unfolding checkOf
 checkOf-refused (refused n p) e = cc
 checkOf-refused (passed x) e = absurd (let z : _≡_ {A = ℕ} 0 1 = cc in omega arith)
@@ -45,8 +46,8 @@ noneOf-later number fault place places e = rw e
 
 module _ (number : ℕ) (fault : ℕ → Bool) where
   -- of the n numbers from `start` on, the lowest that has the fault decides
-  noneOf-from : (start n r : ℕ) → start ≤ r → r < start + n → ((k : ℕ) → start ≤ k → k < r → fault k ≡ false) → fault r ≡ true
-      → noneOf number fault (from start n) ≡ refused number r
+  noneOf-from : (start n r : ℕ) → start ≤ r → r < start + n → ((k : ℕ) → start ≤ k → k < r → fault k ≡ false)
+      → fault r ≡ true → noneOf number fault (from start n) ≡ refused number r
   unfolding from
   noneOf-from start zero r low high sound here = absurd (omega arith)
   noneOf-from start (suc n) r low high sound here =
@@ -58,7 +59,8 @@ module _ (number : ℕ) (fault : ℕ → Bool) where
       ]
 
   -- and where none has it, the check passes
-  noneOf-from-none : (start n : ℕ) → ((k : ℕ) → start ≤ k → k < start + n → fault k ≡ false) → noneOf number fault (from start n) ≡ passed tt
+  noneOf-from-none : (start n : ℕ) → ((k : ℕ) → start ≤ k → k < start + n → fault k ≡ false)
+      → noneOf number fault (from start n) ≡ passed tt
   unfolding from noneOf
   noneOf-from-none start zero sound = refl
   noneOf-from-none start (suc n) sound =

@@ -98,7 +98,8 @@ module _ (e : TaskEntry) (p : ℕ) (known : ShapedEntry e × (p < e .length)) wh
       sym (rw (bodyFaultIn-is e p (known .0) (known .1), well, ne-eqb operation 6 not6, not-true (eqb operation 7) not7))
 
   -- a skip, within the body or beyond
-  pub a-skip : endsBadly e p ≡ false → isSkip (hereIn e p) ≡ true → leb (e .length) (p + 1 + hereIn e p .c) ≡ bodyFaultIn e p
+  pub a-skip : endsBadly e p ≡ false → isSkip (hereIn e p) ≡ true
+      → leb (e .length) (p + 1 + hereIn e p .c) ≡ bodyFaultIn e p
   a-skip well skip = sym (rw (bodyFaultIn-is e p (known .0) (known .1), well, skip))
 
 -- does the instruction name a lock?
@@ -156,7 +157,8 @@ taskSite k = AtTask (numbered k) ∷ []
 
 -- the check of a task's own site
 module _ (number : ℕ) (fault : Task → Bool) (k : ℕ) where
-  pub task-faulty : fault (numbered k) ≡ true → noneOf number (ofTask fault) (taskSite k) ≡ refused number (AtTask (numbered k))
+  pub task-faulty : fault (numbered k) ≡ true
+      → noneOf number (ofTask fault) (taskSite k) ≡ refused number (AtTask (numbered k))
   unfolding taskSite noneOf ofTask if_then_else_
   task-faulty faulty = rw faulty
 
@@ -208,8 +210,8 @@ module _ (t : Table) (shaped : Shaped t) where
     unfolding bodyFault bodyFaultIn instructionOf
     bodyFault-in = ap bodyFaultIn taskOf-entry
 
-    pub ceilingFault-in : ceilingFault t (numbered k)
-        ≡ (λ p. ceilingFaultIn (take (t .locks) (t .ceilings)) k (getD (bodyOf (getD (t .entries) k d)) p endInstruction))
+    pub ceilingFault-in : ceilingFault t (numbered k) ≡ (λ p. ceilingFaultIn (take (t .locks) (t .ceilings)) k
+        (getD (bodyOf (getD (t .entries) k d)) p endInstruction))
     unfolding ceilingFault ceilingFaultIn instructionOf ceilingsOf
     ceilingFault-in =
         ap (λ e p. ceilingFaultIn (take (t .locks) (t .ceilings)) k (getD (bodyOf e) p endInstruction)) taskOf-entry
@@ -245,10 +247,12 @@ module _ (t : Table) (shaped : Shaped t) where
     unfolding rateFault
     rate-later = rw (lt-ltb 0 k later, taskOf-entry k below d, taskOf-entry (k - 1) (omega arith) d)
 
-    pub rate-above : getD (t .entries) (k - 1) d .period < getD (t .entries) k d .period → rateFault t (numbered k) ≡ true
+    pub rate-above : getD (t .entries) (k - 1) d .period < getD (t .entries) k d .period
+        → rateFault t (numbered k) ≡ true
     rate-above above = rate-later ∙ lt-ltb _ _ above
 
-    pub rate-within : getD (t .entries) k d .period ≤ getD (t .entries) (k - 1) d .period → rateFault t (numbered k) ≡ false
+    pub rate-within : getD (t .entries) k d .period ≤ getD (t .entries) (k - 1) d .period
+        → rateFault t (numbered k) ≡ false
     rate-within within = rate-later ∙ le-ltb _ _ within
 
 -- of two checks one after the other, the first that finds a fault decides
@@ -258,7 +262,8 @@ unfolding judgedOf _>>_
 judged-first (refused number place) b same faulty = same
 judged-first (passed value) b same faulty = absurd (let z : _≡_ {A = ℕ} 0 1 = cc in omega arith)
 
-pub judged-then : {x : Judged} (a b : Checked Site (Unit {0})) → x ≡ judgedOf a → x ≡ Sound → judgedOf b ≡ judgedOf (_>>_ a b)
+pub judged-then : {x : Judged} (a b : Checked Site (Unit {0})) → x ≡ judgedOf a → x ≡ Sound
+    → judgedOf b ≡ judgedOf (_>>_ a b)
 unfolding judgedOf _>>_
 judged-then (refused number place) b same sound = absurd (let z : _≡_ {A = ℕ} 0 1 = cc in omega arith)
 judged-then (passed value) b same sound = refl

@@ -40,7 +40,8 @@ unfolding judgedOf
 judged-sound (refused number place) e = absurd (let z : _≡_ {A = ℕ} 0 1 = cc in omega arith)
 judged-sound (passed x) e = (x, refl)
 
-pub judged-faulty : {A : Type 0} (c : Checked Site A) {number : ℕ} {site : Site} → judgedOf c ≡ Faulty number site → c ≡ refused number site
+pub judged-faulty : {A : Type 0} (c : Checked Site A) {number : ℕ} {site : Site} → judgedOf c ≡ Faulty number site
+    → c ≡ refused number site
 unfolding judgedOf
 judged-faulty (refused n p) e = cc
 judged-faulty (passed x) e = absurd (let z : _≡_ {A = ℕ} 0 1 = cc in omega arith)
@@ -97,7 +98,8 @@ module _ (f : File) where
     load-unchained h = require-holds (sized f) 1 0 _ right ∙ bind-refused _ h
 
     load-chained : {c : Chains} → chainsOf f ≡ passed c
-        → load f ≡ _>>_ (placedBy (recordAt c) (judged (tableAt f c))) (passed (record { table = tableAt f c; chains = c }))
+        → load f ≡ _>>_ (placedBy (recordAt c) (judged (tableAt f c)))
+        (passed (record { table = tableAt f c; chains = c }))
     unfolding load
     load-chained h = require-holds (sized f) 1 0 _ right ∙ bind-goes _ h
 
@@ -130,8 +132,8 @@ module _ (f : File) (x : LoadAnswer) where
 
     module _ (whole : chains ≡ Passed) {t : Table} (spelled : t ≡ tableAt f (linkedChains f)) {judgement : Judged}
         (judging : judgement ≡ judgedOf (judged t)) where
-      pub answers-faulty : {n : ℕ} {s : Site} {r : ℕ} → judgement ≡ Faulty n s → r ≡ siteRecord f s → x .check ≡ Refused n r
-          → LoadedAs x (load f)
+      pub answers-faulty : {n : ℕ} {s : Site} {r : ℕ} → judgement ≡ Faulty n s → r ≡ siteRecord f s
+          → x .check ≡ Refused n r → LoadedAs x (load f)
       answers-faulty {n} {s} h place e =
           let fault : judged (tableAt f (linkedChains f)) ≡ refused n s =
           rw spelled at (judged-faulty (judged t) (sym judging ∙ h)) in
@@ -149,7 +151,8 @@ module _ (f : File) (x : LoadAnswer) where
 -- ---- what a file that was loaded holds
 
 pub load-parts : (f : File) {loaded : Loaded} → load f ≡ passed loaded
-    → (chainsOf f ≡ passed (loaded .chains)) × (loaded .table ≡ tableAt f (loaded .chains)) × (judged (loaded .table) ≡ passed tt)
+    → (chainsOf f ≡ passed (loaded .chains)) × (loaded .table ≡ tableAt f (loaded .chains))
+    × (judged (loaded .table) ≡ passed tt)
 unfolding load
 load-parts f {loaded} e =
     let whole : Chains → Loaded = λ chains. record { table = tableAt f chains; chains = chains } in

@@ -56,7 +56,8 @@ marks-set reached r h =
     (length-set (marks reached) r true ∙ marks-length reached ∙ sym (marks-length (r ∷ reached)))
     (λ k below. set-mark reached r k h (omega (arith, length-set (marks reached) r true, marks-length reached)) (ℕ-discrete k r))
 
-pub marks-more : (seen : List Bool) (reached : List ℕ) (r : ℕ) → r < 256 → seen ≡ marks reached → set seen r true ≡ marks (r ∷ reached)
+pub marks-more : (seen : List Bool) (reached : List ℕ) (r : ℕ) → r < 256 → seen ≡ marks reached
+    → set seen r true ≡ marks (r ∷ reached)
 marks-more seen reached r h e = ap (λ l. set l r true) e ∙ marks-set reached r h
 
 -- no record is marked at first

@@ -25,7 +25,8 @@ taskNumbers-at t i d lt =
     List·getD-map numbered (upTo (length (tasksOf t))) (i .0) (d .0) ∙ ap numbered (getD-upTo (length (tasksOf t)) (i .0) (d .0) lt)
 
 -- what holds of each task of the table holds of every task number
-pub every-task : (t : Table) (P : Task → Type 0) → ((i : Task) → i .0 < length (tasksOf t) → P i) → Every P (taskNumbers t)
+pub every-task : (t : Table) (P : Task → Type 0) → ((i : Task) → i .0 < length (tasksOf t) → P i)
+    → Every P (taskNumbers t)
 unfolding taskNumbers upTo
 every-task t P h =
     let n = length (tasksOf t) in
@@ -33,7 +34,8 @@ every-task t P h =
     (every-imp (λ k. (0 ≤ k) × (k < 0 + n)) (λ k. P (numbered k)) (λ k g. h (numbered k) (omega arith)) (from 0 n) (from-within 0 n))
 
 -- the task numbers rise
-pub tasks-rise : (t : Table) (R : Task → Task → Type 0) → ((i j : Task) → i .0 < j .0 → R i j) → Ordered R (taskNumbers t)
+pub tasks-rise : (t : Table) (R : Task → Task → Type 0) → ((i j : Task) → i .0 < j .0 → R i j)
+    → Ordered R (taskNumbers t)
 unfolding taskNumbers upTo
 tasks-rise t R h =
     let n = length (tasksOf t) in

@@ -27,7 +27,8 @@ use Rattle.taskfile.specs.Tables.{tasksOf, taskOf, noTask, entryAt, tabl
 use Rattle.notation.specs.Laws.TestLaws.{and-both, test-holds}
 
 -- a record that passed has its values in range
-record-in-range : (kind : Kind) (f : File) (r : ℕ) {u : Unit {0}} → recordOf kind f r ≡ passed u → inRange f r kind ≡ true
+record-in-range : (kind : Kind) (f : File) (r : ℕ) {u : Unit {0}} → recordOf kind f r ≡ passed u
+    → inRange f r kind ≡ true
 unfolding recordOf
 record-in-range kind f r e =
     let test = then-passed _ (require (tidy f r kind && inRange f r kind) 4 r) e in
@@ -77,9 +78,9 @@ module _ (f : File) (P : TaskChain → Type 0)
 
 -- what holds of the entry of such a task holds of each task of the table
 pub reached-held : (f : File) (P : TaskEntry → Type 0)
-    → ((reached : List ℕ) (r : ℕ) (body : List ℕ) → inRange f r TaskRecord ≡ true → bodyChain f reached r ≡ passed body
-    → P (entryAt f (record { taskRecord = r; body = body })))
-    → {c : Chains} → chainsOf f ≡ passed c → (i : Task) → i .0 < length (tasksOf (tableAt f c)) → P (taskOf (tableAt f c) i)
+    → ((reached : List ℕ) (r : ℕ) (body : List ℕ) → inRange f r TaskRecord ≡ true → bodyChain f reached r ≡ passed
+    body → P (entryAt f (record { taskRecord = r; body = body }))) → {c : Chains} → chainsOf f ≡ passed c → (i : Task)
+    → i .0 < length (tasksOf (tableAt f c)) → P (taskOf (tableAt f c) i)
 unfolding taskOf
 reached-held f P each {c} e i lt =
     every-at P (tasksOf (tableAt f c)) (i .0) noTask
@@ -97,6 +98,6 @@ entry-in-range f c h =
     (leb-true _ _ (parts .0), leb-true _ _ (parts .1))
 
 -- every task of a file that was read has 1 ≤ C ≤ P
-pub times-in-range : (f : File) {c : Chains} → chainsOf f ≡ passed c → (i : Task) → i .0 < length (tasksOf (tableAt f c))
-    → TimesInRange (taskOf (tableAt f c) i)
+pub times-in-range : (f : File) {c : Chains} → chainsOf f ≡ passed c → (i : Task)
+    → i .0 < length (tasksOf (tableAt f c)) → TimesInRange (taskOf (tableAt f c) i)
 times-in-range f e i lt = reached-held f TimesInRange (λ reached r body h passes. entry-in-range f _ h) e i lt

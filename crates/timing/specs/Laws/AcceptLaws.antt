@@ -62,7 +62,8 @@ loaded-timeable f {loaded} e =
     })
 
 -- a loaded file's answer, the other way round
-pub loaded-refused : (f : File) (x : LoadAnswer) (c : Checked ℕ Loaded) → LoadedAs x c → {n p : ℕ} → x .check ≡ Refused n p → c ≡ refused n p
+pub loaded-refused : (f : File) (x : LoadAnswer) (c : Checked ℕ Loaded) → LoadedAs x c → {n p : ℕ}
+    → x .check ≡ Refused n p → c ≡ refused n p
 loaded-refused f x (refused number place) h e = let same : Refused number place ≡ Refused _ _ = sym h ∙ e in cc
 loaded-refused f x (passed loaded) h e = absurd (let z : _≡_ {A = ℕ} 0 1 = cc in omega arith)
 
@@ -94,8 +95,8 @@ responses-refused t (i ∷ is) {n} {s} e =
     ]
 
 -- response times that were found are at most the periods
-pub found-within : {t : Table} → Timeable t → {Rs : List ℕ} → responsesOf t (taskNumbers t) ≡ passed Rs → {times : List ℕ}
-    → times ≡ padded 8 0 Rs → WithinPeriods t times
+pub found-within : {t : Table} → Timeable t → {Rs : List ℕ} → responsesOf t (taskNumbers t) ≡ passed Rs
+    → {times : List ℕ} → times ≡ padded 8 0 Rs → WithinPeriods t times
 found-within {t} timeable {Rs} e held i lt =
     let shaped = timeable .shaped in
     let known : i < length (tasksOf t) = omega (arith, tasks-length shaped) in
@@ -172,8 +173,8 @@ module _ (f : File) where
 
 -- ---- what the functions answer
 
-responses-faulty : (x : Responses) (c : Checked Site (List ℕ)) → ResponsesAs x c → {n : ℕ} {s : Site} → x .check ≡ Faulty n s
-    → c ≡ refused n s
+responses-faulty : (x : Responses) (c : Checked Site (List ℕ)) → ResponsesAs x c → {n : ℕ} {s : Site}
+    → x .check ≡ Faulty n s → c ≡ refused n s
 responses-faulty x (refused number site) h {n} {s} e = let same : Faulty number site ≡ Faulty n s = sym h ∙ e in cc
 responses-faulty x (passed Rs) h e = absurd (let z : _≡_ {A = ℕ} 0 1 = cc in omega arith)
 
@@ -183,7 +184,8 @@ responses-sound x (refused number site) h e = absurd (let z : _≡_ {A = ℕ} 0 
 responses-sound x (passed Rs) h e = (Rs, refl, h .1)
 
 module _ (f : File) (l : LoadAnswer) (loading : LoadedAs l (load f)) where
-  pub answers-refused : (x : AcceptAnswer) {n p : ℕ} → l .check ≡ Refused n p → x .check ≡ Refused n p → AcceptedAs x (accept f)
+  pub answers-refused : (x : AcceptAnswer) {n p : ℕ} → l .check ≡ Refused n p → x .check ≡ Refused n p
+      → AcceptedAs x (accept f)
   answers-refused x h e = subst (AcceptedAs x) (sym (accept-refused f (loaded-refused f l (load f) loading h))) e
 
   module _ (whole : l .check ≡ Passed) where
@@ -194,8 +196,8 @@ module _ (f : File) (l : LoadAnswer) (loading : LoadedAs l (load f)) where
         subst Timeable (sym (read .2)) (loaded-timeable f (read .1))
 
     module _ (found : Responses) (timing : ResponsesAs found (responsesOf (l .table) (taskNumbers (l .table)))) where
-      pub answers-overload : (x : AcceptAnswer) {n : ℕ} {s : Site} {r : ℕ} → found .check ≡ Faulty n s → r ≡ siteRecord f s
-          → x .check ≡ Refused n r → AcceptedAs x (accept f)
+      pub answers-overload : (x : AcceptAnswer) {n : ℕ} {s : Site} {r : ℕ} → found .check ≡ Faulty n s
+          → r ≡ siteRecord f s → x .check ≡ Refused n r → AcceptedAs x (accept f)
       answers-overload x {n} {s} h place e =
           let read = loaded-passed l (load f) loading whole in
           let faulty : responsesOf (read .0 .table) (taskNumbers (read .0 .table)) ≡ refused n s =
@@ -211,21 +213,23 @@ module _ (f : File) (l : LoadAnswer) (loading : LoadedAs l (load f)) where
 
         -- those of the table as it was loaded
         sound-loaded : (loaded : Loaded) → l .table ≡ loaded .table
-            → (Rs : List ℕ) × (responsesOf (loaded .table) (taskNumbers (loaded .table)) ≡ passed Rs) × (found .times ≡ padded 8 0 Rs)
+            → (Rs : List ℕ) × (responsesOf (loaded .table) (taskNumbers (loaded .table)) ≡ passed Rs)
+            × (found .times ≡ padded 8 0 Rs)
         sound-loaded loaded same =
             let sound = responses-sound found _ timing timed' in
             (sound .0, subst (λ (t : Table). responsesOf t (taskNumbers t) ≡ passed (sound .0)) same (sound .1), sound .2)
 
-        pub answers-many : (x : AcceptAnswer) {total : ℕ} → total ≡ jobCount (l .table) → 32 < total → x .check ≡ Refused 11 0
-            → AcceptedAs x (accept f)
+        pub answers-many : (x : AcceptAnswer) {total : ℕ} → total ≡ jobCount (l .table) → 32 < total
+            → x .check ≡ Refused 11 0 → AcceptedAs x (accept f)
         answers-many x {total} counted many e =
             let read = loaded-passed l (load f) loading whole in
             let sound = sound-loaded (read .0) (read .2) in
             let above : 32 < jobCount (read .0 .table) = subst (λ (n : ℕ). 32 < n) (counted ∙ ap jobCount (read .2)) many in
             subst (AcceptedAs x) (sym (accept-many f (read .1) (sound .1) above)) e
 
-        pub answers-accepted : (x : AcceptAnswer) {total : ℕ} → total ≡ jobCount (l .table) → total ≤ 32 → x .check ≡ Passed
-            → x .table ≡ l .table → x .responses ≡ found .times → x .list ≡ jobListOf (jobsOf (l .table) (found .times)) → AcceptedAs x (accept f)
+        pub answers-accepted : (x : AcceptAnswer) {total : ℕ} → total ≡ jobCount (l .table) → total ≤ 32
+            → x .check ≡ Passed → x .table ≡ l .table → x .responses ≡ found .times
+            → x .list ≡ jobListOf (jobsOf (l .table) (found .times)) → AcceptedAs x (accept f)
         answers-accepted x {total} counted few e table times list =
             let read = loaded-passed l (load f) loading whole in
             let sound = sound-loaded (read .0) (read .2) in
@@ -242,7 +246,8 @@ module _ (f : File) (l : LoadAnswer) (loading : LoadedAs l (load f)) where
 
 -- ---- the reader's entry
 
-pub accepted-refused : (x : AcceptAnswer) (c : Checked ℕ Accepted) → AcceptedAs x c → {n p : ℕ} → x .check ≡ Refused n p → c ≡ refused n p
+pub accepted-refused : (x : AcceptAnswer) (c : Checked ℕ Accepted) → AcceptedAs x c → {n p : ℕ}
+    → x .check ≡ Refused n p → c ≡ refused n p
 accepted-refused x (refused number place) h {n} {p} e = let same : Refused number place ≡ Refused n p = sym h ∙ e in cc
 accepted-refused x (passed a) h e = let clash : Passed ≡ Refused _ _ = sym (h .check) ∙ e in absurd (let z : _≡_ {A = ℕ} 0 1 = cc in omega arith)
 

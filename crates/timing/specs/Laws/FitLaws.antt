@@ -45,7 +45,8 @@ roundedUp-sum (suc d) m n =
     omega arith
 
 -- an interval meets at most the interference that two parts of it meet
-pub interference-sum : (above : List TaskEntry) (x y : ℕ) → interference above (x + y) ≤ interference above x + interference above y
+pub interference-sum : (above : List TaskEntry) (x y : ℕ)
+    → interference above (x + y) ≤ interference above x + interference above y
 unfolding interference sum
 interference-sum [] x y = zero-le
 interference-sum (e ∷ above) x y =
@@ -106,7 +107,8 @@ module _ (e : TaskEntry) (above : List TaskEntry) (own : Fits above (e .executio
       }
 
   -- where it is not, any interval up to the last multiple of the period
-  pub fits-before : Fits above (base + b / e .period * e .execution) (b / e .period * e .period) → Fits (e ∷ above) base b
+  pub fits-before : Fits above (base + b / e .period * e .execution) (b / e .period * e .period)
+      → Fits (e ∷ above) base b
   fits-before fits = record {
     span = fits .span;
     positive = fits .positive;
@@ -200,8 +202,10 @@ module _ {t : Table} (timeable : Timeable t) {j C P base b : ℕ} (lt : j < t .t
   from-last part done = rw (from-step, ne-eqb (b % P) 0 part, ← done)
 
   -- where there is none, or not all is done with it
-  pub from-before : {r : Bool} → (b % P ≡ 0) ⊎ (false ≡ fitsFrom (drop (j + 1) (tasksOf t)) (base + (b / P + 1) * C) b)
-      → r ≡ fitsFrom (drop (j + 1) (tasksOf t)) (base + b / P * C) (b / P * P) → r ≡ fitsFrom (drop j (tasksOf t)) base b
+  pub from-before : {r : Bool}
+      → (b % P ≡ 0) ⊎ (false ≡ fitsFrom (drop (j + 1) (tasksOf t)) (base + (b / P + 1) * C) b)
+      → r ≡ fitsFrom (drop (j + 1) (tasksOf t)) (base + b / P * C) (b / P * P)
+      → r ≡ fitsFrom (drop j (tasksOf t)) base b
   from-before (inl none) done = rw (from-step, eq-eqb (b % P) 0 none) done
   from-before (inr short) done = rw (from-step, ← short) (go (eqb (b % P) 0) done)
     where
@@ -216,7 +220,8 @@ from-short [] base b lt = sym (lt-leb base b lt)
 from-short (e ∷ above) base b lt = rw (lt-leb base b lt)
 
 -- past the last task
-pub from-end : {t : Table} → Timeable t → (j : ℕ) {base b : ℕ} → t .tasks ≤ j → base ≤ b → true ≡ fitsFrom (drop j (tasksOf t)) base b
+pub from-end : {t : Table} → Timeable t → (j : ℕ) {base b : ℕ} → t .tasks ≤ j → base ≤ b
+    → true ≡ fitsFrom (drop j (tasksOf t)) base b
 unfolding fitsFrom
 from-end timeable j {base} {b} end le = rw (tasks-end (timeable .shaped) j end, le-leb base b le)
 

@@ -69,8 +69,8 @@ pub record Between (t : Table) (i : Task) (lo hi : ℕ) : Type 0 where
   pub below : (Q : ℕ) → 1 ≤ Q → Q ≡ demand t i Q → lo ≤ Q
 
 -- from a lower bound to the period, where the task is done by then
-pub search-start : {t : Table} {i : Task} {start P : ℕ} → LowerBound t i start → P ≡ taskOf t i .period → start ≤ P → DoneBy t i P
-    → Between t i start P
+pub search-start : {t : Table} {i : Task} {start P : ℕ} → LowerBound t i start → P ≡ taskOf t i .period → start ≤ P
+    → DoneBy t i P → Between t i start P
 search-start bound e le done = record { ordered = le; within = omega arith; done = done; below = bound .below }
 
 module _ {t : Table} {i : Task} (positive : 1 ≤ taskOf t i .execution) {lo hi : ℕ} (between : Between t i lo hi) where

@@ -52,7 +52,8 @@ unfolding base jobAt
 job-task {a} timed x isJob = every-at (Listed a) (a .jobs) (x .0) noJob (listed-all timed) isJob .0
 
 -- a job's latest finish is its arrival and its task's response time
-pub job-lasts : {a : Accepted} → Timed a → (x : Job) → IsJob a x → jobAt a x .latest ≡ jobAt a x .arrival + getD (a .responses) (base a x) 0
+pub job-lasts : {a : Accepted} → Timed a → (x : Job) → IsJob a x
+    → jobAt a x .latest ≡ jobAt a x .arrival + getD (a .responses) (base a x) 0
 unfolding base jobAt
 job-lasts {a} timed x isJob = every-at (Listed a) (a .jobs) (x .0) noJob (listed-all timed) isJob .1
 
@@ -72,7 +73,8 @@ pub jobs-few : {a : Accepted} → Timed a → length (a .jobs) ≤ 32
 jobs-few {a} timed = omega (arith, timed .few, ap (λ (l : List JobRecord). length l) (timed .listed), jobs-counted (a .table) (a .responses))
 
 -- an earlier job of the same task comes before a later one
-pub same-task : {a : Accepted} → Timed a → (x y : Job) → x .0 < y .0 → IsJob a y → base a x ≡ base a y → before a x y ≡ true
+pub same-task : {a : Accepted} → Timed a → (x y : Job) → x .0 < y .0 → IsJob a y → base a x ≡ base a y
+    → before a x y ≡ true
 same-task {a} timed x y lt isJob same =
     before-holds a x y (λ e. omega arith)
     (elim (relations.jobs-by-number timed x y lt isJob) [ inl below ↦ absurd (omega arith) | inr later ↦ inr (omega arith) ])

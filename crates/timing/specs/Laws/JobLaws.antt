@@ -104,7 +104,8 @@ of-task-rises t Rs i positive =
 
 -- an accepted table's task has a response time, which is its entry in the list and at most its period
 pub response-of : {a : Accepted} → Timed a → (i : Task) → i .0 < length (tasksOf (a .table))
-    → IsResponse (a .table) i (getD (a .responses) (i .0) 0) × (getD (a .responses) (i .0) 0 ≤ taskOf (a .table) i .period)
+    → IsResponse (a .table) i (getD (a .responses) (i .0) 0)
+    × (getD (a .responses) (i .0) 0 ≤ taskOf (a .table) i .period)
 response-of {a} timed i lt =
     let t = a .table in
     response-found t i (getD (a .responses) (i .0) 0) .0

@@ -44,7 +44,8 @@ job-added list job room l e =
     λ i. record { count = total i; jobs = stored i }
 
 -- a function's values at the first k + 1 numbers, after a list
-pub values-snoc : {A : Type 0} (f : ℕ → A) (l : List A) (k : ℕ) → (l ++ map f (upTo k)) ++ (f k ∷ []) ≡ l ++ map f (upTo (k + 1))
+pub values-snoc : {A : Type 0} (f : ℕ → A) (l : List A) (k : ℕ)
+    → (l ++ map f (upTo k)) ++ (f k ∷ []) ≡ l ++ map f (upTo (k + 1))
 unfolding upTo
 values-snoc f l k =
     append-assoc l (map f (from 0 k)) (f k ∷ [])
@@ -59,7 +60,8 @@ jobAs i first period response k =
     record { task = i; arrival = first + k * period; latest = first + k * period + response }
 
 -- the jobs of a task go into a list one by one
-pub none-added : (f : ℕ → JobRecord) (list : JobList) (l : List JobRecord) → list ≡ jobListOf l → list ≡ jobListOf (l ++ map f (upTo 0))
+pub none-added : (f : ℕ → JobRecord) (list : JobList) (l : List JobRecord) → list ≡ jobListOf l
+    → list ≡ jobListOf (l ++ map f (upTo 0))
 unfolding upTo from
 none-added f list l e = e ∙ ap jobListOf (sym (append-nil l))
 
@@ -68,8 +70,10 @@ pub one-added : (f : ℕ → JobRecord) (k : ℕ) (before after : JobList)
     → (l : List JobRecord) → before ≡ jobListOf (l ++ map f (upTo k)) → after ≡ jobListOf (l ++ map f (upTo (k + 1)))
 one-added f k before after added l e = added (l ++ map f (upTo k)) e ∙ ap jobListOf (values-snoc f l k)
 
-pub all-added : (i : Task) (e : TaskEntry) {first period : ℕ} (response n : ℕ) → first ≡ e .arrival → period ≡ e .period
-    → (l : List JobRecord) → jobListOf (l ++ map (jobAs i first period response) (upTo n)) ≡ jobListOf (l ++ map (jobOf i e response) (upTo n))
+pub all-added : (i : Task) (e : TaskEntry) {first period : ℕ} (response n : ℕ) → first ≡ e .arrival
+    → period ≡ e .period → (l : List JobRecord)
+    → jobListOf (l ++ map (jobAs i first period response) (upTo n)) ≡ jobListOf
+    (l ++ map (jobOf i e response) (upTo n))
 unfolding jobOf arrivalOf
 all-added i e response n p q l = ap (λ (f : ℕ → JobRecord). jobListOf (l ++ map f (upTo n))) (fun-ext (λ k. rw (p, q) refl))
 
@@ -78,7 +82,8 @@ pub product-fits : (k period : ℕ) → k < 32 → period < 2 ^ 32 → k * perio
 product-fits k period h g = let small : k * period ≤ 31 * 2 ^ 32 = mul-le-mul {n₂ = 31} {m₂ = 2 ^ 32} (omega arith) (omega arith) in omega arith
 
 -- a job of the list, by number
-pub job-listed : (list : JobList) (l : List JobRecord) (x : ℕ) → list ≡ jobListOf l → x < 32 → getD (list .jobs) x noJob ≡ getD l x noJob
+pub job-listed : (list : JobList) (l : List JobRecord) (x : ℕ) → list ≡ jobListOf l → x < 32
+    → getD (list .jobs) x noJob ≡ getD l x noJob
 unfolding jobListOf
 job-listed list l x e lt = ap (λ (m : JobList). getD (m .jobs) x noJob) e ∙ padded-at 32 noJob l x lt
 
@@ -114,7 +119,8 @@ pub below-all : {t : Table} → Shaped t → (times : List ℕ) {i : ℕ} → i 
 unfolding jobsBelow jobsOf taskNumbers
 below-all {t} shaped times e = ap (λ (n : ℕ). each (map numbered (upTo n)) (jobsOfTask t times)) (e ∙ sym (tasks-length shaped))
 
-below-more : (t : Table) (times : List ℕ) (i : ℕ) → jobsBelow t times (i + 1) ≡ jobsBelow t times i ++ jobsOfTask t times (numbered i)
+below-more : (t : Table) (times : List ℕ) (i : ℕ)
+    → jobsBelow t times (i + 1) ≡ jobsBelow t times i ++ jobsOfTask t times (numbered i)
 unfolding jobsBelow upTo each
 below-more t times i =
     ap (λ (n : ℕ). each (map numbered (from 0 n)) (jobsOfTask t times)) (add-one i)
@@ -125,9 +131,10 @@ below-more t times i =
     ∙ ap (λ (l : List JobRecord). each (map numbered (from 0 i)) (jobsOfTask t times) ++ l) (append-nil (jobsOfTask t times (numbered i)))
 
 -- the jobs of task i go behind those of the tasks below it
-pub task-added : {t : Table} → Timeable t → (times : List ℕ) (i : ℕ) (d : TaskEntry) → i < t .tasks → {list after : JobList} {n : ℕ}
-    → n ≡ jobsWithin (t .window) (getD (t .entries) i d)
-    → ((l : List JobRecord) → list ≡ jobListOf l → after ≡ jobListOf (l ++ map (jobOf (numbered i) (getD (t .entries) i d) (getD times i 0)) (upTo n)))
+pub task-added : {t : Table} → Timeable t → (times : List ℕ) (i : ℕ) (d : TaskEntry) → i < t .tasks
+    → {list after : JobList} {n : ℕ} → n ≡ jobsWithin (t .window) (getD (t .entries) i d)
+    → ((l : List JobRecord) → list ≡ jobListOf l → after ≡ jobListOf
+    (l ++ map (jobOf (numbered i) (getD (t .entries) i d) (getD times i 0)) (upTo n)))
     → list ≡ jobListOf (jobsBelow t times i) → after ≡ jobListOf (jobsBelow t times (i + 1))
 unfolding jobsOfTask
 task-added {t} timeable times i d lt {n} counted added e =

@@ -23,7 +23,8 @@ use Rattle.timing.specs.Laws.TimeableLaws.{TimesRead, task-read, interfe
 pub column-none : (f : ℕ → ℕ) → Column f 0 (replicate 8 0)
 column-none f = record { full = refl; held = λ k lt. absurd (omega arith); narrow = λ k lt. absurd (omega arith) }
 
-pub column-more : {f : ℕ → ℕ} {n : ℕ} {xs : List ℕ} → Column f n xs → n < 8 → {x : ℕ} → x ≡ f n → x < 2 ^ 32 → Column f (n + 1) (set xs n x)
+pub column-more : {f : ℕ → ℕ} {n : ℕ} {xs : List ℕ} → Column f n xs → n < 8 → {x : ℕ} → x ≡ f n → x < 2 ^ 32
+    → Column f (n + 1) (set xs n x)
 column-more {f} {n} {xs} column few {x} e small =
     let here : getD (set xs n x) n 0 ≡ x = getD-set-same xs n x 0 (omega (arith, column .full)) in
     record {
@@ -56,8 +57,8 @@ pub period-stored : {t : Table} → Timeable t → (k : ℕ) (d : TaskEntry) →
 unfolding periodAt
 period-stored timeable k d lt e = e ∙ ap (λ (a : TaskEntry). a .period) (task-read (timeable .shaped) k d lt)
 
-pub times-filled : {t : Table} → Timeable t → {Cs Ps : List ℕ} → Column (executionAt t) (t .tasks) Cs → Column (periodAt t) (t .tasks) Ps
-    → TimesOf t Cs Ps (t .tasks)
+pub times-filled : {t : Table} → Timeable t → {Cs Ps : List ℕ} → Column (executionAt t) (t .tasks) Cs
+    → Column (periodAt t) (t .tasks) Ps → TimesOf t Cs Ps (t .tasks)
 times-filled timeable executions periods = record { timeable = timeable; count = refl; executions = executions; periods = periods }
 
 -- ---- what is read
@@ -94,8 +95,8 @@ module _ {t : Table} {Cs Ps : List ℕ} {n : ℕ} (times : TimesOf t Cs Ps n) wh
   lent-end k r le = interference-end (times .timeable) k r (omega (arith, times .count))
 
 -- what a task adds to the interference fits
-pub lent-fits : {Cs Ps : List ℕ} {n : ℕ} → BoundedTimes Cs Ps n → (k r : ℕ) {u : ℕ} → k < n → r < 2 ^ 32 → u ≡ roundedUp r (getD Ps k 0)
-    → u * getD Cs k 0 < 2 ^ 33
+pub lent-fits : {Cs Ps : List ℕ} {n : ℕ} → BoundedTimes Cs Ps n → (k r : ℕ) {u : ℕ} → k < n → r < 2 ^ 32
+    → u ≡ roundedUp r (getD Ps k 0) → u * getD Cs k 0 < 2 ^ 33
 lent-fits {Cs} {Ps} times k r {u} lt small e =
     let within = times .within k lt in
     let positive = times .positive k lt in

@@ -137,7 +137,8 @@ preempts-lower {a} timed y x isX h =
     )
 
 -- Law 2: the three exclude each other.
-pub before-one-way : {a : Accepted} → Timed a → (x y : Job) → IsJob a x → IsJob a y → before a x y ≡ true → before a y x ≡ true → ⊥
+pub before-one-way : {a : Accepted} → Timed a → (x y : Job) → IsJob a x → IsJob a y → before a x y ≡ true
+    → before a y x ≡ true → ⊥
 before-one-way timed x y isX isY h k =
     elim (before-raises timed x y isX isY h) [
       | inl g ↦ elim (before-raises timed y x isY isX k) [ inl e ↦ omega arith | inr e ↦ omega arith ]
@@ -149,7 +150,8 @@ before-or-preempted a x y h k =
     let p = preempt-says a y x k in
     elim (before-says a x y h .1) [ inl g ↦ omega arith | inr g ↦ omega arith ]
 
-pub before-or-preempts : {a : Accepted} → Timed a → (x y : Job) → IsJob a y → before a y x ≡ true → mayPreempt a y x ≡ true → ⊥
+pub before-or-preempts : {a : Accepted} → Timed a → (x y : Job) → IsJob a y → before a y x ≡ true
+    → mayPreempt a y x ≡ true → ⊥
 before-or-preempts {a} timed x y isY h k =
     let p = preempt-says a y x k in
     elim (before-says a y x h .1) [ inl g ↦ omega (arith, finish-after timed y isY) | inr g ↦ omega arith ]

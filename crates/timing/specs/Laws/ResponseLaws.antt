@@ -188,7 +188,8 @@ response-within {R = R} r = (λ l. (R, r .positive, l, r .solves), λ s. le-tran
 -- ---- the jobs
 
 -- job k is one of the task's jobs exactly if it arrives before the window ends
-pub jobs-in-window : (window : ℕ) (e : TaskEntry) (k : ℕ) → 1 ≤ e .period → (k < jobsWithin window e) ↔ (arrivalOf e k < window)
+pub jobs-in-window : (window : ℕ) (e : TaskEntry) (k : ℕ) → 1 ≤ e .period
+    → (k < jobsWithin window e) ↔ (arrivalOf e k < window)
 unfolding jobsWithin arrivalOf
 jobs-in-window window e k h = (
   λ l. omega (arith, roundedUp-below _ _ k h .0 l),

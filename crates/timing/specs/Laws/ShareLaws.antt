@@ -24,7 +24,8 @@ pub sum-exact : (n d c p a b : ℕ) → d * a ≡ p * b → (n * a + c * b) * (d
 sum-exact n d c p a b e = omega (arith, ap (λ (x : ℕ). c * d * x) e)
 
 -- n of d and c of p in w parts of u each, both rounded down
-pub sum-rounded : (n d c p u w x y : ℕ) → x * u ≤ n → d ≤ w * u → y * p ≤ c * w → (x + y) * (d * p) ≤ (n * p + c * d) * w
+pub sum-rounded : (n d c p u w x y : ℕ) → x * u ≤ n → d ≤ w * u → y * p ≤ c * w
+    → (x + y) * (d * p) ≤ (n * p + c * d) * w
 sum-rounded n d c p u w x y first parts second =
     omega (arith, mul-le-mul-left (x * p) parts, mul-le-mul-right (w * p) first, mul-le-mul-right d second)
 
@@ -95,7 +96,8 @@ module _ {s : Share} {c p cap : ℕ} (fits : SumFits s c p cap) where
       )
 
       -- and is no more than the two shares
-      pub exact-most : WithTask s c p cap (record { part = s .part * (p / g) + c * (s .whole / g); whole = s .whole * (p / g) })
+      pub exact-most : WithTask s c p cap
+          (record { part = s .part * (p / g) + c * (s .whole / g); whole = s .whole * (p / g) })
       exact-most = record {
         positive = one-le-mul (omega arith) times-positive;
         few = whole-few;
@@ -116,7 +118,8 @@ pub share-none : (t : Table) (j : ℕ) {cap : ℕ} → 1 ≤ cap → ShareBefore
 share-none t j h = record { positive = omega arith; few = h; needed = λ R. omega arith }
 
 -- what those passed need, all tasks above task i need
-pub share-found : {t : Table} (i : Task) {k cap : ℕ} {s : Share} → ShareBefore t (i .0 + 1) k cap s → ShareOf (tasksAbove t i) cap s
+pub share-found : {t : Table} (i : Task) {k cap : ℕ} {s : Share} → ShareBefore t (i .0 + 1) k cap s
+    → ShareOf (tasksAbove t i) cap s
 unfolding tasksAbove
 share-found i share = record { positive = share .positive; few = share .few; needed = λ R. rw (← add-one (i .0)) (omega (arith, share .needed R)) }
 

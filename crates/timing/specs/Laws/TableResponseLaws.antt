@@ -38,7 +38,8 @@ bound-none none e = refl
 bound-none (some Q) e = absurd (let z : _≡_ {A = ℕ} 0 1 = cc in omega arith)
 
 -- task i is the first of the tasks from i on
-numbers-next : {t : Table} → Shaped t → (i : ℕ) → i < t .tasks → drop i (taskNumbers t) ≡ numbered i ∷ drop (suc i) (taskNumbers t)
+numbers-next : {t : Table} → Shaped t → (i : ℕ) → i < t .tasks
+    → drop i (taskNumbers t) ≡ numbered i ∷ drop (suc i) (taskNumbers t)
 numbers-next {t} shaped i lt =
     let below : i < length (taskNumbers t) = omega (arith, taskNumbers-length t, tasks-length shaped) in
     rw (drop-cons (taskNumbers t) i (numbered i), taskNumbers-at t (numbered i) (numbered i) (omega (arith, tasks-length shaped)))

@@ -26,7 +26,8 @@ unfolding tasksOf
 tasks-length {t} s = length-take-le (t .tasks) (t .entries) (omega arith)
 
 -- a task read from the array is the table's task, whatever the default
-pub task-read : {t : Table} → Shaped t → (k : ℕ) (d : TaskEntry) → k < t .tasks → getD (t .entries) k d ≡ taskOf t (numbered k)
+pub task-read : {t : Table} → Shaped t → (k : ℕ) (d : TaskEntry) → k < t .tasks
+    → getD (t .entries) k d ≡ taskOf t (numbered k)
 unfolding taskOf tasksOf
 task-read {t} s k d lt =
     getD-any (t .entries) k d noTask (omega arith) ∙ sym (getD-take (t .tasks) (t .entries) k noTask lt)
@@ -78,14 +79,16 @@ unfolding interference
 interference-end timeable k r le = sum-end (timeable .shaped) (λ e. roundedUp r (e .period) * e .execution) k le
 
 -- the jobs of the tasks from task k on
-pub jobs-step : {t : Table} → Timeable t → (k : ℕ) (d : TaskEntry) {n : ℕ} → k < t .tasks → n ≡ jobsWithin (t .window) (getD (t .entries) k d)
-    → sum (map (jobsWithin (t .window)) (drop k (tasksOf t))) ≡ n + sum (map (jobsWithin (t .window)) (drop (k + 1) (tasksOf t)))
+pub jobs-step : {t : Table} → Timeable t → (k : ℕ) (d : TaskEntry) {n : ℕ} → k < t .tasks
+    → n ≡ jobsWithin (t .window) (getD (t .entries) k d)
+    → sum (map (jobsWithin (t .window)) (drop k (tasksOf t))) ≡ n + sum
+    (map (jobsWithin (t .window)) (drop (k + 1) (tasksOf t)))
 jobs-step {t} timeable k d lt e =
     sum-step (timeable .shaped) (jobsWithin (t .window)) k lt ∙ rw (e, task-read (timeable .shaped) k d lt)
 
 -- ---- demand of task i, with its execution time as read
 
-pub demand-read : {t : Table} {i : Task} {C P : ℕ} → TimesRead t i C P → (r : ℕ) {x : ℕ} → x ≡ interference (tasksAbove t i) r
-    → C + x ≡ demand t i r
+pub demand-read : {t : Table} {i : Task} {C P : ℕ} → TimesRead t i C P → (r : ℕ) {x : ℕ}
+    → x ≡ interference (tasksAbove t i) r → C + x ≡ demand t i r
 unfolding demand
 demand-read read r e = rw (e, read .execution)

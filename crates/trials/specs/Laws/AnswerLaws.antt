@@ -24,17 +24,19 @@ use Rattle.moves.specs.Code.MoveParts.{NextStep}
 use Rattle.trials.specs.Laws.WalkStateLaws.{walk-ended, walk-none-left, walk-tried}
 
 -- the step that a move makes
-move-made : {program times : List ℕ} {locks : Ceilings} {p : Snapshot} {byte : ℕ} {m : Candidate} → NextStep program times locks p byte m
-    → m .byte < 128
-    → stepIn program times locks p (m .byte) .state ≡ madeIn program p (m .turn .frame) (m .turn .under) (m .byte / 16) (m .byte % 16)
+move-made : {program times : List ℕ} {locks : Ceilings} {p : Snapshot} {byte : ℕ} {m : Candidate}
+    → NextStep program times locks p byte m → m .byte < 128
+    → stepIn program times locks p (m .byte) .state ≡ madeIn program p (m .turn .frame) (m .turn .under)
+    (m .byte / 16) (m .byte % 16)
 move-made {program} {times} {locks} {p} {m = m} next lt =
     ap (λ (r : Stepped). r .state)
     (sym (step-due program times locks p (m .byte) (next .turn lt) (ap not (next .due lt))
     (sym (with-offered program p (m .turn .frame) (m .turn .under) (m .byte / 16) (m .byte % 16) (next .offered lt)))))
 
 -- whose turn it is has a number below 32, at most seven active jobs under it, and an instruction to run
-pub move-bounds : {program times : List ℕ} {locks : Ceilings} {p : Snapshot} {byte : ℕ} {m : Candidate} → NextStep program times locks p byte m
-    → m .byte < 128 → p .depth ≤ 8 → (m .turn .under < 8) × (m .turn .frame .job .0 < 32) × (m .turn .frame .local .next < 16)
+pub move-bounds : {program times : List ℕ} {locks : Ceilings} {p : Snapshot} {byte : ℕ} {m : Candidate}
+    → NextStep program times locks p byte m → m .byte < 128 → p .depth ≤ 8
+    → (m .turn .under < 8) × (m .turn .frame .job .0 < 32) × (m .turn .frame .local .next < 16)
 move-bounds {program} {times} {locks} {p} {m = m} next lt le =
     let bounds = due-bounds program times locks p (m .byte / 16) (next .turn lt) le (next .due lt) in
     (bounds .0, bounds .1, offered-inside program (m .turn .frame) (m .byte / 16) (m .byte % 16) (next .offered lt))
@@ -62,7 +64,8 @@ module _ {program times : List ℕ} {locks : Ceilings} {p : Snapshot} {left coun
       (child : Left (512 - left) allowance (set now (511 - left) (m .byte)) out r
       × WalksAs program times locks below left (made + 1) allowance (set now (511 - left) (m .byte)) out r) where
     -- the walk below is that of the state after the step
-    walked-below : WalksAs program times locks (stepIn program times locks p (m .byte) .state) left (made + 1) allowance (set now (511 - left) (m .byte)) out r
+    walked-below : WalksAs program times locks (stepIn program times locks p (m .byte) .state) left (made + 1)
+        allowance (set now (511 - left) (m .byte)) out r
     walked-below =
         subst (λ (q : Snapshot). WalksAs program times locks q left (made + 1) allowance (set now (511 - left) (m .byte)) out r)
         (step ∙ sym (move-made (trying .next) lt)) (child .1)
@@ -77,10 +80,12 @@ module _ {program times : List ℕ} {locks : Ceilings} {p : Snapshot} {left coun
       path-kept left (m .byte) few room-now (trying .path) (child .0 .2),
     )
 
-    pub finds-answer : r .found ≡ true → Left (511 - left) allowance before out r × TriesAs program times locks p left count allowance before out r
+    pub finds-answer : r .found ≡ true
+        → Left (511 - left) allowance before out r × TriesAs program times locks p left count allowance before out r
     finds-answer found = (left-on, trying-finds few trying lt room-now walked-below found)
 
-    pub cut-answer : r .stopped ≡ true → Left (511 - left) allowance before out r × TriesAs program times locks p left count allowance before out r
+    pub cut-answer : r .stopped ≡ true
+        → Left (511 - left) allowance before out r × TriesAs program times locks p left count allowance before out r
     cut-answer stopped = (left-on, trying-cut few trying lt room-now walked-below stopped)
 
     pub on-answer : r .found ≡ false → r .stopped ≡ false → {n : Candidate} → NextStep program times locks p (m .next) n
@@ -89,7 +94,8 @@ module _ {program times : List ℕ} {locks : Ceilings} {p : Snapshot} {left coun
 
 -- the walk's answers
 
-unchanged : (at count allowance : ℕ) (buffer : List ℕ) (r : Outcome) → count ≤ allowance → r .count ≡ count → Left at allowance buffer buffer r
+unchanged : (at count allowance : ℕ) (buffer : List ℕ) (r : Outcome) → count ≤ allowance → r .count ≡ count
+    → Left at allowance buffer buffer r
 unchanged at count allowance buffer r le e = (refl, omega arith, record { kept = refl; beyond = refl })
 
 ended-count : (p : Snapshot) (count at : ℕ) → endedAt p count at .count ≡ count
@@ -97,7 +103,9 @@ unfolding endedAt heldAt if_then_else_
 ended-count p count at = go (any (λ flag. flag) (p .failed))
   where
     go : (b : Bool)
-        → (if b then record { found = true; stopped = false; count = count; length = at; store = p .store; failed = p .failed } else heldAt count) .count ≡ count
+        → (if b then record
+        { found = true; stopped = false; count = count; length = at; store = p .store; failed = p .failed } else
+        heldAt count) .count ≡ count
     go true = refl
     go false = refl
 
@@ -119,9 +127,10 @@ module _ {program times : List ℕ} {locks : Ceilings} {p : Snapshot} (left : �
         subst (Came _ count allowance (512 - left) buffer buffer) (sym is) (walk-none-left left count allowance buffer le going empty a s ok lends inv shows),
   )
 
-pub tried-answer : {program times : List ℕ} {locks : Ceilings} {p : Snapshot} {left count allowance : ℕ} {before after : List ℕ} {r : Outcome}
-    → finishedIn program p ≡ false → (left ≡ 0 → ⊥) → left ≤ 512
-    → Left (511 - (left - 1)) allowance before after r × TriesAs program times locks p (left - 1) count allowance before after r
+pub tried-answer : {program times : List ℕ} {locks : Ceilings} {p : Snapshot} {left count allowance : ℕ}
+    {before after : List ℕ} {r : Outcome} → finishedIn program p ≡ false → (left ≡ 0 → ⊥) → left ≤ 512
+    → Left (511 - (left - 1)) allowance before after r × TriesAs program times locks p (left - 1) count allowance
+    before after r
     → Left (512 - left) allowance before after r × WalksAs program times locks p left count allowance before after r
 tried-answer {left = left} {allowance = allowance} {before} {after} {r} going some-left few answer =
     let one : 1 ≤ left = omega arith in

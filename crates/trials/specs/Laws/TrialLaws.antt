@@ -27,18 +27,22 @@ use Rattle.walk.specs.Walks.{EndedOrder, Walked, starting, afterMove, trial, wa
 -- the moves from a byte on are what is left of all moves: nothing failed before, and `made` moves were made with
 -- `count` before the trial
 pub record Rest (a : Accepted) (s : State) (left count made byte : ℕ) : Type 0 where
-  pub failing : trial (walkFrom a left) (moves a s) .failing ≡ trial (walkFrom a left) (stepsFrom a s byte (128 - byte)) .failing
-  pub total : count + trial (walkFrom a left) (moves a s) .count ≡ made + trial (walkFrom a left) (stepsFrom a s byte (128 - byte)) .count
+  pub failing : trial (walkFrom a left) (moves a s) .failing ≡ trial (walkFrom a left)
+      (stepsFrom a s byte (128 - byte)) .failing
+  pub total : count + trial (walkFrom a left) (moves a s) .count ≡ made + trial (walkFrom a left)
+      (stepsFrom a s byte (128 - byte)) .count
 
 -- before the first byte all are left
-pub rest-all : {a : Accepted} → IsAccepted a → {s : State} → Invariant a s → (left count : ℕ) → Rest a s left count count 0
+pub rest-all : {a : Accepted} → IsAccepted a → {s : State} → Invariant a s → (left count : ℕ)
+    → Rest a s left count count 0
 rest-all {a} ok {s} inv left count =
     let same = moves-steps ok inv in
     record { failing = ap (λ (ms : List Move). trial (walkFrom a left) ms .failing) same; total = ap (λ (ms : List Move). count + trial (walkFrom a left) ms .count) same }
 
 -- bytes that are no steps are passed over
 pub rest-skip : {a : Accepted} {s : State} {left count made : ℕ} (byte next : ℕ) → byte ≤ next → next ≤ 128
-    → ((k : ℕ) → byte ≤ k → k < next → step a s k ≡ none) → Rest a s left count made byte → Rest a s left count made next
+    → ((k : ℕ) → byte ≤ k → k < next → step a s k ≡ none) → Rest a s left count made byte
+    → Rest a s left count made next
 rest-skip {a} {s} {left} {count} {made} byte next le few idle rest =
     let whole : 128 - byte ≡ (next - byte) + (128 - next) = omega arith in
     let further : byte + (next - byte) ≡ next = omega arith in
@@ -51,10 +55,12 @@ rest-skip {a} {s} {left} {count} {made} byte next le few idle rest =
     }
 
 -- at a byte that is a step, the rest is that move, what is below it, and the moves after it
-rest-here : {a : Accepted} {s : State} {left count made : ℕ} (byte : ℕ) → byte < 128 → {after : State} → step a s byte ≡ some after
-    → Rest a s left count made byte
-    → (trial (walkFrom a left) (moves a s) .failing ≡ afterMove byte (walkFrom a left after) (trial (walkFrom a left) (stepsFrom a s (byte + 1) (128 - (byte + 1)))) .failing)
-    × (count + trial (walkFrom a left) (moves a s) .count ≡ made + afterMove byte (walkFrom a left after) (trial (walkFrom a left) (stepsFrom a s (byte + 1) (128 - (byte + 1)))) .count)
+rest-here : {a : Accepted} {s : State} {left count made : ℕ} (byte : ℕ) → byte < 128 → {after : State}
+    → step a s byte ≡ some after → Rest a s left count made byte
+    → (trial (walkFrom a left) (moves a s) .failing ≡ afterMove byte (walkFrom a left after)
+    (trial (walkFrom a left) (stepsFrom a s (byte + 1) (128 - (byte + 1)))) .failing) × (count + trial
+    (walkFrom a left) (moves a s) .count ≡ made + afterMove byte (walkFrom a left after)
+    (trial (walkFrom a left) (stepsFrom a s (byte + 1) (128 - (byte + 1)))) .count)
 unfolding trial
 rest-here {a} {s} {left} {count} {made} byte lt {after} e rest =
     let more : 128 - byte ≡ suc (128 - (byte + 1)) = omega arith in
@@ -67,17 +73,20 @@ rest-here {a} {s} {left} {count} {made} byte lt {after} e rest =
 
 -- what a move comes to: none below it failed, or one did
 move-holds : (byte : ℕ) (below others : Walked) → below .failing ≡ none
-    → (afterMove byte below others .failing ≡ others .failing) × (afterMove byte below others .count ≡ 1 + below .count + others .count)
+    → (afterMove byte below others .failing ≡ others .failing)
+    × (afterMove byte below others .count ≡ 1 + below .count + others .count)
 unfolding afterMove
 move-holds byte below others e = rw (e, afterMove) (refl, refl)
 
 move-fails : (byte : ℕ) (below others : Walked) {f : EndedOrder} → below .failing ≡ some f
-    → (afterMove byte below others .failing ≡ some (starting byte f)) × (afterMove byte below others .count ≡ 1 + below .count)
+    → (afterMove byte below others .failing ≡ some (starting byte f))
+    × (afterMove byte below others .count ≡ 1 + below .count)
 unfolding afterMove
 move-fails byte below others e = rw (e, afterMove) (refl, refl)
 
 -- it counts itself and all below it
-move-counts : (byte : ℕ) (below others : Walked) (o : Option EndedOrder) → below .failing ≡ o → 1 + below .count ≤ afterMove byte below others .count
+move-counts : (byte : ℕ) (below others : Walked) (o : Option EndedOrder) → below .failing ≡ o
+    → 1 + below .count ≤ afterMove byte below others .count
 move-counts byte below others none e = omega (arith, move-holds byte below others e .1)
 move-counts byte below others (some f) e = omega (arith, move-fails byte below others e .1)
 
@@ -131,7 +140,8 @@ module _ {a : Accepted} {s : State} {left count made allowance byte : ℕ} (few 
     abbrev others : Walked
     others = trial (walkFrom a left) (stepsFrom a s (byte + 1) (128 - (byte + 1)))
 
-    here : (whole .failing ≡ afterMove byte below others .failing) × (count + whole .count ≡ made + afterMove byte below others .count)
+    here : (whole .failing ≡ afterMove byte below others .failing)
+        × (count + whole .count ≡ made + afterMove byte below others .count)
     here = rest-here byte lt steps rest
 
     counts : 1 + below .count ≤ afterMove byte below others .count
@@ -155,8 +165,10 @@ module _ {a : Accepted} {s : State} {left count made allowance byte : ℕ} (few 
       onward = path-kept left byte few room path child-path
 
       -- the order found below goes on from the byte
-      found-on : (o : Option EndedOrder) → below .failing ≡ o → made + 1 + below .count ≤ allowance → WalkEndsAs o (made + 1 + below .count) (512 - left) out r → r .found ≡ true
-          → (count + whole .count ≡ made + 1 + below .count) × WalkEndsAs (whole .failing) (count + whole .count) (511 - left) out r
+      found-on : (o : Option EndedOrder) → below .failing ≡ o → made + 1 + below .count ≤ allowance
+          → WalkEndsAs o (made + 1 + below .count) (512 - left) out r → r .found ≡ true
+          → (count + whole .count ≡ made + 1 + below .count) × WalkEndsAs (whole .failing) (count + whole .count)
+          (511 - left) out r
       unfolding starting
       found-on none e fits ends found = absurd (not-both _ found (ends .0))
       found-on (some f) e fits ends found =
@@ -200,7 +212,8 @@ module _ {a : Accepted} {s : State} {left count made allowance byte : ℕ} (few 
                 }
           ]
 
-      held-on : (o : Option EndedOrder) → below .failing ≡ o → made + 1 + below .count ≤ allowance → WalkEndsAs o (made + 1 + below .count) (512 - left) out r → r .found ≡ false
+      held-on : (o : Option EndedOrder) → below .failing ≡ o → made + 1 + below .count ≤ allowance
+          → WalkEndsAs o (made + 1 + below .count) (512 - left) out r → r .found ≡ false
           → Rest a s left count (r .count) (byte + 1)
       held-on none e fits ends lost =
           let moved = move-holds byte below others e in

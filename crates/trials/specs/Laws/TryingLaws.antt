@@ -27,7 +27,8 @@ use Rattle.moves.specs.Code.MoveParts.{NoStep, NextStep}
 use Rattle.walk.specs.Walks.{walkFrom}
 
 -- at a candidate: what was tried held, and what is left starts there
-pub record Trying (program times : List ℕ) (locks : Ceilings) (p : Snapshot) (left count made allowance : ℕ) (m : Candidate) (before now : List ℕ) : Type 0 where
+pub record Trying (program times : List ℕ) (locks : Ceilings) (p : Snapshot) (left count made allowance : ℕ)
+    (m : Candidate) (before now : List ℕ) : Type 0 where
   pub next : NextStep program times locks p (m .byte) m
   pub within : made ≤ allowance
   pub same : length now ≡ length before
@@ -36,14 +37,14 @@ pub record Trying (program times : List ℕ) (locks : Ceilings) (p : Snapshot) (
       → Rest a s left count made (m .byte)
 
 -- a byte that is no step of the snapshot is none of the state
-no-step : {a : Accepted} → IsAccepted a → {program times : List ℕ} {locks : Ceilings} → Lends a program times locks → {p : Snapshot} {s : State}
-    → Invariant a s → Shows a p s → {first last : ℕ} → NoStep program times locks p first last
-    → (k : ℕ) → first ≤ k → k < last → step a s k ≡ none
+no-step : {a : Accepted} → IsAccepted a → {program times : List ℕ} {locks : Ceilings} → Lends a program times locks
+    → {p : Snapshot} {s : State} → Invariant a s → Shows a p s → {first last : ℕ}
+    → NoStep program times locks p first last → (k : ℕ) → first ≤ k → k < last → step a s k ≡ none
 no-step ok lends inv shows idle k least most = step-agreed ok lends inv shows k .1 (idle k least most)
 
 -- a candidate looked for from a byte on is the first from itself on
-from-itself : {program times : List ℕ} {locks : Ceilings} {p : Snapshot} {byte : ℕ} {m : Candidate} → NextStep program times locks p byte m
-    → NextStep program times locks p (m .byte) m
+from-itself : {program times : List ℕ} {locks : Ceilings} {p : Snapshot} {byte : ℕ} {m : Candidate}
+    → NextStep program times locks p byte m → NextStep program times locks p (m .byte) m
 from-itself next = record {
   none-before = λ k least most. absurd (omega arith);
   ahead = omega arith;
@@ -79,18 +80,22 @@ module _ {program times : List ℕ} {locks : Ceilings} {p : Snapshot} {left coun
       abbrev MovedTo : (a : Accepted) (s : State) → Type 0
       MovedTo a s = (after : State) × (step a s (m .byte) ≡ some after) × Shows a (stepIn program times locks p (m .byte) .state) after
 
-      moved : (a : Accepted) (s : State) → IsAccepted a → Lends a program times locks → Invariant a s → Shows a p s → MovedTo a s
+      moved : (a : Accepted) (s : State) → IsAccepted a → Lends a program times locks → Invariant a s → Shows a p s
+          → MovedTo a s
       moved a s ok lends inv shows = step-agreed ok lends inv shows (m .byte) .0 (trying .next .allowed lt)
 
       -- it stops where the allowance is spent
-      pub trying-stops : allowance ≤ made → TriesAs program times locks p left count allowance before now (stoppedAt made)
+      pub trying-stops : allowance ≤ made
+          → TriesAs program times locks p left count allowance before now (stoppedAt made)
       trying-stops spent a s ok lends inv shows =
           trial-stops few (trying .within) (trying .rest a s ok lends inv shows) (trying .path) lt (moved a s ok lends inv shows .1) spent
 
       module _ {out : List ℕ} {r : Outcome} (room : 512 ≤ length now)
           (child : WalksAs program times locks (stepIn program times locks p (m .byte) .state) left (made + 1) allowance (set now (511 - left) (m .byte)) out r) where
-        below-came : (a : Accepted) (s : State) (ok : IsAccepted a) (lends : Lends a program times locks) (inv : Invariant a s) (shows : Shows a p s)
-            → Came (walkFrom a left (moved a s ok lends inv shows .0)) (made + 1) allowance (512 - left) (set now (511 - left) (m .byte)) out r
+        below-came : (a : Accepted) (s : State) (ok : IsAccepted a) (lends : Lends a program times locks)
+            (inv : Invariant a s) (shows : Shows a p s)
+            → Came (walkFrom a left (moved a s ok lends inv shows .0)) (made + 1) allowance (512 - left)
+            (set now (511 - left) (m .byte)) out r
         below-came a s ok lends inv shows =
             let to = moved a s ok lends inv shows in
             child a (to .0) ok lends (step-keeps ok inv (m .byte) (to .1)) (to .2)

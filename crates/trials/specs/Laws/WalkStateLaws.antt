@@ -25,8 +25,8 @@ use Rattle.trials.specs.Code.Trials.{WalkEndsAs, Came, WalksAs, TriesAs}
 use Rattle.walk.specs.Walks.{EndedOrder, Walked, fails, trial, atEnd, walkFrom}
 
 -- nothing found, and nothing changed
-came-held : (count allowance at : ℕ) (buffer : List ℕ) → count ≤ allowance → (walked : Walked) → walked .failing ≡ none → walked .count ≡ 0
-    → Came walked count allowance at buffer buffer (heldAt count)
+came-held : (count allowance at : ℕ) (buffer : List ℕ) → count ≤ allowance → (walked : Walked)
+    → walked .failing ≡ none → walked .count ≡ 0 → Came walked count allowance at buffer buffer (heldAt count)
 unfolding heldAt
 came-held count allowance at buffer le walked nothing zero-moves =
     record {
@@ -37,7 +37,8 @@ came-held count allowance at buffer le walked nothing zero-moves =
     }
 
 -- a complete order fails if a job has
-ended-came : (p : Snapshot) (s : State) → p .store ≡ s .store → p .failed ≡ s .failed → (count allowance at : ℕ) (buffer : List ℕ) → count ≤ allowance
+ended-came : (p : Snapshot) (s : State) → p .store ≡ s .store → p .failed ≡ s .failed
+    → (count allowance at : ℕ) (buffer : List ℕ) → count ≤ allowance
     → Came (atEnd s) count allowance at buffer buffer (endedAt p count at)
 unfolding endedAt atEnd fails orderEnd if_then_else_
 ended-came p s store failed count allowance at buffer le =
@@ -71,7 +72,8 @@ module _ {program times : List ℕ} {locks : Ceilings} {p : Snapshot} (left coun
       subst (λ (w : Walked). Came w count allowance (512 - left) buffer buffer (endedAt p count (512 - left))) (sym (walk-end a s left ended))
       (ended-came p s (shows .store) (shows .failed) count allowance (512 - left) buffer le)
 
-  pub walk-none-left : finishedIn program p ≡ false → left ≡ 0 → WalksAs program times locks p left count allowance buffer buffer (heldAt count)
+  pub walk-none-left : finishedIn program p ≡ false → left ≡ 0
+      → WalksAs program times locks p left count allowance buffer buffer (heldAt count)
   walk-none-left going empty a s ok lends inv shows =
       let unended = sym (finished-agreed ok lends inv shows) ∙ going in
       let is : walkFrom a left s ≡ record { failing = none; count = 0 } = ap (λ (n : ℕ). walkFrom a n s) empty ∙ walk-cut a s unended in
@@ -79,9 +81,10 @@ module _ {program times : List ℕ} {locks : Ceilings} {p : Snapshot} (left coun
       (came-held count allowance (512 - left) buffer le _ refl refl)
 
 -- where jobs are left, the walk is the trial of the moves
-pub walk-tried : {program times : List ℕ} {locks : Ceilings} {p : Snapshot} {left count allowance : ℕ} {before after : List ℕ} {r : Outcome}
-    → finishedIn program p ≡ false → 1 ≤ left → left ≤ 512
-    → TriesAs program times locks p (left - 1) count allowance before after r → WalksAs program times locks p left count allowance before after r
+pub walk-tried : {program times : List ℕ} {locks : Ceilings} {p : Snapshot} {left count allowance : ℕ}
+    {before after : List ℕ} {r : Outcome} → finishedIn program p ≡ false → 1 ≤ left → left ≤ 512
+    → TriesAs program times locks p (left - 1) count allowance before after r
+    → WalksAs program times locks p left count allowance before after r
 walk-tried {left = left} {count} {allowance} {before} {after} {r} going some-left few tries a s ok lends inv shows =
     let unended = sym (finished-agreed ok lends inv shows) ∙ going in
     let less : left ≡ suc (left - 1) = omega arith in

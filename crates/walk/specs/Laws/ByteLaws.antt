@@ -71,7 +71,8 @@ step-or-none none = inl refl
 step-or-none (some after) = inr (after, refl)
 
 -- one byte that is no step
-steps-none : (a : Accepted) (s : State) (byte n : ℕ) → step a s byte ≡ none → stepsFrom a s byte (suc n) ≡ stepsFrom a s (suc byte) n
+steps-none : (a : Accepted) (s : State) (byte n : ℕ) → step a s byte ≡ none
+    → stepsFrom a s byte (suc n) ≡ stepsFrom a s (suc byte) n
 unfolding stepsFrom
 steps-none a s byte n e = rw (e, stepsFrom) refl
 

@@ -67,19 +67,21 @@ module _ (a : Accepted) (s : State) where
 
 -- what a move comes to, by what the walk below it has found
 module _ (byte : ℕ) (below others : Walked) where
-  pub after-none : below .failing ≡ none → afterMove byte below others ≡ record { failing = others .failing; count = 1 + below .count + others .count }
+  pub after-none : below .failing ≡ none
+      → afterMove byte below others ≡ record { failing = others .failing; count = 1 + below .count + others .count }
   unfolding afterMove
   after-none e = rw (e, afterMove) refl
 
-  pub after-some : {f : EndedOrder} → below .failing ≡ some f → afterMove byte below others ≡ record { failing = some (starting byte f); count = 1 + below .count }
+  pub after-some : {f : EndedOrder} → below .failing ≡ some f
+      → afterMove byte below others ≡ record { failing = some (starting byte f); count = 1 + below .count }
   unfolding afterMove
   after-some e = rw (e, afterMove) refl
 
 -- ---- no step after the end
 
 -- where all jobs have ended there is no step
-pub end-steps : {a : Accepted} → IsAccepted a → {s : State} → Invariant a s → allEnded a s ≡ true → (byte : ℕ) {after : State}
-    → step a s byte ≡ some after → ⊥
+pub end-steps : {a : Accepted} → IsAccepted a → {s : State} → Invariant a s → allEnded a s ≡ true
+    → (byte : ℕ) {after : State} → step a s byte ≡ some after → ⊥
 unfolding allEnded
 end-steps {a} ok {s} inv done byte e =
     let made = step-says a s byte e in
@@ -87,7 +89,8 @@ end-steps {a} ok {s} inv done byte e =
     tests.not-both _ (all-jobs a (hasEnded s) done _ (good .running .job)) (good .running .unended)
 
 -- an order that begins with a byte: that byte is a step, and the rest goes on from there
-pub run-first : (a : Accepted) (s : State) (byte : ℕ) (bytes : List ℕ) {after : State} → run a s (byte ∷ bytes) ≡ some after
+pub run-first : (a : Accepted) (s : State) (byte : ℕ) (bytes : List ℕ) {after : State}
+    → run a s (byte ∷ bytes) ≡ some after
     → (next : State) × (step a s byte ≡ some next) × (run a next bytes ≡ some after)
 unfolding run
 run-first a s byte bytes e = bind-eq-some-iff (step a s byte) (λ next. run a next bytes) .0 e

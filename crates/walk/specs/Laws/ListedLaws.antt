@@ -27,8 +27,8 @@ use Rattle.walk.specs.Walks.{EndedOrder, starting, ordersThrough, orders
 -- ---- the complete orders are listed
 
 -- what is listed below a move is listed through the moves, with the move's byte in front
-through-member : (below : State → List EndedOrder) (ms : List Move) {m : Move} {f : EndedOrder} → List·Memᴰ m ms → List·Memᴰ f (below (m .after))
-    → List·Memᴰ (starting (m .byte) f) (ordersThrough below ms)
+through-member : (below : State → List EndedOrder) (ms : List Move) {m : Move} {f : EndedOrder} → List·Memᴰ m ms
+    → List·Memᴰ f (below (m .after)) → List·Memᴰ (starting (m .byte) f) (ordersThrough below ms)
 unfolding ordersThrough
 through-member below [] here found = absurd (List·Memᴰ·not-nil here)
 through-member below (n ∷ ns) {m} {f} here found =
@@ -40,7 +40,8 @@ through-member below (n ∷ ns) {m} {f} here found =
     ]
 
 -- and it has no others
-member-through : (below : State → List EndedOrder) (ms : List Move) {f : EndedOrder} → List·Memᴰ f (ordersThrough below ms)
+member-through : (below : State → List EndedOrder) (ms : List Move) {f : EndedOrder}
+    → List·Memᴰ f (ordersThrough below ms)
     → (m : Move) × (g : EndedOrder) × List·Memᴰ m ms × List·Memᴰ g (below (m .after)) × (starting (m .byte) g ≡ f)
 unfolding ordersThrough
 member-through below [] here = absurd (List·Memᴰ·not-nil here)
@@ -52,8 +53,9 @@ member-through below (n ∷ ns) here =
 
 module _ {a : Accepted} (ok : IsAccepted a) where
   -- an order that ends all jobs within the steps that may come is listed
-  pub from-listed : (n : ℕ) {s : State} → Invariant a s → (bytes : List ℕ) {after : State} → length bytes ≤ n → run a s bytes ≡ some after
-      → allEnded a after ≡ true → List·Memᴰ (record { bytes = bytes; ending = orderEnd after }) (ordersFrom a n s)
+  pub from-listed : (n : ℕ) {s : State} → Invariant a s → (bytes : List ℕ) {after : State} → length bytes ≤ n
+      → run a s bytes ≡ some after → allEnded a after ≡ true
+      → List·Memᴰ (record { bytes = bytes; ending = orderEnd after }) (ordersFrom a n s)
   unfolding run starting
   from-listed n {s} inv [] {after} short e done =
       let same : after ≡ s = cc in
@@ -78,7 +80,8 @@ pub record Ends (a : Accepted) (n : ℕ) (s : State) (f : EndedOrder) : Type 0 w
   pub ending : f .ending ≡ orderEnd after
 
 -- at an end the empty order is such an order
-ends-here : (a : Accepted) (n : ℕ) (s : State) → allEnded a s ≡ true → {f : EndedOrder} → List·Memᴰ f (ordersFrom a n s) → Ends a n s f
+ends-here : (a : Accepted) (n : ℕ) (s : State) → allEnded a s ≡ true → {f : EndedOrder}
+    → List·Memᴰ f (ordersFrom a n s) → Ends a n s f
 unfolding run
 ends-here a n s done {f} here =
     let same : f ≡ record { bytes = []; ending = orderEnd s } = List·Memᴰ·eq-of-singleton (rw (orders-end a s n done) at here) in
@@ -86,7 +89,8 @@ ends-here a n s done {f} here =
 
 module _ {a : Accepted} (ok : IsAccepted a) where
   -- nothing else is listed
-  pub listed-from : (n : ℕ) {s : State} → Invariant a s → {f : EndedOrder} → List·Memᴰ f (ordersFrom a n s) → Ends a n s f
+  pub listed-from : (n : ℕ) {s : State} → Invariant a s → {f : EndedOrder} → List·Memᴰ f (ordersFrom a n s)
+      → Ends a n s f
   unfolding starting
   listed-from zero {s} inv here =
       elim (tests.test-decided (allEnded a s)) [
@@ -152,8 +156,8 @@ module _ (below : State → List EndedOrder) where
       (through-above byte bytes ms (above .1))
 
   -- moves that ascend, with orders below each that ascend, make orders that ascend
-  through-ascends : (ms : List Move) → Ordered (λ m n. m .byte < n .byte) ms → Every (λ m. Ordered Before (below (m .after))) ms
-      → Ordered Before (ordersThrough below ms)
+  through-ascends : (ms : List Move) → Ordered (λ m n. m .byte < n .byte) ms
+      → Every (λ m. Ordered Before (below (m .after))) ms → Ordered Before (ordersThrough below ms)
   unfolding ordersThrough starting
   through-ascends [] rise each = tt
   through-ascends (m ∷ ms) rise each =
@@ -165,7 +169,8 @@ module _ (below : State → List EndedOrder) where
       (every-of _ (λ f. through-above (m .byte) (f .bytes) ms (rise .0)) (below (m .after))))
 
 -- the orders listed from a state on ascend
-pub from-ascends : {a : Accepted} → IsAccepted a → (n : ℕ) {s : State} → Invariant a s → Ordered Before (ordersFrom a n s)
+pub from-ascends : {a : Accepted} → IsAccepted a → (n : ℕ) {s : State} → Invariant a s
+    → Ordered Before (ordersFrom a n s)
 from-ascends {a} ok zero {s} inv =
     elim (tests.test-decided (allEnded a s)) [
       | inl ended ↦ rw (orders-end a s zero ended) (tt, tt)

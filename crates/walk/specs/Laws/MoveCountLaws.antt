@@ -30,7 +30,8 @@ pub record Counted (w : Walked) (listed : List (List ℕ)) : Type 0 where
 -- and below a move it may stand at a failing end, and have made none
 record Made (w : Walked) (listed : List (List ℕ)) : Type 0 where
   all : w .failing ≡ none → w .count ≡ length listed
-  found : (f : EndedOrder) → w .failing ≡ some f → ((f .bytes ≡ []) × (w .count ≡ 0)) ⊎ UpTo (w .count) listed (f .bytes)
+  found : (f : EndedOrder) → w .failing ≡ some f
+      → ((f .bytes ≡ []) × (w .count ≡ 0)) ⊎ UpTo (w .count) listed (f .bytes)
 
 counted-made : {w : Walked} {listed : List (List ℕ)} → Counted w listed → Made w listed
 counted-made c = record { all = c .all; found = λ f e. inr (c .found f e) }
@@ -64,7 +65,8 @@ module _ (byte : ℕ) (listed others : List (List ℕ)) where
       }
 
   -- and one that fails after a later move
-  upto-later : {count : ℕ} {bytes : List ℕ} → UpTo count others bytes → UpTo (1 + length listed + count) throughMove bytes
+  upto-later : {count : ℕ} {bytes : List ℕ} → UpTo count others bytes
+      → UpTo (1 + length listed + count) throughMove bytes
   upto-later {count} {bytes} later =
       record {
         earlier = (byte ∷ []) ∷ (map longer listed ++ later .earlier);
@@ -77,7 +79,8 @@ module _ (byte : ℕ) (listed others : List (List ℕ)) where
 
 -- a move, then the walk below it, then the others
 module _ (byte : ℕ) {below others : Walked} {listed rest : List (List ℕ)} (made : Made below listed) (counted : Counted others rest) where
-  move-counted : (o : Option EndedOrder) → below .failing ≡ o → Counted (afterMove byte below others) (throughMove byte listed rest)
+  move-counted : (o : Option EndedOrder) → below .failing ≡ o
+      → Counted (afterMove byte below others) (throughMove byte listed rest)
   unfolding starting
   move-counted none e =
       rw (after-none byte below others e)
@@ -101,8 +104,8 @@ module _ (byte : ℕ) {below others : Walked} {listed rest : List (List ℕ)} (m
             ]);
       })
 
-trial-counted : (below : State → Walked) (listed : State → List (List ℕ)) → ((s : State) → Made (below s) (listed s)) → (ms : List Move)
-    → Counted (trial below ms) (pathsThrough listed ms)
+trial-counted : (below : State → Walked) (listed : State → List (List ℕ)) → ((s : State) → Made (below s) (listed s))
+    → (ms : List Move) → Counted (trial below ms) (pathsThrough listed ms)
 unfolding trial pathsThrough
 trial-counted below listed made [] = record { all = λ e. refl; found = λ f e. absurd (Option·none-ne-some f e) }
 trial-counted below listed made (m ∷ ms) =
@@ -113,7 +116,8 @@ end-made : (s : State) → Made (atEnd s) []
 unfolding atEnd if_then_else_
 end-made s = record { all = λ e. refl; found = λ f e. inl (go (fails (orderEnd s)) f e, refl) }
   where
-    go : (b : Bool) (f : EndedOrder) → (if b then some (record { bytes = []; ending = orderEnd s }) else none) ≡ some f → f .bytes ≡ []
+    go : (b : Bool) (f : EndedOrder)
+        → (if b then some (record { bytes = []; ending = orderEnd s }) else none) ≡ some f → f .bytes ≡ []
     go true f e = ap (λ (g : EndedOrder). g .bytes) (sym (Option·some-injective _ f e))
     go false f e = absurd (Option·none-ne-some f e)
 
@@ -137,7 +141,8 @@ from-made a (suc n) s =
     ]
 
 -- an order found through moves begins with a move's byte
-trial-found : (below : State → Walked) (ms : List Move) (f : EndedOrder) → trial below ms .failing ≡ some f → f .bytes ≡ [] → ⊥
+trial-found : (below : State → Walked) (ms : List Move) (f : EndedOrder) → trial below ms .failing ≡ some f
+    → f .bytes ≡ [] → ⊥
 unfolding trial starting
 trial-found below [] f e empty = Option·none-ne-some f e
 trial-found below (m ∷ ms) f e empty = go (below (m .after) .failing) refl (λ rest. trial-found below ms f rest empty)
@@ -156,8 +161,8 @@ unfolding atEnd if_then_else_
 end-sound s sound = rw sound refl
 
 -- so from a state with no failed flag the order that is found is not empty
-pub from-found : (a : Accepted) (n : ℕ) (s : State) → fails (orderEnd s) ≡ false → (f : EndedOrder) → walkFrom a n s .failing ≡ some f
-    → f .bytes ≡ [] → ⊥
+pub from-found : (a : Accepted) (n : ℕ) (s : State) → fails (orderEnd s) ≡ false → (f : EndedOrder)
+    → walkFrom a n s .failing ≡ some f → f .bytes ≡ [] → ⊥
 from-found a zero s sound f e empty =
     elim (tests.test-decided (allEnded a s)) [
       | inl ended ↦ Option·none-ne-some f (sym (end-sound s sound) ∙ rw (walk-end a s zero ended) at e)
@@ -170,7 +175,8 @@ from-found a (suc n) s sound f e empty =
     ]
 
 -- and the count is as said
-pub from-counted : (a : Accepted) (n : ℕ) (s : State) → fails (orderEnd s) ≡ false → Counted (walkFrom a n s) (pathsFrom a n s)
+pub from-counted : (a : Accepted) (n : ℕ) (s : State) → fails (orderEnd s) ≡ false
+    → Counted (walkFrom a n s) (pathsFrom a n s)
 from-counted a n s sound =
     let made = from-made a n s in
     record {

@@ -139,7 +139,8 @@ module _ {a : Accepted} (ok : IsAccepted a) {s : State} (inv : Invariant a s) wh
       (tasks-rise (a .table) _ (λ i j lt. tasks-ascend (i .0) (j .0) lt (startsOf a s i) (startsOf a s j) (start-bytes (i .0)) (start-bytes (j .0))))
 
   -- the moves of the running job come before all starts
-  starts-above : (f : Frame) (under : List Frame) → s .active ≡ f ∷ under → Every (λ n. 16 * base a (f .job) + 16 ≤ n .byte) (allStarts a s)
+  starts-above : (f : Frame) (under : List Frame) → s .active ≡ f ∷ under
+      → Every (λ n. 16 * base a (f .job) + 16 ≤ n .byte) (allStarts a s)
   unfolding startMoves
   starts-above f under same =
       every-each _ (startsOf a s) (taskNumbers (a .table))
@@ -152,7 +153,8 @@ module _ {a : Accepted} (ok : IsAccepted a) {s : State} (inv : Invariant a s) wh
           let above = subst (Every (λ g. base a (g .job) < i)) same (start-above i e) .0 in
           every-imp (OfTask i) (λ n. 16 * base a (f .job) + 16 ≤ n .byte) (λ n h. omega arith) (turnMoves a s turn) bytes
 
-  among-ascend : (active : List Frame) → s .active ≡ active → Ordered Ascending (runningMoves a s active ++ allStarts a s)
+  among-ascend : (active : List Frame) → s .active ≡ active
+      → Ordered Ascending (runningMoves a s active ++ allStarts a s)
   unfolding runningMoves
   among-ascend [] same = starts-ascend
   among-ascend (f ∷ under) same =
@@ -227,7 +229,8 @@ module _ {a : Accepted} (ok : IsAccepted a) {s : State} (inv : Invariant a s) wh
   turn-listed i [] same e here = start-listed i e here
   turn-listed i (f ∷ under) same {turn} e {m} here = go (eqb (base a (f .job)) i) e
     where
-      go : (b : Bool) → (if b then some (record { frame = f; under = under }) else startOf a s i) ≡ some turn → List·Memᴰ m (moves a s)
+      go : (b : Bool) → (if b then some (record { frame = f; under = under }) else startOf a s i) ≡ some turn
+          → List·Memᴰ m (moves a s)
       go true h =
           let turns : turn ≡ record { frame = f; under = under } = cc in
           Memᴰ·append-left (allStarts a s)
@@ -236,7 +239,8 @@ module _ {a : Accepted} (ok : IsAccepted a) {s : State} (inv : Invariant a s) wh
       go false h = start-listed i h here
 
   -- and each step is a move
-  pub step-is-move : (byte : ℕ) {after : State} → step a s byte ≡ some after → List·Memᴰ (record { byte = byte; after = after }) (moves a s)
+  pub step-is-move : (byte : ℕ) {after : State} → step a s byte ≡ some after
+      → List·Memᴰ (record { byte = byte; after = after }) (moves a s)
   unfolding turnOf turnMoves
   step-is-move byte {after} e =
       let made = step-says a s byte e in

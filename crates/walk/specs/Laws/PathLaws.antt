@@ -56,7 +56,8 @@ module _ (below : State → List (List ℕ)) where
 
   -- and there are no others
   below-through : (ms : List Move) {path : List ℕ} → List·Memᴰ path (pathsThrough below ms)
-      → (m : Move) × (rest : List ℕ) × List·Memᴰ m ms × ((rest ≡ []) ⊎ List·Memᴰ rest (below (m .after))) × (m .byte ∷ rest ≡ path)
+      → (m : Move) × (rest : List ℕ) × List·Memᴰ m ms × ((rest ≡ []) ⊎ List·Memᴰ rest (below (m .after)))
+      × (m .byte ∷ rest ≡ path)
   unfolding pathsThrough
   below-through [] here = absurd (List·Memᴰ·not-nil here)
   below-through (n ∷ ns) here =
@@ -89,7 +90,8 @@ module _ {a : Accepted} (ok : IsAccepted a) where
       ]
 
   -- no order has more steps than may come, so every beginning of one is listed
-  pub path-listed : (bytes : List ℕ) {s : State} → run a (initial a) bytes ≡ some s → 1 ≤ length bytes → List·Memᴰ bytes (paths a)
+  pub path-listed : (bytes : List ℕ) {s : State} → run a (initial a) bytes ≡ some s → 1 ≤ length bytes
+      → List·Memᴰ bytes (paths a)
   unfolding paths
   path-listed [] e filled = absurd (omega arith)
   path-listed (byte ∷ bytes) e filled =
@@ -97,7 +99,8 @@ module _ {a : Accepted} (ok : IsAccepted a) where
       from-moved orderRoom (initial-invariant a) byte bytes (omega (arith, short, jobs-few (ok .isTimed))) e
 
   -- nothing else is listed
-  pub listed-path : (n : ℕ) {s : State} → Invariant a s → {path : List ℕ} → List·Memᴰ path (pathsFrom a n s) → Begun a s path
+  pub listed-path : (n : ℕ) {s : State} → Invariant a s → {path : List ℕ} → List·Memᴰ path (pathsFrom a n s)
+      → Begun a s path
   unfolding run
   listed-path zero {s} inv here = absurd (List·Memᴰ·not-nil (rw (paths-cut a s) at here))
   listed-path (suc n) {s} inv here =

@@ -133,7 +133,8 @@ module _ {a : Accepted} (ok : IsAccepted a) (allowance : ℕ) where
     unfolding decidedAnswer verdictOf
     decided-fails = rw (decided-within allowance (walk a) within) (go (walk a .failing) refl)
       where
-        go : (o : Option EndedOrder) → walk a .failing ≡ o → (verdictOf (walk a .count) o .verdict ≡ Fails) ↔ SomeFails a
+        go : (o : Option EndedOrder) → walk a .failing ≡ o
+            → (verdictOf (walk a .count) o .verdict ≡ Fails) ↔ SomeFails a
         go none e = (λ v. absurd (let z : _≡_ {A = ℕ} 0 1 = cc in omega arith), λ some'. absurd (walk-holds ok e some'))
         go (some found) e = (λ v. walk-fails ok found e, λ some'. refl)
 
@@ -142,7 +143,8 @@ module _ {a : Accepted} (ok : IsAccepted a) (allowance : ℕ) where
     unfolding decidedAnswer verdictOf
     decided-holds = rw (decided-within allowance (walk a) within) (go (walk a .failing) refl)
       where
-        go : (o : Option EndedOrder) → walk a .failing ≡ o → (verdictOf (walk a .count) o .verdict ≡ Holds) ↔ (¬ SomeFails a)
+        go : (o : Option EndedOrder) → walk a .failing ≡ o
+            → (verdictOf (walk a .count) o .verdict ≡ Holds) ↔ (¬ SomeFails a)
         go none e = (λ v. walk-holds ok e, λ no. refl)
         go (some found) e =
             (λ v. absurd (let z : _≡_ {A = ℕ} 0 1 = cc in omega arith), λ no. absurd (no (walk-fails ok found e)))

@@ -30,7 +30,8 @@ module _ {A : Type 0} (test : A → Bool) where
   first-skips [] ys h = refl
   first-skips (x ∷ xs) ys h = go (test x) h (λ rest. first-skips xs ys rest)
     where
-      go : (b : Bool) → (if b then some x else firstWith test xs) ≡ none → (firstWith test xs ≡ none → firstWith test (xs ++ ys) ≡ firstWith test ys)
+      go : (b : Bool) → (if b then some x else firstWith test xs) ≡ none
+          → (firstWith test xs ≡ none → firstWith test (xs ++ ys) ≡ firstWith test ys)
           → (if b then some x else firstWith test (xs ++ ys)) ≡ firstWith test ys
       go true e later = absurd (Option·some-ne-none x e)
       go false e later = later e
@@ -41,7 +42,8 @@ module _ {A : Type 0} (test : A → Bool) where
   first-stays [] ys {y} h = absurd (Option·none-ne-some y h)
   first-stays (x ∷ xs) ys {y} h = go (test x) h (λ rest. first-stays xs ys rest)
     where
-      go : (b : Bool) → (if b then some x else firstWith test xs) ≡ some y → (firstWith test xs ≡ some y → firstWith test (xs ++ ys) ≡ some y)
+      go : (b : Bool) → (if b then some x else firstWith test xs) ≡ some y
+          → (firstWith test xs ≡ some y → firstWith test (xs ++ ys) ≡ some y)
           → (if b then some x else firstWith test (xs ++ ys)) ≡ some y
       go true e later = e
       go false e later = later e
@@ -50,29 +52,34 @@ abbrev firstFailing : List EndedOrder → Option EndedOrder
 firstFailing fs = firstWith (λ f. fails (f .ending)) fs
 
 -- a byte in front changes no end
-first-starting : (byte : ℕ) (fs : List EndedOrder) → firstFailing (map (starting byte) fs) ≡ Option·map (starting byte) (firstFailing fs)
+first-starting : (byte : ℕ) (fs : List EndedOrder)
+    → firstFailing (map (starting byte) fs) ≡ Option·map (starting byte) (firstFailing fs)
 unfolding firstWith starting if_then_else_
 first-starting byte [] = refl
 first-starting byte (f ∷ fs) = go (fails (f .ending)) (first-starting byte fs)
   where
     go : (b : Bool) → firstFailing (map (starting byte) fs) ≡ Option·map (starting byte) (firstFailing fs)
-        → (if b then some (starting byte f) else firstFailing (map (starting byte) fs)) ≡ Option·map (starting byte) (if b then some f else firstFailing fs)
+        → (if b then some (starting byte f) else firstFailing (map (starting byte) fs)) ≡ Option·map (starting byte)
+        (if b then some f else firstFailing fs)
     go true later = refl
     go false later = later
 
 -- trials find the first failing order through the moves, if the walk below finds it below
-through-first : (below : State → Walked) (listed : State → List EndedOrder) → ((s : State) → below s .failing ≡ firstFailing (listed s))
-    → (ms : List Move) → trial below ms .failing ≡ firstFailing (ordersThrough listed ms)
+through-first : (below : State → Walked) (listed : State → List EndedOrder)
+    → ((s : State) → below s .failing ≡ firstFailing (listed s)) → (ms : List Move)
+    → trial below ms .failing ≡ firstFailing (ordersThrough listed ms)
 unfolding trial ordersThrough firstWith
 through-first below listed finds [] = refl
 through-first below listed finds (m ∷ ms) = go (below (m .after) .failing) refl (through-first below listed finds ms)
   where
-    front : firstFailing (map (starting (m .byte)) (listed (m .after))) ≡ Option·map (starting (m .byte)) (below (m .after) .failing)
+    front : firstFailing (map (starting (m .byte)) (listed (m .after))) ≡ Option·map (starting (m .byte))
+        (below (m .after) .failing)
     front = first-starting (m .byte) (listed (m .after)) ∙ ap (Option·map (starting (m .byte))) (sym (finds (m .after)))
 
-    go : (o : Option EndedOrder) → below (m .after) .failing ≡ o → trial below ms .failing ≡ firstFailing (ordersThrough listed ms)
-        → afterMove (m .byte) (below (m .after)) (trial below ms) .failing
-        ≡ firstFailing (map (starting (m .byte)) (listed (m .after)) ++ ordersThrough listed ms)
+    go : (o : Option EndedOrder) → below (m .after) .failing ≡ o
+        → trial below ms .failing ≡ firstFailing (ordersThrough listed ms)
+        → afterMove (m .byte) (below (m .after)) (trial below ms) .failing ≡ firstFailing
+        (map (starting (m .byte)) (listed (m .after)) ++ ordersThrough listed ms)
     go none e later =
         ap (λ (w : Walked). w .failing) (after-none (m .byte) (below (m .after)) (trial below ms) e)
         ∙ later ∙ sym (first-skips (λ f. fails (f .ending)) (map (starting (m .byte)) (listed (m .after))) (ordersThrough listed ms) (front ∙ ap (Option·map (starting (m .byte))) e))
@@ -106,7 +113,8 @@ verdict-number count none = refl
 verdict-number count (some f) = refl
 
 -- 21 is answered exactly where the count exceeds the allowance
-pub undecided-when : (allowance : ℕ) (w : Walked) → (decidedAnswer (decided allowance w) .number ≡ 21) ↔ (allowance < w .count)
+pub undecided-when : (allowance : ℕ) (w : Walked)
+    → (decidedAnswer (decided allowance w) .number ≡ 21) ↔ (allowance < w .count)
 unfolding decided decidedAnswer require refusal _>>_
 undecided-when allowance w = go (leb (w .count) allowance) refl
   where

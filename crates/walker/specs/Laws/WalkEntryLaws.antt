@@ -42,8 +42,10 @@ use Rattle.walk.specs.Laws.FailingLaws.{walk-short}
 use Rattle.walk.specs.Laws.ShownLaws.{decided-within, decided-over, answer-room, after-room}
 use Rattle.walk.specs.Walks.{EndedOrder, Walked, walk}
 
-pub walk-lent : {t : Table} {list : JobList} {l : Lent} {allowance : ℕ} {before after : List ℕ} {r : Outcome} → LentOf t list l
-    → WalksAs (l .program) (l .times) (l .locks) (snapshotIn (l .start)) 512 0 allowance before after r → WalkOf t list allowance before after r
+pub walk-lent : {t : Table} {list : JobList} {l : Lent} {allowance : ℕ} {before after : List ℕ} {r : Outcome}
+    → LentOf t list l
+    → WalksAs (l .program) (l .times) (l .locks) (snapshotIn (l .start)) 512 0 allowance before after r
+    → WalkOf t list allowance before after r
 unfolding walk
 walk-lent lent walks a ok table listed =
     walks a (initial a) ok (lent .lends a ok table listed) (initial-invariant a) (lent .shows a ok table listed)
@@ -59,7 +61,8 @@ padded-rest (suc n) (x ∷ bytes) le =
     padded-cons n 0 x bytes ∙ ap (λ (xs : List ℕ). x ∷ xs) (padded-rest n bytes (omega arith) ∙ ap (λ (k : ℕ). bytes ++ replicate k 0) less)
 
 -- cleared behind the bytes, the buffer is filled with them
-buffer-filled : (buffer out : List ℕ) (n : ℕ) (bytes : List ℕ) → length bytes ≤ 512 → n ≡ length bytes → take n out ≡ bytes → drop 512 out ≡ drop 512 buffer
+buffer-filled : (buffer out : List ℕ) (n : ℕ) (bytes : List ℕ) → length bytes ≤ 512 → n ≡ length bytes
+    → take n out ≡ bytes → drop 512 out ≡ drop 512 buffer
     → take n out ++ (replicate (512 - n) 0 ++ drop 512 out) ≡ filled orderRoom bytes buffer
 unfolding filled
 buffer-filled buffer out n bytes short counted front beyond =
@@ -85,8 +88,8 @@ entry-stopped out r stopped lost =
     record { answer = sym (answer-stopped r stopped); front = ap (λ (n : ℕ). take n out) nothing; counted = nothing; short = omega arith }
 
 -- nothing found
-entry-held : (out : List ℕ) (r : Outcome) (walked : Walked) → walked .failing ≡ none → r .stopped ≡ false → r .found ≡ false → r .count ≡ walked .count
-    → EntryOf (passed walked) out r
+entry-held : (out : List ℕ) (r : Outcome) (walked : Walked) → walked .failing ≡ none → r .stopped ≡ false
+    → r .found ≡ false → r .count ≡ walked .count → EntryOf (passed walked) out r
 unfolding decidedAnswer decidedBytes verdictOf shown noStore noFlags
 entry-held out r walked e going lost counted =
     let nothing = sym (length-none r lost) in
@@ -98,8 +101,9 @@ entry-held out r walked e going lost counted =
     }
 
 -- an order found
-entry-found : (out : List ℕ) (r : Outcome) (walked : Walked) (f : EndedOrder) → walked .failing ≡ some f → length (f .bytes) ≤ 512 → r .stopped ≡ false
-    → WalkEndsAs (some f) (walked .count) 0 out r → EntryOf (passed walked) out r
+entry-found : (out : List ℕ) (r : Outcome) (walked : Walked) (f : EndedOrder) → walked .failing ≡ some f
+    → length (f .bytes) ≤ 512 → r .stopped ≡ false → WalkEndsAs (some f) (walked .count) 0 out r
+    → EntryOf (passed walked) out r
 unfolding decidedAnswer decidedBytes verdictOf shown
 entry-found out r walked f e short going ends =
     let found = ends .0 in
@@ -113,8 +117,8 @@ entry-found out r walked f e short going ends =
     }
 
 module _ {a : Accepted} (ok : IsAccepted a) {allowance : ℕ} {buffer out : List ℕ} {r : Outcome} (came : Came (walk a) 0 allowance 0 buffer out r) where
-  entry-within : walk a .count ≤ allowance → (o : Option EndedOrder) → walk a .failing ≡ o → WalkEndsAs o (walk a .count) 0 out r → r .stopped ≡ false
-      → EntryOf (passed (walk a)) out r
+  entry-within : walk a .count ≤ allowance → (o : Option EndedOrder) → walk a .failing ≡ o
+      → WalkEndsAs o (walk a .count) 0 out r → r .stopped ≡ false → EntryOf (passed (walk a)) out r
   entry-within within none e ends going = entry-held out r (walk a) e going (ends .0) (ends .1)
   entry-within within (some f) e ends going = entry-found out r (walk a) f e (walk-short ok f e) going ends
 
@@ -139,7 +143,8 @@ module _ (f : File) (allowance : ℕ) (buffer : List ℕ) (x : AcceptAnswer) (sa
   unfolding admitted
   refused-entry e = bind-refused _ (accepted-refused x (accept f) says e)
 
-  pub entry-refused : {n p : ℕ} → x .check ≡ Refused n p → (refusal n p ≡ walkAnswer f allowance buffer) × (buffer ≡ walkAfter f allowance buffer)
+  pub entry-refused : {n p : ℕ} → x .check ≡ Refused n p
+      → (refusal n p ≡ walkAnswer f allowance buffer) × (buffer ≡ walkAfter f allowance buffer)
   unfolding walkAnswer walkAfter walkAnswerOf walkAfterOf
   entry-refused e = (sym (ap (walkAnswerOf allowance) (refused-entry e)), sym (ap (λ (c : Checked ℕ Accepted). walkAfterOf allowance c buffer) (refused-entry e)))
 
@@ -157,7 +162,8 @@ module _ (f : File) (allowance : ℕ) (buffer : List ℕ) (x : AcceptAnswer) (sa
         bind-goes _ (found .1)
         ∙ require-fails (leb orderRoom (length buffer)) 20 0 (passed (found .0)) (lt-leb 512 (length buffer) lt)
 
-    pub entry-no-room : length buffer < 512 → (refusal 20 0 ≡ walkAnswer f allowance buffer) × (buffer ≡ walkAfter f allowance buffer)
+    pub entry-no-room : length buffer < 512
+        → (refusal 20 0 ≡ walkAnswer f allowance buffer) × (buffer ≡ walkAfter f allowance buffer)
     unfolding walkAnswer walkAfter walkAnswerOf walkAfterOf
     entry-no-room lt =
         let is = admitted-short lt in
@@ -180,8 +186,8 @@ module _ (f : File) (allowance : ℕ) (buffer : List ℕ) (x : AcceptAnswer) (sa
       pub entry-answer : answerOf r ≡ walkAnswer f allowance buffer
       entry-answer = fit .answer ∙ sym (answer-room f (found .1) allowance buffer room)
 
-      pub entry-after : {n : ℕ} {after : List ℕ} → n ≡ shownLength r → after ≡ take n out ++ (replicate (512 - n) 0 ++ drop 512 out)
-          → after ≡ walkAfter f allowance buffer
+      pub entry-after : {n : ℕ} {after : List ℕ} → n ≡ shownLength r
+          → after ≡ take n out ++ (replicate (512 - n) 0 ++ drop 512 out) → after ≡ walkAfter f allowance buffer
       entry-after same is =
           is ∙ ap (λ (n : ℕ). take n out ++ (replicate (512 - n) 0 ++ drop 512 out)) same
           ∙ buffer-filled buffer out (shownLength r) (decidedBytes (decided allowance (walk (found .0)))) (fit .short) (fit .counted) (fit .front) (came .beyond)

@@ -17,7 +17,8 @@ use Rattle.lending.specs.declared.Lent.{Lent}
 use Rattle.lending.specs.Code.Lending.{LentOf}
 
 pub replay-lent : {t : Table} {list : JobList} {l : Lent} (order : List ℕ) {r : Replayed} → LentOf t list l
-    → r ≡ replayedOf (replayIn (l .program) (l .times) (l .locks) (snapshotIn (l .start)) 0 order) → ReplayOf t list order r
+    → r ≡ replayedOf (replayIn (l .program) (l .times) (l .locks) (snapshotIn (l .start)) 0 order)
+    → ReplayOf t list order r
 replay-lent order lent is a ok table listed =
     let ends = replay-agreed ok (lent .lends a ok table listed) order (initial-invariant a) (lent .shows a ok table listed) 0 in
     subst (λ (q : Replayed). ReplayedAs q (replayFrom a (initial a) 0 order)) (sym is) (replay-kept a _ (replayFrom a (initial a) 0 order) ends)
