@@ -1,1 +1,1 @@
-pub mod ReplayEntryLaws
+pub mod ReplayTableLaws

@@ -18,7 +18,7 @@ use Rattle.order.specs.Replay.{replayAnswer}
 use Rattle.walk.specs.WalkEntry.{walkAnswer}
 use Rattle.walk.specs.Laws.SizeLaws.{replay-sized, walk-sized}
 use Rattle.words.specs.Words.{wordsOfRead, wordsOfRun, wordsOfWalk, readWords, runWords, walkWords, filledWith}
-use Rattle.words.specs.Laws.WordsLaws.{no-room, read-length, run-length, walk-length}
+use Rattle.words.specs.Laws.WordsLaws.{no-room, read-length, words-run-length, walk-length}
 
 -- the reader answers eight response times
 eight : (c : Checked ℕ Accepted) → length (readAnswerOf c .responses) ≡ 8
@@ -37,7 +37,7 @@ pub replay-unfilled : (lent : List ℕ) (f : File) (order : List ℕ) → length
 replay-unfilled lent f order short =
     let sized = replay-sized f order in
     no-room (runWords (replayAnswer f order)) lent
-    (omega (arith, run-length (replayAnswer f order) (sized .eight) (sized .each)))
+    (omega (arith, words-run-length (replayAnswer f order) (sized .eight) (sized .each)))
 
 pub walk-unfilled : (lent : List ℕ) (f : File) (allowance : ℕ) (buffer : List ℕ) → length lent < wordsOfWalk
     → lent ≡ filledWith (walkWords (walkAnswer f allowance buffer)) lent

@@ -99,17 +99,17 @@ module _ (a : Accepted) (x : ℕ) where
 -- ---- each job of a history of whole runs
 
 module _ (a : Accepted) where
-  pub whole-at : (h : Marks) (S : List Store) (y : ℕ) → y < length h → AllWhole a 0 h S
+  pub cut-whole : (h : Marks) (S : List Store) (y : ℕ) → y < length h → AllWhole a 0 h S
       → Whole a y 0 (getD h y []) (beginning a h S y)
   unfolding storesBefore
-  whole-at h S y inside whole = let place : 0 + y ≡ y = omega arith in rw place at (reading.whole-at a h 0 S whole y inside)
+  cut-whole h S y inside whole = let place : 0 + y ≡ y = omega arith in rw place at (reading.whole-at a h 0 S whole y inside)
 
   -- ---- a cut history
 
   module _ {h now : Marks} {x : ℕ} {m : Mark} (S : List Store) (whole : AllWhole a 0 h S) (cut : Cut h now x m) where
     -- the steps made and those left of a job
     whole-parts : (y : ℕ) → y < length h → Whole a y 0 (getD now y [] ++ cut .rest y) (beginning a h S y)
-    whole-parts y inside = subst (λ (ms : List Mark). Whole a y 0 ms (beginning a h S y)) (cut .whole y) (whole-at h S y inside whole)
+    whole-parts y inside = subst (λ (ms : List Mark). Whole a y 0 ms (beginning a h S y)) (cut .whole y) (cut-whole h S y inside whole)
 
     -- a job with no step left has ended
     pub cut-ended : (y : ℕ) → y < length h → cut .rest y ≡ [] → getD (columns a now S .jobs) y unbegun .ended ≡ true
@@ -147,10 +147,10 @@ module _ (a : Accepted) where
         }
 
     -- so its value is on offer
-    pub next-offered : member (m .value) (values
+    pub cut-offered : member (m .value) (values
         (instructionOf (a .table) (jobAt a (job x) .task) (getD (columns a now S .jobs) x unbegun .local .next)))
         ≡ true
-    next-offered = next-allowed (record { column = getD (columns a now S .jobs) x unbegun; stores = [] }) refl .onOffer
+    cut-offered = next-allowed (record { column = getD (columns a now S .jobs) x unbegun; stores = [] }) refl .onOffer
 
     -- a job's steps so far are the first of its steps in the whole history
     pub steps-taken : (y : ℕ) → y < length h

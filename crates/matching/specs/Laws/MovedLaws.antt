@@ -66,22 +66,22 @@ module _ {a : Accepted} (ok : IsAccepted a) {s : State} (inv : Invariant a s) {r
   pub round-open : r < jobTotal a
   round-open = omega (arith, ended-fewer a s (turn .frame .job) (good .running .job) (good .running .unended), t .ends)
 
-  pub job-listed : x < length h
+  pub moved-listed : x < length h
   unfolding jobTotal
-  job-listed = omega (arith, good .running .job, t .listed)
+  moved-listed = omega (arith, good .running .job, t .listed)
 
   pub has-column : x < length (now .jobs)
   unfolding columns
-  has-column = omega (arith, job-listed, columns-jobs a 0 h guesses)
+  has-column = omega (arith, moved-listed, columns-jobs a 0 h guesses)
 
   pub stores-all : length (now .stores) ≡ jobTotal a
   unfolding columns
   stores-all = columns-length a 0 h guesses ∙ t .guessed
 
   -- no job with a higher number has a step in this round
-  pub none-above : (y : ℕ) → x < y → inRound r (getD h y []) ≡ []
+  pub moved-above : (y : ℕ) → x < y → inRound r (getD h y []) ≡ []
   unfolding job
-  none-above y above = elim (none-or-some (inRound r (getD h y []))) [
+  moved-above y above = elim (none-or-some (inRound r (getD h y []))) [
     | inl none ↦ none
     | inr made ↦ absurd (omega (arith, active-lower ok good (job y) (λ e. omega arith) (t .here y made)))
   ]
@@ -126,7 +126,7 @@ module _ {a : Accepted} (ok : IsAccepted a) {s : State} (inv : Invariant a s) {r
     pub columns-moved : columns a (marked h x (markAt r v)) guesses ≡ moved
     unfolding markStep stepped
     columns-moved =
-        columns-marked a h x (markAt r v) guesses job-listed none-above
+        columns-marked a h x (markAt r v) guesses moved-listed moved-above
         ∙ ap
         (λ (e : Effect). record {
           jobs = set (now .jobs) x (stepped a x (markAt r v) e (record { column = getD (now .jobs) x unbegun; stores = now .stores }) .column);

@@ -21,7 +21,7 @@ use Rattle.matching.specs.Conversions.{OrderRounds, noting, roundsFrom}
 use Rattle.matching.specs.Laws.EndedLaws.{ended-all}
 use Rattle.matching.specs.Laws.OrderKept.{OrderKept, kept-initial}
 use Rattle.matching.specs.Laws.OrderSteps.{kept-turn}
-use Rattle.matching.specs.Laws.TraceMore.{run-first, trace-first, roundAfter}
+use Rattle.matching.specs.Laws.TraceMore.{trace-run-first, trace-first, roundAfter}
 use Rattle.matching.specs.Laws.TraceSteps.{Trace, traced, traceFrom, startTrace, traceOf}
 
 -- ---- the first byte
@@ -76,7 +76,7 @@ kept-run {a} ok [] s r t done {end} inv kept e =
       stores = omega arith;
     }
 kept-run {a} ok (byte ∷ bytes) s r t done {end} inv kept e =
-    let first = run-first a s byte bytes e in
+    let first = trace-run-first a s byte bytes e in
     let said = step-says a s byte (first .1) in
     let rest = kept-run ok bytes (first .0) (roundNext said r bytes) (traceNext said r bytes t) (done ++ (byte ∷ []))
     (step-keeps ok inv byte (first .1)) (kept-turn ok inv kept said) (first .2) in

@@ -29,7 +29,7 @@ use Rattle.matching.specs.Laws.AdvanceLaws.{turnStep, roundAdvanced, mad
 use Rattle.matching.specs.Laws.ColumnLaws.{round-elsewhere, run-snoc, columns-frame}
 use Rattle.matching.specs.Laws.Histories.{Mark, Marks, job, marked, inRound, JobColumn, unbegun, ColumnRun, stepped, markStep, runMarks, Columns, columns}
 use Rattle.matching.specs.Laws.MadeLaws.{made-here, made-other}
-use Rattle.matching.specs.Laws.MovedLaws.{markAt, round-open, job-listed, has-column, none-above, agree-turn, ownColumn, columns-moved}
+use Rattle.matching.specs.Laws.MovedLaws.{markAt, round-open, moved-listed, has-column, moved-above, agree-turn, ownColumn, columns-moved}
 use Rattle.matching.specs.Laws.OrderKept.{stepsBy, OrderKept}
 use Rattle.matching.specs.Laws.PairedLaws.{turnEffect, paired-turn}
 use Rattle.matching.specs.Laws.Pairings.{Made, Paired}
@@ -114,7 +114,7 @@ module _ {a : Accepted} (ok : IsAccepted a) {s : State} (inv : Invariant a s) {r
 
   -- the step's job has a place, and no step is in a later round
   listed : x .0 < length h
-  listed = job-listed ok inv (kept .follows) good kind
+  listed = moved-listed ok inv (kept .follows) good kind
 
   more-listed : x .0 < length more
   unfolding marked
@@ -184,7 +184,7 @@ module _ {a : Accepted} (ok : IsAccepted a) {s : State} (inv : Invariant a s) {r
   unfolding job
   parts-after =
       parts-marked a h (x .0) m guesses (λ y. hasEnded s (job y)) (λ y. hasEnded after (job y)) listed (good .running .unended)
-      (none-above ok inv (kept .follows) good kind) step-allowed ended-others own-ended (kept .parts)
+      (moved-above ok inv (kept .follows) good kind) step-allowed ended-others own-ended (kept .parts)
 
   parts-opened : Parts a more (set guesses (suc r) (after .store)) (λ y. hasEnded after (job y))
   parts-opened = parts-guess a more guesses (suc r) (after .store) (λ y. hasEnded after (job y)) more-later parts-after

@@ -21,7 +21,7 @@ use Rattle.machine.specs.Instructions.{Store, fresh}
 use Rattle.plan.specs.Legality.{stepsOf, dueStore}
 use Rattle.plan.specs.Plans.{Legal}
 use Rattle.plan.specs.Runs.{Plan, Step, JobRuns, jobTotal, firstRound}
-use Rattle.matching.specs.Laws.CutRuns.{whole-at, whole-ends}
+use Rattle.matching.specs.Laws.CutRuns.{cut-whole, whole-ends}
 use Rattle.matching.specs.Laws.Histories.{Mark, Marks, job, round, JobColumn, unbegun, ColumnRun, effectOf, stepped, markStep, runMarks, columns}
 use Rattle.matching.specs.Laws.LegalLaws.{legal-run, legal-guesses}
 use Rattle.notation.specs.Laws.ElementLaws.{last-snoc}
@@ -101,7 +101,7 @@ module _ {a : Accepted} (ok : IsAccepted a) (plan : Plan) {runs : JobRuns} (lega
   legal-ends y lt =
       let inside : y < length h = omega (arith, legal-back .full) in
       ap (λ (c : JobColumn). c .ended) (column-at a h y S inside)
-      ∙ whole-ends a y (getD h y []) 0 (beginning a h S y) (whole-at a h S y inside (legal-back .whole))
+      ∙ whole-ends a y (getD h y []) 0 (beginning a h S y) (cut-whole a h S y inside (legal-back .whole))
 
 -- a column's last step notes the priority of what its job holds
 pub column-notes : (a : Accepted) (h : Marks) (S : List Store) (y : ℕ) → y < length h

@@ -32,7 +32,7 @@ use Rattle.plan.specs.Plans.{Legal}
 use Rattle.plan.specs.Runs.{Plan, Step, JobRuns, jobTotal}
 use Rattle.matching.specs.Laws.CutLaws.{sequence-cut}
 use Rattle.matching.specs.Laws.CutRounds.{round-counted}
-use Rattle.matching.specs.Laws.CutRuns.{cut-ended, cut-open, next-offered, steps-taken}
+use Rattle.matching.specs.Laws.CutRuns.{cut-ended, cut-open, cut-offered, steps-taken}
 use Rattle.matching.specs.Laws.Cuts.{Placed, Cut, sequence, placedByte, gathered}
 use Rattle.matching.specs.Laws.Histories.{Mark, Marks, job, round, unbegun, columns}
 use Rattle.notation.specs.Laws.ElementLaws.{none-or-some}
@@ -203,8 +203,8 @@ module _ {a : Accepted} (ok : IsAccepted a) (plan : Plan) {runs : JobRuns} (lega
   cut = plan-cut ok plan legal done p rest split
 
   -- it is in this round, and of one of the jobs
-  pub next-round : r ≡ p .mark .round
-  next-round = sym (kept .trace .ends) ∙ cut-round ok plan legal cut s (kept .trace .endings)
+  pub kept-round : r ≡ p .mark .round
+  kept-round = sym (kept .trace .ends) ∙ cut-round ok plan legal cut s (kept .trace .endings)
 
   pub next-job : p .number < jobTotal a
   next-job = omega (arith, cut .known, legal-back ok plan legal .full)
@@ -225,11 +225,11 @@ module _ {a : Accepted} (ok : IsAccepted a) (plan : Plan) {runs : JobRuns} (lega
       let offered : Job → ℕ → Bool = λ y next. member (p .mark .value) (values (instructionOf (a .table) (jobAt a y .task) next)) in
       ap (λ (l : Local). offered (turn .frame .job) (l .next)) (sym (agree-turn ok (kept .inv) (kept .trace) good (turn-kind a s i (next-turn .due))))
       ∙ ap (λ (y : Job). offered y (getD jobs (y .0) unbegun .local .next)) (next-turn .whose)
-      ∙ next-offered a (guessesOf a plan) (legal-back ok plan legal .whole) cut
+      ∙ cut-offered a (guessesOf a plan) (legal-back ok plan legal .whole) cut
 
   -- so the order may take it
   pub next-due : StepDue a s p
   unfolding job jobTotal
   next-due =
       turn-due a s p (next-turn .turn) (next-turn .due) (next-turn .whose) turn-offered
-      (job-offered ok (job (p .number)) next-job _ (p .mark .value) (next-offered a (guessesOf a plan) (legal-back ok plan legal .whole) cut))
+      (job-offered ok (job (p .number)) next-job _ (p .mark .value) (cut-offered a (guessesOf a plan) (legal-back ok plan legal .whole) cut))

@@ -33,7 +33,7 @@ use Rattle.matching.specs.Laws.EndedLaws.{ended-none}
 use Rattle.matching.specs.Laws.Histories.{Mark, Marks, job, marked, inRound, Columns, unbegun, columns}
 use Rattle.matching.specs.Laws.MovedLaws.{markAt, columns-moved, moved-endings, moved-present}
 use Rattle.matching.specs.Laws.PlanColumns.{legal-back, legal-climbs, legal-stores, guess-due}
-use Rattle.matching.specs.Laws.PlanKept.{doneMarks, doneBytes, PlanKept, StepDue, plan-cut, cut-round, next-round, next-job, next-due}
+use Rattle.matching.specs.Laws.PlanKept.{doneMarks, doneBytes, PlanKept, StepDue, plan-cut, cut-round, kept-round, next-job, next-due}
 use Rattle.matching.specs.Laws.PlanReading.{marksOf, guessesOf}
 use Rattle.matching.specs.Laws.RowLaws.{marked-keeps}
 use Rattle.matching.specs.Laws.SequenceLaws.{sequence-gathered}
@@ -121,7 +121,7 @@ module _ {a : Accepted} (ok : IsAccepted a) (plan : Plan) {runs : JobRuns} (lega
   marks-step =
       ap (λ (y : ℕ). marked (doneMarks a done) y (markAt r (byte % 16))) whose
       ∙ ap (λ (v : ℕ). marked (doneMarks a done) (p .number) (markAt r v)) (due .value)
-      ∙ ap (λ (q : ℕ). marked (doneMarks a done) (p .number) (markAt q (p .mark .value))) (next-round ok plan legal kept p rest split)
+      ∙ ap (λ (q : ℕ). marked (doneMarks a done) (p .number) (markAt q (p .mark .value))) (kept-round ok plan legal kept p rest split)
       ∙ sym marks-more
 
   bytes-step : doneBytes a done ++ (byte ∷ []) ≡ doneBytes a next

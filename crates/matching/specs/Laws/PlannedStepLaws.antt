@@ -32,7 +32,7 @@ use Rattle.matching.specs.Laws.OrderPlanned.{runsOf, order-planned}
 use Rattle.matching.specs.PlannedSteps.{jobsFrom, stepsMade, StepPlanned, StepsPlanned, endedCount}
 use Rattle.matching.specs.Laws.PlanReading.{guessed, markOf, marksOf}
 use Rattle.matching.specs.Laws.PlanReadingLaws.{marks-back}
-use Rattle.matching.specs.Laws.TraceMore.{some-same, run-first, run-invariant, roundAfter, round-kept}
+use Rattle.matching.specs.Laws.TraceMore.{some-same, trace-run-first, run-invariant, roundAfter, round-kept}
 use Rattle.matching.specs.Laws.TraceStepLaws.{marks-whole, marks-noted}
 use Rattle.matching.specs.Laws.TraceSteps.{noted, traceOf}
 
@@ -44,7 +44,7 @@ run-cut : (a : Accepted) (earlier bytes : List ℕ) (s : State) {end : State} �
 unfolding run bind
 run-cut a [] bytes s e = (s, refl, e)
 run-cut a (b ∷ earlier) bytes s e =
-    let first = run-first a s b (earlier ++ bytes) e in
+    let first = trace-run-first a s b (earlier ++ bytes) e in
     let rest = run-cut a earlier bytes (first .0) (first .2) in
     (rest .0, rw (first .1) (rest .1), rest .2)
 
@@ -107,7 +107,7 @@ history-cut {a} ok [] bytes {s} inv r same {mid} ran =
     ap (λ (q : ℕ). notedFrom a s q bytes) same
     ∙ ap (λ (z : State). notedFrom a z (endedCount a z) bytes) (some-same ran)
 history-cut {a} ok (b ∷ earlier) bytes {s} inv r same {mid} ran =
-    let first = run-first a s b earlier ran in
+    let first = trace-run-first a s b earlier ran in
     let next : State = first .0 in
     let made = step-says a s b (first .1) in
     let x : Job = made .turn .frame .job in
@@ -220,7 +220,7 @@ steps-planned {a} ok {order} {s} complete =
       each-byte = λ earlier byte later cut.
           let ran = ap (run a (initial a)) (sym cut) ∙ complete .allowed in
           let halves = run-cut a earlier (byte ∷ later) (initial a) ran in
-          let first = run-first a (halves .0) byte later (halves .2) in
+          let first = trace-run-first a (halves .0) byte later (halves .2) in
           subst (λ (bytes : List ℕ). StepPlanned a (runsOf a bytes) earlier byte) (sym cut)
           (step-planned ok earlier later (halves .1) (step-says a (halves .0) byte (first .1)));
       no-others = steps-same a order;

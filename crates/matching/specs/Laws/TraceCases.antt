@@ -28,7 +28,7 @@ use Rattle.plan.specs.Runs.{jobTotal}
 use Rattle.matching.specs.Laws.ColumnLaws.{allStored, columns-frame}
 use Rattle.matching.specs.Laws.EndedLaws.{ended-same, ended-more}
 use Rattle.matching.specs.Laws.Histories.{Marks, job, marked, inRound, rows, unbegun, Columns, columns}
-use Rattle.matching.specs.Laws.MovedLaws.{markAt, round-open, job-listed, stores-all, none-above, moved, columns-moved, moved-locals, ended-here, moved-endings, moved-failures, moved-present, moved-past}
+use Rattle.matching.specs.Laws.MovedLaws.{markAt, round-open, moved-listed, stores-all, moved-above, moved, columns-moved, moved-locals, ended-here, moved-endings, moved-failures, moved-present, moved-past}
 use Rattle.matching.specs.Laws.RowLaws.{marked-keeps, rows-marked}
 use Rattle.matching.specs.Laws.Traces.{Traced}
 use Rattle.matching.specs.PlannedSteps.{endedCount}
@@ -62,7 +62,7 @@ module _ {a : Accepted} (ok : IsAccepted a) {s : State} (inv : Invariant a s) {r
   more-rows : (byte : ℕ) → 16 * base a (turn .frame .job) + v ≡ byte → rows a (jobTotal a) more ≡ done ++ (byte ∷ [])
   unfolding job
   more-rows byte e =
-      rows-marked a (jobTotal a) h x r v (job-listed ok inv t good kind) (round-open ok inv t good kind) (none-above ok inv t good kind) (t .later)
+      rows-marked a (jobTotal a) h x r v (moved-listed ok inv t good kind) (round-open ok inv t good kind) (moved-above ok inv t good kind) (t .later)
       ∙ ap (λ (l : List ℕ). l ++ ((16 * base a (turn .frame .job) + v) ∷ [])) (t .by-rows)
       ∙ ap (λ (n : ℕ). done ++ (n ∷ [])) e
 

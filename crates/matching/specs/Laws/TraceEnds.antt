@@ -24,7 +24,7 @@ use Rattle.matching.specs.Laws.ColumnLaws.{columns-jobs, columns-length}
 use Rattle.matching.specs.Laws.Histories.{Marks, JobColumn, unbegun, columns}
 use Rattle.notation.specs.Laws.ElementLaws.{last-at, last-none, or-none}
 use Rattle.matching.specs.Laws.PlanReading.{flagsFrom}
-use Rattle.matching.specs.Laws.TraceMore.{run-first}
+use Rattle.matching.specs.Laws.TraceMore.{trace-run-first}
 use Rattle.matching.specs.Laws.Traces.{Traced}
 
 -- ---- the flags of the failed columns
@@ -68,7 +68,7 @@ no-step : {a : Accepted} → IsAccepted a → jobTotal a ≡ 0 → (order : List
 unfolding run jobTotal
 no-step ok none [] e = cc
 no-step {a} ok none (byte ∷ bytes) e =
-    let said = step-says a (initial a) byte (run-first a (initial a) byte bytes e .1) in
+    let said = step-says a (initial a) byte (trace-run-first a (initial a) byte bytes e .1) in
     absurd (omega (arith, good-turn ok (initial-invariant a) (byte / 16) (said .due) .0 .running .job))
 
 -- ---- the end

@@ -30,10 +30,10 @@ some-same e = cc
 
 module _ (a : Accepted) where
   -- a run's first byte is a step, and the others run on from there
-  pub run-first : (s : State) (byte : ℕ) (bytes : List ℕ) {end : State} → run a s (byte ∷ bytes) ≡ some end
+  pub trace-run-first : (s : State) (byte : ℕ) (bytes : List ℕ) {end : State} → run a s (byte ∷ bytes) ≡ some end
       → (next : State) × (step a s byte ≡ some next) × (run a next bytes ≡ some end)
   unfolding run
-  run-first s byte bytes e = bind-eq-some-iff (step a s byte) (λ next. run a next bytes) .0 e
+  trace-run-first s byte bytes e = bind-eq-some-iff (step a s byte) (λ next. run a next bytes) .0 e
 
   run-on : (s : State) (byte : ℕ) (bytes : List ℕ) {next : State} → step a s byte ≡ some next
       → run a s (byte ∷ bytes) ≡ run a next bytes
@@ -46,7 +46,7 @@ module _ (a : Accepted) where
   unfolding run bind
   run-more [] s ran byte e = ap (λ (z : State). run a z (byte ∷ [])) (some-same ran) ∙ rw e refl
   run-more (b ∷ bytes) s ran byte e =
-      let first = run-first s b bytes ran in
+      let first = trace-run-first s b bytes ran in
       run-on s b (bytes ++ (byte ∷ [])) (first .1) ∙ run-more bytes (first .0) (first .2) byte e
 
 -- every step of a run keeps the invariant
@@ -55,7 +55,7 @@ pub run-invariant : {a : Accepted} → IsAccepted a → (bytes : List ℕ) {s mi
 unfolding run
 run-invariant {a} ok [] inv ran = subst (Invariant a) (some-same ran) inv
 run-invariant {a} ok (b ∷ bytes) {s} inv ran =
-    let first = run-first a s b bytes ran in
+    let first = trace-run-first a s b bytes ran in
     run-invariant ok bytes (step-keeps ok inv b (first .1)) (first .2)
 
 pub more-invariant : {a : Accepted} → IsAccepted a → (bytes : List ℕ) {s mid : State} → Invariant a s
@@ -138,7 +138,7 @@ module _ {a : Accepted} (ok : IsAccepted a) where
       let here = some-same ran in
       ap (λ (z : State). traceFrom a z r t (byte ∷ [])) here ∙ trace-one mid r (same ∙ ap (endedCount a) here) t byte e
   trace-more (b ∷ bytes) {s} inv r same t {mid} ran byte {after} e =
-      let first = run-first a s b bytes ran in
+      let first = trace-run-first a s b bytes ran in
       let made = step-says a s b (first .1) in
       let y = made .turn .frame .job in
       let next = first .0 in

@@ -2,12 +2,12 @@
 -- Assumes nothing.
 use borrow.Author.Needs.{needs}
 use Rattle.snapshots.specs.Code.SnapshotSteps.{ownerIn}
-use Rattle.moves.specs.Laws.FirstLaws.{first-none, first-far, first-raised, first-kept}
+use Rattle.moves.specs.Laws.FirstLaws.{first-byte-none, first-far, first-raised, first-kept}
 use Rattle.moves.proofs.first_byte.Statement.{statement}
 use Rattle.moves.proofs.first_byte.Tie as tie
 
 returns : tie.Need-returns
-returns c = first-none _ _ _ (c .if1 .taken)
+returns c = first-byte-none _ _ _ (c .if1 .taken)
 
 cast-base : tie.Need-cast-base
 cast-base c = search needs

@@ -21,9 +21,9 @@ use Rattle.moves.specs.Code.MoveParts.{NoStep, firstByte, topJob}
 -- ---- the byte, case by case
 
 module _ (program : List ℕ) (top byte : ℕ) where
-  pub first-none : 32 ≤ top → byte ≡ firstByte program top byte
+  pub first-byte-none : 32 ≤ top → byte ≡ firstByte program top byte
   unfolding firstByte if_then_else_
-  first-none le = rw (le-ltb top 32 le) refl
+  first-byte-none le = rw (le-ltb top 32 le) refl
 
   module _ (active : top < 32) where
     pub first-far : 8 ≤ ownerIn program top → byte ≡ firstByte program top byte

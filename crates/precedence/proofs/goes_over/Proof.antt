@@ -4,7 +4,7 @@ use mathlib.Core.Path.{sym, _∙_}
 use borrow.Author.Tests.{not-true}
 use Rattle.snapshots.specs.Laws.StartLaws.{over-no-job, over-blocked}
 use Rattle.states.specs.Code.StateBytes.{frameAt, frameIn}
-use Rattle.states.specs.Laws.StateReads.{over-priority}
+use Rattle.states.specs.Laws.StateReads.{over-priority-read}
 use borrow.Author.Needs.{needs}
 use Rattle.precedence.proofs.goes_over.Statement.{statement}
 use Rattle.precedence.proofs.goes_over.Tie as tie
@@ -59,7 +59,7 @@ element-copy-out-result c = search needs
 returns-3 : tie.Need-returns-3
 returns-3 c =
     let free = c .before .before .before .before .before .before .before in
-    over-priority _ _ _ _ _ _ (free .before .before .if1 .left) (free .before .may-preempt .ensures) (free .if2 .left)
+    over-priority-read _ _ _ _ _ _ (free .before .before .if1 .left) (free .before .may-preempt .ensures) (free .if2 .left)
     (c .before .before .before .before .before .eight-at .ensures) (c .before .before .priority-of .ensures)
 
 pub goes-over-spec : {M : Type 1} → statement M

@@ -1,6 +1,6 @@
 -- `precedence::waits_for` meets its contract: each return is one case of the definition's test.
 -- Assumes nothing.
-use Rattle.states.specs.Laws.StateReads.{owned-read, waits-unowned, waits-itself, waits-other}
+use Rattle.states.specs.Laws.StateReads.{owned-read, waits-unowned-read, waits-itself-read, waits-other-read}
 use borrow.Author.Needs.{needs}
 use Rattle.precedence.proofs.waits_for.Statement.{statement}
 use Rattle.precedence.proofs.waits_for.Tie as tie
@@ -18,10 +18,10 @@ owned-by-requires : tie.Need-owned-by-requires
 owned-by-requires c κs = search needs
 
 returns : tie.Need-returns
-returns c = waits-unowned _ _ _ _ _ (c .before .before .before .before .pre .1) (c .before .owned-by .ensures) (c .if1 .taken)
+returns c = waits-unowned-read _ _ _ _ _ (c .before .before .before .before .pre .1) (c .before .owned-by .ensures) (c .if1 .taken)
 
 returns-2 : tie.Need-returns-2
-returns-2 c = waits-itself _ _ _ _ _ (c .before .before .before .before .before .before .before .pre .1) (c .if2 .taken)
+returns-2 c = waits-itself-read _ _ _ _ _ (c .before .before .before .before .before .before .before .pre .1) (c .if2 .taken)
 
 comes-before-requires : tie.Need-comes-before-requires
 comes-before-requires c κs = (
@@ -32,7 +32,7 @@ comes-before-requires c κs = (
 returns-3 : tie.Need-returns-3
 returns-3 c =
     let found = c .before .before .before .before in
-    waits-other _ _ _ _ _ (found .before .before .before .before .pre .1) (found .before .owned-by .ensures) (found .if1 .left) (c .before .if2 .left)
+    waits-other-read _ _ _ _ _ (found .before .before .before .before .pre .1) (found .before .owned-by .ensures) (found .if1 .left) (c .before .if2 .left)
     (c .comes-before .ensures)
 
 pub waits-for-spec : {M : Type 1} → statement M

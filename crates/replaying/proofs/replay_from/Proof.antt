@@ -8,7 +8,7 @@ use lib.ListN.{length}
 use Rattle.snapshots.specs.Code.ReplayParts.{replayedOf}
 use Rattle.snapshots.specs.Laws.ReplayLoopLaws.{Reached, replay-past, replay-whole, replay-short}
 use Rattle.states.specs.Code.StateBytes.{snapshotIn, IsState}
-use Rattle.replaying.specs.Laws.StepBytes.{step-refused, step-goes}
+use Rattle.replaying.specs.Laws.StepBytes.{byte-refused, byte-goes}
 use Rattle.replaying.proofs.replay_from.Statement.{statement}
 use Rattle.replaying.proofs.replay_from.Tie as tie
 
@@ -51,7 +51,7 @@ returns-2 c =
     let done = made .before .before .before .before in
     c .outcome2 .ensures
     ∙ ap replayedOf
-    (step-refused _ _ _ _ _ _ _ (done .before .before .before .loop .inv .1) (done .finished .ensures) (done .before .before .loop-test .taken)
+    (byte-refused _ _ _ _ _ _ _ (done .before .before .before .loop .inv .1) (done .finished .ensures) (done .before .before .loop-test .taken)
     (made .before .before .before .if1 .left) (made .step .ensures .0) (made .step .ensures .1 .0) (c .before .before .if2 .taken))
 
 add-index : tie.Need-add-index Inv-loop μ-loop
@@ -65,7 +65,7 @@ loop-again c =
     let made = c .before in
     let done = made .before .before .before .before in (
       made .step .ensures .1 .1,
-      step-goes _ _ _ _ _ _ _ (done .before .before .before .loop .inv .1) (done .finished .ensures) (done .before .before .loop-test .taken)
+      byte-goes _ _ _ _ _ _ _ (done .before .before .before .loop .inv .1) (done .finished .ensures) (done .before .before .loop-test .taken)
           (made .before .before .before .if1 .left) (made .step .ensures .0) (made .step .ensures .1 .0) (c .if2 .left),
     )
 

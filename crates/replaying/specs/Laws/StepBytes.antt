@@ -45,13 +45,13 @@ module _ (program times : List ℕ) (locks : Ceilings) (start : Snapshot) (order
   whole : record { allowed = allowed; state = after } ≡ stepIn program times locks p (getD order index 0)
   whole = ap₂ (λ (t : Bool) (s : Snapshot). record { allowed = t; state = s }) allows made
 
-  pub step-refused : not allowed ≡ true
+  pub byte-refused : not allowed ≡ true
       → record { number = 30; place = index; state = after } ≡ replayIn program times locks start 0 order
-  step-refused refusal =
+  byte-refused refusal =
       ap (λ (s : Snapshot). record { number = 30; place = index; state = s })
       (made ∙ step-kept program times locks p (getD order index 0) (sym allows ∙ not-true allowed refusal))
       ∙ replay-refused program times locks start order p index reached finished lt goes {r = record { allowed = allowed; state = after }} whole refusal
 
-  pub step-goes : not allowed ≡ false → Reached program times locks start order after (index + 1)
-  step-goes allowance =
+  pub byte-goes : not allowed ≡ false → Reached program times locks start order after (index + 1)
+  byte-goes allowance =
       replay-goes program times locks start order p index reached finished lt goes {r = record { allowed = allowed; state = after }} whole allowance

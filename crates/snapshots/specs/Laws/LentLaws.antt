@@ -14,7 +14,7 @@ use Rattle.taskfile.specs.declared.Table.{Table}
 use Rattle.taskfile.specs.declared.Task.{Task}
 use Rattle.taskfile.specs.declared.TaskEntry.{TaskEntry}
 use Rattle.taskfile.specs.Judgement.{instructionOf}
-use Rattle.taskfile.specs.Laws.JudgingLaws.{body-length, body-at}
+use Rattle.taskfile.specs.Laws.JudgingLaws.{body-length, body-at, tasks-length}
 use Rattle.taskfile.specs.Code.JudgingParts.{Shaped}
 use Rattle.notation.specs.Laws.ListLaws.{getD-any}
 use Rattle.taskfile.specs.Tables.{tasksOf, taskOf, bodyOf, ceilingsOf, noTask, endInstruction}
@@ -25,7 +25,7 @@ use Rattle.timing.specs.Code.IsAccepted.{IsAccepted}
 use Rattle.timing.specs.Laws.JobListLaws.{record-listed}
 use Rattle.timing.specs.Code.JobParts.{jobListOf}
 use Rattle.timing.specs.Relations.{noJob, base}
-use Rattle.timing.specs.Laws.TimeableLaws.{tasks-length, task-read}
+use Rattle.timing.specs.Laws.TimeableLaws.{task-read}
 use Rattle.timing.specs.Laws.JobFacts.{jobs-few}
 use Rattle.order.specs.Laws.LengthLaws.{body-short}
 use Rattle.snapshots.specs.Code.Shows.{Lends}
@@ -240,7 +240,7 @@ body-lent : {a : Accepted} → IsAccepted a → {list : JobList} {n : ℕ} {prog
 unfolding instructionOf
 body-lent {a} ok owners i p known inside =
     let shaped = ok .isMade .shaped in
-    let task : i .0 < a .table .tasks = omega (arith, tasks-length shaped) in
+    let task : i .0 < a .table .tasks = omega (arith, tasks-length _ shaped) in
     let e = getD (a .table .entries) (i .0) noTask in
     let same : e ≡ taskOf (a .table) i = task-read shaped (i .0) noTask task in
     let shape = shaped .bodies (i .0) (omega (arith, shaped .tasksWithin)) in

@@ -52,10 +52,10 @@ module _ {a : Accepted} (ok : IsAccepted a) {program times : List ℕ} {locks : 
   upcoming k = record { 0 = getD (p .upcoming) k 0 }
 
   -- an owned number is a job of that task
-  pub owned-job : (k x : ℕ) → k < 8 → ownedBy program k x ≡ true
+  pub owned-shown : (k x : ℕ) → k < 8 → ownedBy program k x ≡ true
       → IsJob a (record { 0 = x }) × (base a (record { 0 = x }) ≡ k)
   unfolding ownedBy
-  owned-job k x lt h =
+  owned-shown k x lt h =
       let tests = and-both (ltb x 32) _ h in
       let owner = eqb-true _ _ (tests .1) in
       elim (decLt x (length (a .jobs))) [

@@ -34,7 +34,7 @@ use Rattle.order.specs.Laws.LengthLaws.{body-short}
 use Rattle.order.specs.Orders.{Turn, turnOf, nextOf, performed, stepWith, step}
 use Rattle.notation.specs.Laws.QuantifierLaws.{none-at, at-none}
 use Rattle.timing.specs.Laws.JobNumberLaws.{all-jobs, jobs-all}
-use Rattle.snapshots.specs.Laws.ShowLaws.{owned-job, job-owned, first-unbegun, first-waits}
+use Rattle.snapshots.specs.Laws.ShowLaws.{owned-shown, job-owned, first-unbegun, first-waits}
 use Rattle.timing.specs.Laws.BaseLaws.{base-rises, base-small}
 use Rattle.snapshots.specs.Code.Shows.{Lends, Shows}
 use Rattle.snapshots.specs.Code.SnapshotSteps.{instructionIn, ownedBy, stackOf, topOf, turnIn, afterIn, offeredIn, madeIn, stepWithIn, dueStep, stepIn, hasUpcoming, finishedIn}
@@ -269,7 +269,7 @@ module _ {a : Accepted} (ok : IsAccepted a) {program times : List ℕ} {locks : 
     ended-upcoming : (k : ℕ) → k < 8 → hasUpcoming program (p .upcoming) k ≡ false
     unfolding hasUpcoming
     ended-upcoming k lt = not-true-false _ (λ h.
-        (let owned = owned-job ok lends inv shows k _ lt h in
+        (let owned = owned-shown ok lends inv shows k _ lt h in
         first-waits ok lends inv shows k (owned .0) (owned .1) (ended-first s _ (ended _ (owned .0)))))
 
     ended-finished : finishedIn program p ≡ true

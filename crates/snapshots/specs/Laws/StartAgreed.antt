@@ -30,7 +30,7 @@ use Rattle.timing.specs.Laws.JobFacts.{jobs-few, same-task}
 use Rattle.order.specs.Orders.{startOf}
 use Rattle.notation.specs.Laws.QuantifierLaws.{all-at, any-at, none-at, at-none, all-reverse}
 use Rattle.timing.specs.Laws.JobNumberLaws.{jobs-all, only-job, no-job}
-use Rattle.snapshots.specs.Laws.ShowLaws.{before-lent, goes-over, owned-job, job-owned, first-unbegun, first-waits}
+use Rattle.snapshots.specs.Laws.ShowLaws.{before-lent, goes-over, owned-shown, job-owned, first-unbegun, first-waits}
 use Rattle.timing.specs.Laws.BaseLaws.{base-small, earlier-too}
 use Rattle.snapshots.specs.Code.Shows.{Lends, Shows}
 use Rattle.snapshots.specs.Code.SnapshotSteps.{ownedBy, waitsFor, waits, goesOver, stackOf, noFrame, startsIn}
@@ -83,7 +83,7 @@ module _ {a : Accepted} (ok : IsAccepted a) {program times : List ℕ} {locks : 
     waits-for k lt h =
         let parts = and-both (ownedBy program k (upcoming k .0) && not (eqb (upcoming k .0) (y .0))) _ h in
         let front = and-both (ownedBy program k (upcoming k .0)) _ (parts .0) in
-        let owned = owned-job ok lends inv shows k (upcoming k .0) lt (front .0) in
+        let owned = owned-shown ok lends inv shows k (upcoming k .0) lt (front .0) in
         let apart = eqb-false _ _ (not-true _ (front .1)) in
         (owned .0, owned .1, sym (before-lent lends (upcoming k) y (owned .0) isY apart) ∙ parts .1)
 
@@ -179,7 +179,7 @@ module _ {a : Accepted} (ok : IsAccepted a) {program times : List ℕ} {locks : 
       let e3 = and-both (ltb i 8 && ltb (p .depth) 8 && ownedBy program i (y .0)) _ (e4 .0) in
       let e2 = and-both (ltb i 8 && ltb (p .depth) 8) _ (e3 .0) in
       let e1 = and-both (ltb i 8) _ (e2 .0) in
-      let owned = owned-job ok lends inv shows i (y .0) (ltb-true i 8 (e1 .0)) (e2 .1) in
+      let owned = owned-shown ok lends inv shows i (y .0) (ltb-true i 8 (e1 .0)) (e2 .1) in
       let over = and-both (all (λ f. mayPreempt a y (f .job)) (s .active)) _ (sym (goes-over-all y (owned .0) i (owned .1)) ∙ e4 .1) in
       let unbegun : hasBegun s y ≡ false = elim (test-decided (hasBegun s y)) [ inl b ↦ absurd (first-waits ok lends inv shows i (owned .0) (owned .1) b) | inr b ↦ b ] in
       let ended = wait-all y (owned .0) i (owned .1) (not-true _ (e3 .1)) (over .0) in (
@@ -229,9 +229,9 @@ module _ {a : Accepted} (ok : IsAccepted a) {program times : List ℕ} {locks : 
       (and-holds (eqb (base a (upcoming i)) i) _ (eq-eqb _ _ (found .1)) (found .2))
       (λ x isX t. (let tests = and-both (eqb (base a x) i) _ t in sym (found-start i x isX (eqb-true _ _ (tests .0)) (tests .1) .0))))
 
-  pub start-none : (i : ℕ) → startsIn program times locks p i ≡ false → startOf a s i ≡ none
+  pub start-agreed-none : (i : ℕ) → startsIn program times locks p i ≡ false → startOf a s i ≡ none
   unfolding startOf
-  start-none i h = ap (Option·map _) (no-job a (λ y. eqb (base a y) i && mayStart a s y) refused)
+  start-agreed-none i h = ap (Option·map _) (no-job a (λ y. eqb (base a y) i && mayStart a s y) refused)
     where
       refused : (x : Job) → IsJob a x → (eqb (base a x) i && mayStart a s x) ≡ false
       refused x isX = elim (test-decided (eqb (base a x) i && mayStart a s x)) [

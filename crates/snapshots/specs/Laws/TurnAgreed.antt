@@ -30,7 +30,7 @@ use Rattle.timing.specs.Laws.BaseLaws.{base-small}
 use Rattle.snapshots.specs.Code.Shows.{Lends, Shows}
 use Rattle.snapshots.specs.Code.SnapshotSteps.{ownedBy, waits, stackOf, nobody, startsIn, startIn, beyond, topOf, runsIn, turnIn}
 use Rattle.timing.specs.Code.IsAccepted.{IsAccepted}
-use Rattle.snapshots.specs.Laws.StartAgreed.{start-is, start-none}
+use Rattle.snapshots.specs.Laws.StartAgreed.{start-is, start-agreed-none}
 use Rattle.order.specs.States.{State}
 
 module _ {a : Accepted} (ok : IsAccepted a) {program times : List ℕ} {locks : Ceilings} (lends : Lends a program times locks)
@@ -89,7 +89,7 @@ module _ {a : Accepted} (ok : IsAccepted a) {program times : List ℕ} {locks : 
             (record { turn = _; due = through ∙ start-is ok lends inv shows i e; frame = refl; under = shows .active; room = start-depth i e }))
         | inr e ↦
             let is : startIn program times locks p i ≡ nobody = rw e refl in
-            subst (Turned i) (sym is) (λ h. absurd (true≢false (sym h)), λ h. through ∙ start-none ok lends inv shows i e)
+            subst (Turned i) (sym is) (λ h. absurd (true≢false (sym h)), λ h. through ∙ start-agreed-none ok lends inv shows i e)
       ]
 
   -- the active job started last is one of the table's

@@ -2,7 +2,7 @@
 -- Assumes nothing.
 use mathlib.Core.Path.{sym}
 use Rattle.snapshots.specs.Laws.StartLaws.{starts-no-task}
-use Rattle.states.specs.Laws.StateReads.{owned-read, starts-full, starts-unowned, starts-waiting, starts-over}
+use Rattle.states.specs.Laws.StateReads.{owned-read, starts-full-read, starts-unowned-read, starts-waiting-read, starts-over-read}
 use borrow.Author.Needs.{needs}
 use Rattle.starts.proofs.may_start.Statement.{statement}
 use Rattle.starts.proofs.may_start.Tie as tie
@@ -14,7 +14,7 @@ element-copy-out-if2 : tie.Need-element-copy-out-if2
 element-copy-out-if2 c = search needs
 
 returns-2 : tie.Need-returns-2
-returns-2 c = starts-full _ _ _ _ _ (c .if2 .taken)
+returns-2 c = starts-full-read _ _ _ _ _ (c .if2 .taken)
 
 cast-t11 : tie.Need-cast-t11
 cast-t11 c = search needs
@@ -29,7 +29,7 @@ owned-by-requires : tie.Need-owned-by-requires
 owned-by-requires c κs = search needs
 
 returns-3 : tie.Need-returns-3
-returns-3 c = starts-unowned _ _ _ _ _ (c .before .before .before .before .before .before .if1 .left) (c .before .owned-by .ensures) (c .if3 .taken)
+returns-3 c = starts-unowned-read _ _ _ _ _ (c .before .before .before .before .before .before .if1 .left) (c .before .owned-by .ensures) (c .if3 .taken)
 
 must-wait-requires : tie.Need-must-wait-requires
 must-wait-requires c κs = owned-read _ _ _ (c .before .owned-by .ensures) (c .if3 .left)
@@ -37,7 +37,7 @@ must-wait-requires c κs = owned-read _ _ _ (c .before .owned-by .ensures) (c .i
 returns-4 : tie.Need-returns-4
 returns-4 c =
     let owned = c .before .before in
-    starts-waiting _ _ _ _ _ (owned .before .before .before .before .before .before .if1 .left) (c .before .must-wait .ensures) (c .if4 .taken)
+    starts-waiting-read _ _ _ _ _ (owned .before .before .before .before .before .before .if1 .left) (c .before .must-wait .ensures) (c .if4 .taken)
 
 goes-over-all-requires : tie.Need-goes-over-all-requires
 goes-over-all-requires c κs =
@@ -49,7 +49,7 @@ returns-5 : tie.Need-returns-5
 returns-5 c =
     let owned = c .before .before .before in
     let room = owned .before .before .before .before in
-    starts-over _ _ _ _ _ (room .before .before .if1 .left) (room .if2 .left) (owned .before .owned-by .ensures) (owned .if3 .left)
+    starts-over-read _ _ _ _ _ (room .before .before .if1 .left) (room .if2 .left) (owned .before .owned-by .ensures) (owned .if3 .left)
     (c .before .before .must-wait .ensures) (c .before .if4 .left) (c .goes-over-all .ensures)
 
 pub may-start-spec : {M : Type 1} → statement M

@@ -3,7 +3,7 @@
 use mathlib.Core.Path.{sym, _∙_}
 use Rattle.snapshots.specs.Laws.StartLaws as start
 use Rattle.snapshots.specs.Laws.StartLaws.{starts-no-task}
-use Rattle.states.specs.Laws.StateReads.{start-none, start-due}
+use Rattle.states.specs.Laws.StateReads.{start-none-read, start-due-read}
 use borrow.Author.Needs.{needs}
 use Rattle.starts.proofs.start_of.Statement.{statement}
 use Rattle.starts.proofs.start_of.Tie as tie
@@ -21,7 +21,7 @@ no-turn-requires-2 : tie.Need-no-turn-requires-2
 no-turn-requires-2 c κs = search needs
 
 returns-2 : tie.Need-returns-2
-returns-2 c = c .no-turn2 .ensures ∙ sym (start-none _ _ _ _ _ (c .before .before .may-start .ensures) (c .before .if2 .taken))
+returns-2 c = c .no-turn2 .ensures ∙ sym (start-none-read _ _ _ _ _ (c .before .before .may-start .ensures) (c .before .if2 .taken))
 
 cast-t9 : tie.Need-cast-t9
 cast-t9 c = search needs
@@ -41,7 +41,7 @@ element-copy-out-t13-2 c = search needs
 returns-3 : tie.Need-returns-3
 returns-3 c =
     let starts = c .before .before .before .before in
-    start-due _ _ _ _ _ (starts .before .before .if1 .left) (starts .before .may-start .ensures) (starts .if2 .left) (c .before .fresh-local .ensures)
+    start-due-read _ _ _ _ _ (starts .before .before .if1 .left) (starts .before .may-start .ensures) (starts .if2 .left) (c .before .fresh-local .ensures)
 
 pub start-of-spec : {M : Type 1} → statement M
 start-of-spec =

@@ -73,17 +73,17 @@ module _ (program times bytes : List ℕ) (y k : ℕ) (small : k < 8) where
   owns-first : ownedBy program k (getD (snapshotIn bytes .upcoming) k 0) ≡ ownedBy program k (getD bytes (8 + k) 0)
   owns-first = ap (ownedBy program k) (upcoming-at bytes k 0 small)
 
-  pub waits-unowned : {b : Bool} → b ≡ ownedBy program k (getD bytes (8 + k) 0) → not b ≡ true
+  pub waits-unowned-read : {b : Bool} → b ≡ ownedBy program k (getD bytes (8 + k) 0) → not b ≡ true
       → false ≡ waitsFor program times (snapshotIn bytes .upcoming) y k
-  waits-unowned {b} owned h = sym (start.waits-unowned program times _ y k (owns-first ∙ sym owned ∙ not-true b h))
+  waits-unowned-read {b} owned h = sym (start.waits-unowned program times _ y k (owns-first ∙ sym owned ∙ not-true b h))
 
-  pub waits-itself : getD bytes (8 + k) 0 ≡ y → false ≡ waitsFor program times (snapshotIn bytes .upcoming) y k
-  waits-itself h = sym (start.waits-itself program times _ y k (upcoming-at bytes k 0 small ∙ h))
+  pub waits-itself-read : getD bytes (8 + k) 0 ≡ y → false ≡ waitsFor program times (snapshotIn bytes .upcoming) y k
+  waits-itself-read h = sym (start.waits-itself program times _ y k (upcoming-at bytes k 0 small ∙ h))
 
-  pub waits-other : {b : Bool} → b ≡ ownedBy program k (getD bytes (8 + k) 0) → not b ≡ false
+  pub waits-other-read : {b : Bool} → b ≡ ownedBy program k (getD bytes (8 + k) 0) → not b ≡ false
       → (getD bytes (8 + k) 0 ≡ y → ⊥) → {r : Bool} → r ≡ beforeIn program times (getD bytes (8 + k) 0) y
       → r ≡ waitsFor program times (snapshotIn bytes .upcoming) y k
-  waits-other {b} owned h apart before =
+  waits-other-read {b} owned h apart before =
       let e = upcoming-at bytes k 0 small in
       before ∙ ap (λ (n : ℕ). beforeIn program times n y) (sym e)
       ∙ sym (start.waits-other program times _ y k (owns-first ∙ sym owned ∙ not-false b h) (λ same. apart (sym e ∙ same)))
@@ -96,13 +96,13 @@ owned-read program k x {b} owned h = start.owned-job program k x (sym owned ∙ 
 
 module _ (program times : List ℕ) (locks : Ceilings) (bytes : List ℕ) (y k : ℕ) where
   -- a job that may preempt the active job at position k starts over it if its base is above the present priority
-  pub over-priority : getD bytes (64 + 16 * k) 0 < 32 → {b : Bool}
+  pub over-priority-read : getD bytes (64 + 16 * k) 0 < 32 → {b : Bool}
       → b ≡ preemptsIn program times y (getD bytes (64 + 16 * k) 0) → not b ≡ false → {held : List ℕ}
       → held ≡ bytesAt bytes (64 + 16 * k + 8) 8 → {r : ℕ}
       → r ≡ priority (take (locks .count) (locks .ceilings)) (getD program (512 + getD bytes (64 + 16 * k) 0) 0) held
       → ltb r (getD program (512 + y) 0) ≡ goesOver program times locks y (frameIn bytes k)
   unfolding frameIn frameAt ownerIn
-  over-priority job {b} preempts h locked {r} made =
+  over-priority-read job {b} preempts h locked {r} made =
       start.over-priority program times locks y (frameIn bytes k) job (sym preempts ∙ not-false b h) r
       (made ∙ ap (priority (take (locks .count) (locks .ceilings)) (getD program (512 + getD bytes (64 + 16 * k) 0) 0)) locked)
 
@@ -139,8 +139,8 @@ module _ (program times : List ℕ) (locks : Ceilings) (bytes : List ℕ) (y : �
 -- ---- whether a task's job starts
 
 module _ (program times : List ℕ) (locks : Ceilings) (bytes : List ℕ) (i : ℕ) where
-  pub starts-full : 8 ≤ getD bytes 48 0 → false ≡ startsIn program times locks (snapshotIn bytes) i
-  starts-full h = sym (start.starts-full program times locks (snapshotIn bytes) i (rw (depth-is bytes) h))
+  pub starts-full-read : 8 ≤ getD bytes 48 0 → false ≡ startsIn program times locks (snapshotIn bytes) i
+  starts-full-read h = sym (start.starts-full program times locks (snapshotIn bytes) i (rw (depth-is bytes) h))
 
   module _ (small : i < 8) where
     first : getD (snapshotIn bytes .upcoming) i 0 ≡ getD bytes (8 + i) 0
@@ -154,50 +154,50 @@ module _ (program times : List ℕ) (locks : Ceilings) (bytes : List ℕ) (i : �
         → waits program times (snapshotIn bytes .upcoming) (getD (snapshotIn bytes .upcoming) i 0) ≡ b
     waiting wait = ap (waits program times (snapshotIn bytes .upcoming)) first ∙ sym wait
 
-    pub starts-unowned : {b : Bool} → b ≡ ownedBy program i (getD bytes (8 + i) 0) → not b ≡ true
+    pub starts-unowned-read : {b : Bool} → b ≡ ownedBy program i (getD bytes (8 + i) 0) → not b ≡ true
         → false ≡ startsIn program times locks (snapshotIn bytes) i
-    starts-unowned {b} owned h = sym (start.starts-unowned program times locks (snapshotIn bytes) i (owns owned ∙ not-true b h))
+    starts-unowned-read {b} owned h = sym (start.starts-unowned program times locks (snapshotIn bytes) i (owns owned ∙ not-true b h))
 
-    pub starts-waiting : {b : Bool} → b ≡ waits program times (snapshotIn bytes .upcoming) (getD bytes (8 + i) 0)
+    pub starts-waiting-read : {b : Bool} → b ≡ waits program times (snapshotIn bytes .upcoming) (getD bytes (8 + i) 0)
         → b ≡ true → false ≡ startsIn program times locks (snapshotIn bytes) i
-    starts-waiting wait h = sym (start.starts-waiting program times locks (snapshotIn bytes) i (waiting wait ∙ h))
+    starts-waiting-read wait h = sym (start.starts-waiting program times locks (snapshotIn bytes) i (waiting wait ∙ h))
 
-    pub starts-over : getD bytes 48 0 < 8 → {b : Bool} → b ≡ ownedBy program i (getD bytes (8 + i) 0) → not b ≡ false
+    pub starts-over-read : getD bytes 48 0 < 8 → {b : Bool} → b ≡ ownedBy program i (getD bytes (8 + i) 0) → not b ≡ false
         → {w : Bool} → w ≡ waits program times (snapshotIn bytes .upcoming) (getD bytes (8 + i) 0) → w ≡ false
         → {r : Bool} → r ≡ all (goesOver program times locks (getD bytes (8 + i) 0)) (stackOf (snapshotIn bytes))
         → r ≡ startsIn program times locks (snapshotIn bytes) i
-    starts-over room {b} owned h wait free made =
+    starts-over-read room {b} owned h wait free made =
         made
         ∙ ap (λ (n : ℕ). all (goesOver program times locks n) (stackOf (snapshotIn bytes))) (sym first)
         ∙ sym (start.starts-over program times locks (snapshotIn bytes) i small (rw (depth-is bytes) room) (owns owned ∙ not-false b h) (waiting wait ∙ free))
 
     -- the start of a job that may start
-    pub start-due : {b : Bool} → b ≡ startsIn program times locks (snapshotIn bytes) i → not b ≡ false → {own : Local} → own ≡ fresh
+    pub start-due-read : {b : Bool} → b ≡ startsIn program times locks (snapshotIn bytes) i → not b ≡ false → {own : Local} → own ≡ fresh
         → record { due = true; frame = record { job = record { 0 = getD bytes (8 + i) 0 }; local = own }; under = getD bytes 48 0 }
         ≡ startIn program times locks (snapshotIn bytes) i
-    start-due {b} starts h new =
+    start-due-read {b} starts h new =
         rw new (sym (start.start-due program times locks (snapshotIn bytes) i (sym starts ∙ not-false b h) ∙ rw (first, depth-is bytes) refl))
 
   -- and of one that may not
-  pub start-none : {b : Bool} → b ≡ startsIn program times locks (snapshotIn bytes) i → not b ≡ true
+  pub start-none-read : {b : Bool} → b ≡ startsIn program times locks (snapshotIn bytes) i → not b ≡ true
       → startIn program times locks (snapshotIn bytes) i ≡ nobody
-  start-none {b} starts h = start.start-none program times locks (snapshotIn bytes) i (sym starts ∙ not-true b h)
+  start-none-read {b} starts h = start.start-none program times locks (snapshotIn bytes) i (sym starts ∙ not-true b h)
 
 -- ---- whose turn it is
 
 module _ (program bytes : List ℕ) (i : ℕ) where
-  pub runs-flat : getD bytes 48 0 ≡ 0 → false ≡ runsIn program (snapshotIn bytes) i
-  runs-flat h = turn.runs-flat program (snapshotIn bytes) i (depth-is bytes ∙ h)
+  pub runs-flat-read : getD bytes 48 0 ≡ 0 → false ≡ runsIn program (snapshotIn bytes) i
+  runs-flat-read h = turn.runs-flat program (snapshotIn bytes) i (depth-is bytes ∙ h)
 
-  pub runs-top : IsState bytes → i < 8 → (getD bytes 48 0 ≡ 0 → ⊥) → {b : Bool}
+  pub runs-top-read : IsState bytes → i < 8 → (getD bytes 48 0 ≡ 0 → ⊥) → {b : Bool}
       → b ≡ ownedBy program i (getD bytes (64 + 16 * (getD bytes 48 0 - 1)) 0) → b ≡ runsIn program (snapshotIn bytes) i
-  runs-top state small deep owned =
+  runs-top-read state small deep owned =
       let top : topOf (snapshotIn bytes) .job .0 ≡ getD bytes (64 + 16 * (getD bytes 48 0 - 1)) 0 =
       ap (λ (f : Frame). f .job .0) (top-is bytes (state .few) (omega arith)) ∙ frame-job bytes (getD bytes 48 0 - 1) in
       turn.runs-top program (snapshotIn bytes) i small (λ flat. deep (sym (depth-is bytes) ∙ flat)) (owned ∙ ap (ownedBy program i) (sym top))
 
-  pub runs-deep : {b : Bool} → b ≡ runsIn program (snapshotIn bytes) i → b ≡ true → 1 ≤ getD bytes 48 0
-  runs-deep runs h = rw (depth-is bytes) at (turn.runs-deep program (snapshotIn bytes) i runs h)
+  pub runs-deep-read : {b : Bool} → b ≡ runsIn program (snapshotIn bytes) i → b ≡ true → 1 ≤ getD bytes 48 0
+  runs-deep-read runs h = rw (depth-is bytes) at (turn.runs-deep program (snapshotIn bytes) i runs h)
 
 module _ (program times : List ℕ) (locks : Ceilings) (bytes : List ℕ) (i : ℕ) (state : IsState bytes) {b : Bool}
     (runs : b ≡ runsIn program (snapshotIn bytes) i) where
@@ -211,17 +211,17 @@ module _ (program times : List ℕ) (locks : Ceilings) (bytes : List ℕ) (i : �
   goes f depth = record { due = true; frame = f; under = depth - 1 }
 
   -- who runs has the turn
-  pub turn-runs : b ≡ true → {f : Frame} → f ≡ frameIn bytes (getD bytes 48 0 - 1)
+  pub turn-runs-read : b ≡ true → {f : Frame} → f ≡ frameIn bytes (getD bytes 48 0 - 1)
       → Made (record { due = true; frame = f; under = getD bytes 48 0 - 1 })
-  turn-runs h {f} frame =
+  turn-runs-read h {f} frame =
       let is : goes f (getD bytes 48 0) ≡ goes (topOf (snapshotIn bytes)) (snapshotIn bytes .depth) =
-      ap (λ (g : Frame). goes g (getD bytes 48 0)) (frame ∙ sym (top-is bytes (state .few) (runs-deep program bytes i runs h)))
+      ap (λ (g : Frame). goes g (getD bytes 48 0)) (frame ∙ sym (top-is bytes (state .few) (runs-deep-read program bytes i runs h)))
       ∙ ap (goes (topOf (snapshotIn bytes))) (sym (depth-is bytes)) in
       turn.turn-made program times locks (snapshotIn bytes) i (is ∙ turn.turn-runs program times locks (snapshotIn bytes) i runs h) few
 
   -- else it is for a start
-  pub turn-starts : b ≡ false → {d : Due} → d ≡ startIn program times locks (snapshotIn bytes) i → Made d
-  turn-starts h starts = turn.turn-made program times locks (snapshotIn bytes) i (turn.turn-starts program times locks (snapshotIn bytes) i runs h starts) few
+  pub turn-starts-read : b ≡ false → {d : Due} → d ≡ startIn program times locks (snapshotIn bytes) i → Made d
+  turn-starts-read h starts = turn.turn-made program times locks (snapshotIn bytes) i (turn.turn-starts program times locks (snapshotIn bytes) i runs h starts) few
 
 -- ---- what a job is offered
 

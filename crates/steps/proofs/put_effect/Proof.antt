@@ -5,7 +5,7 @@ use mathlib.Core.Path.{_≡_, sym, subst, _∙_}
 use mathlib.Core.Logic.{inl, inr}
 use lib.ListN.{length, length-map, length-set}
 use borrow.Author.Needs.{needs}
-use Rattle.steps.specs.Laws.EffectWrites.{Noted, noted-sound, noted-failed, effect-ended, effect-goes-on}
+use Rattle.steps.specs.Laws.EffectWrites.{Noted, noted-sound, noted-failed, effect-ended-written, effect-goes-on}
 use Rattle.steps.proofs.put_effect.Statement.{statement}
 use Rattle.steps.proofs.put_effect.Tie as tie
 
@@ -58,7 +58,7 @@ element-write-s-3 c = search needs
 returns : tie.Need-returns
 returns c =
     let start = c .before .before .before .before .before .before .before in
-    effect-ended (start .pre .0 .whole) (marked (c .before)) _ (start .pre .2) (c .if2 .taken)
+    effect-ended-written (start .pre .0 .whole) (marked (c .before)) _ (start .pre .2) (c .if2 .taken)
 
 add-s-4 : tie.Need-add-s-4
 add-s-4 c = search needs

@@ -104,10 +104,10 @@ module _ {before noted : List ℕ} {x : Job} {i : ℕ} {effect : Effect} (whole 
       }
 
   -- the job has ended
-  pub effect-ended : effect .ended ≡ true
+  pub effect-ended-written : effect .ended ≡ true
       → (snapshotIn (set noted 48 under) ≡ afterIn (snapshotIn before) x under i effect) × IsState (set noted 48 under)
   unfolding frameAt if_then_else_
-  effect-ended ended = (
+  effect-ended-written ended = (
     made (set noted 48 under) (λ k lt. getD-set-other noted 48 k under 0 (λ e. omega arith)) (depth ∙ rw ended refl)
         (same-values (frameIn (set noted 48 under)) (frameIn before) 8 (λ k lt. frame-same before (set noted 48 under) k
         (λ j low high. getD-set-other noted 48 j under 0 (λ e. omega arith) ∙ n .rest j (omega arith)))

@@ -44,7 +44,7 @@ use Rattle.timing.specs.ReadEntries.{readAnswerOf, readAnswer}
 use Rattle.timing.specs.Response.{responseOf}
 use Rattle.timing.specs.Laws.ResponseLaws.{response-found}
 use Rattle.timing.specs.Code.ResponseParts.{Timeable, ResponsesAs}
-use Rattle.timing.specs.Laws.TimeableLaws.{tasks-length}
+use Rattle.taskfile.specs.Laws.JudgingLaws.{tasks-length}
 
 -- ---- a file that was loaded
 
@@ -57,8 +57,8 @@ loaded-timeable f {loaded} e =
     subst Timeable (sym (parts .1))
     (record {
       shaped = shaped;
-      positive = λ i lt. times-in-range f (parts .0) i (omega (arith, tasks-length shaped)) .0;
-      within = λ i lt. times-in-range f (parts .0) i (omega (arith, tasks-length shaped)) .1;
+      positive = λ i lt. times-in-range f (parts .0) i (omega (arith, tasks-length _ shaped)) .0;
+      within = λ i lt. times-in-range f (parts .0) i (omega (arith, tasks-length _ shaped)) .1;
     })
 
 -- a loaded file's answer, the other way round
@@ -99,7 +99,7 @@ pub found-within : {t : Table} → Timeable t → {Rs : List ℕ} → responsesO
     → {times : List ℕ} → times ≡ padded 8 0 Rs → WithinPeriods t times
 found-within {t} timeable {Rs} e held i lt =
     let shaped = timeable .shaped in
-    let known : i < length (tasksOf t) = omega (arith, tasks-length shaped) in
+    let known : i < length (tasksOf t) = omega (arith, tasks-length _ shaped) in
     let listed : i < length (taskNumbers t) = omega (arith, taskNumbers-length t) in
     let found = responses-found t (taskNumbers t) e i (numbered i) listed in
     let response = response-found t (numbered i) (getD Rs i 0) .0 (rw (taskNumbers-at t (numbered i) (numbered i) known) at found) in
@@ -120,7 +120,7 @@ same-jobs : {t : Table} → Timeable t → {Rs : List ℕ} → responsesOf t (ta
 unfolding jobsOf jobsOfTask
 same-jobs {t} timeable {Rs} e {times} held =
     let few : length Rs ≤ 8 =
-    omega (arith, responses-length t (taskNumbers t) e, taskNumbers-length t, tasks-length (timeable .shaped), timeable .shaped .tasksWithin) in
+    omega (arith, responses-length t (taskNumbers t) e, taskNumbers-length t, tasks-length _ (timeable .shaped), timeable .shaped .tasksWithin) in
     ap (λ (g : Task → List JobRecord). each (taskNumbers t) g)
     (fun-ext (λ (i : Task). ap (λ (R : ℕ). map (jobOf i (taskOf t i) R) (upTo (jobsWithin (t .window) (taskOf t i))))
     (ap (λ (l : List ℕ). getD l (i .0) 0) held ∙ padded-any 8 0 Rs (i .0) few)))

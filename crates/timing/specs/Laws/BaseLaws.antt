@@ -13,7 +13,7 @@ use Rattle.timing.specs.declared.Job.{Job}
 use Rattle.timing.specs.Accepted.{Accepted}
 use Rattle.timing.specs.Laws.RelationLaws.{before-says, before-holds}
 use Rattle.timing.specs.Relations.{IsJob, jobAt, base, before}
-use Rattle.timing.specs.Laws.TimeableLaws.{tasks-length}
+use Rattle.taskfile.specs.Laws.JudgingLaws.{tasks-length}
 use Rattle.timing.specs.Laws.JobFacts.{job-task, job-lasts}
 use Rattle.timing.specs.Code.IsAccepted.{IsAccepted}
 
@@ -26,7 +26,7 @@ base-rises {a} ok x y le isJob =
     ]
 
 pub base-small : {a : Accepted} (ok : IsAccepted a) (x : Job) → IsJob a x → base a x < 8
-base-small {a} ok x isJob = omega (arith, job-task (ok .isTimed) x isJob, tasks-length (ok .isMade .shaped), ok .isMade .shaped .tasksWithin)
+base-small {a} ok x isJob = omega (arith, job-task (ok .isTimed) x isJob, tasks-length _ (ok .isMade .shaped), ok .isMade .shaped .tasksWithin)
 
 -- a later job of a task comes before another only if the earlier one does
 pub earlier-too : {a : Accepted} (ok : IsAccepted a) (u x y : Job) → u .0 ≤ x .0 → IsJob a x → base a u ≡ base a x

@@ -22,7 +22,7 @@ use Rattle.taskfile.specs.Tables.{tasksOf}
 use Rattle.timing.specs.Response.{roundedUp, interference}
 use Rattle.timing.specs.Laws.ResponseLaws.{roundedUp-covers, roundedUp-below, roundedUp-by-zero, roundedUp-positive}
 use Rattle.timing.specs.Code.ResponseParts.{Timeable, Fits, AllFit, fitsFrom}
-use Rattle.timing.specs.Laws.TimeableLaws.{TimesRead, tasks-next, tasks-end}
+use Rattle.timing.specs.Laws.TimeableLaws.{TimesRead, tasks-next, times-end}
 
 -- ---- the interference of two intervals
 
@@ -223,7 +223,7 @@ from-short (e ∷ above) base b lt = rw (lt-leb base b lt)
 pub from-end : {t : Table} → Timeable t → (j : ℕ) {base b : ℕ} → t .tasks ≤ j → base ≤ b
     → true ≡ fitsFrom (drop j (tasksOf t)) base b
 unfolding fitsFrom
-from-end timeable j {base} {b} end le = rw (tasks-end (timeable .shaped) j end, le-leb base b le)
+from-end timeable j {base} {b} end le = rw (times-end (timeable .shaped) j end, le-leb base b le)
 
 -- what the code works out fits
 pub from-fits : {C P b : ℕ} → C ≤ P → P < 2 ^ 32 → b < 2 ^ 32

@@ -24,7 +24,8 @@ use Rattle.timing.specs.Relations.{noJob, jobAt}
 use Rattle.timing.specs.Response.{roundedUp}
 use Rattle.timing.specs.Laws.ResponseLaws.{roundedUp-below}
 use Rattle.timing.specs.Code.ResponseParts.{Timeable}
-use Rattle.timing.specs.Laws.TimeableLaws.{tasks-length, task-read}
+use Rattle.timing.specs.Laws.TimeableLaws.{task-read}
+use Rattle.taskfile.specs.Laws.JudgingLaws.{tasks-length}
 use Rattle.timing.specs.Accepted.{Accepted}
 use Rattle.timing.specs.Code.JobParts.{jobListOf}
 
@@ -117,7 +118,7 @@ jobsBelow t times i = each (map numbered (upTo i)) (jobsOfTask t times)
 
 pub below-all : {t : Table} → Shaped t → (times : List ℕ) {i : ℕ} → i ≡ t .tasks → jobsBelow t times i ≡ jobsOf t times
 unfolding jobsBelow jobsOf taskNumbers
-below-all {t} shaped times e = ap (λ (n : ℕ). each (map numbered (upTo n)) (jobsOfTask t times)) (e ∙ sym (tasks-length shaped))
+below-all {t} shaped times e = ap (λ (n : ℕ). each (map numbered (upTo n)) (jobsOfTask t times)) (e ∙ sym (tasks-length _ shaped))
 
 below-more : (t : Table) (times : List ℕ) (i : ℕ)
     → jobsBelow t times (i + 1) ≡ jobsBelow t times i ++ jobsOfTask t times (numbered i)

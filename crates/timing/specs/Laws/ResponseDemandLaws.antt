@@ -32,7 +32,7 @@ use Rattle.timing.specs.ReadEntries.{readAnswerOf, readAnswer}
 use Rattle.timing.specs.Response.{responseOf}
 use Rattle.timing.specs.ResponseDemand.{MeetsPeriod, LowestLate, OverloadAt, responseIn, ResponseDemand}
 use Rattle.timing.specs.Laws.ResponseLaws.{response-found}
-use Rattle.timing.specs.Laws.TimeableLaws.{tasks-length}
+use Rattle.taskfile.specs.Laws.JudgingLaws.{tasks-length}
 
 -- ---- one task
 
@@ -106,7 +106,7 @@ late-responses t (i ∷ is) (suc place) inside late before =
 module _ {t : Table} (shaped : Shaped t) where
   -- a task's number stands at its place
   number-at : (i : Task) → i .0 < t .tasks → getD (taskNumbers t) (i .0) (numbered 0) ≡ i
-  number-at i lt = taskNumbers-at t i (numbered 0) (omega (arith, tasks-length shaped))
+  number-at i lt = taskNumbers-at t i (numbered 0) (omega (arith, tasks-length _ shaped))
 
   -- the response times are refused at the lowest task without one
   refused-lowest : {n : ℕ} {s : Site} → responsesOf t (taskNumbers t) ≡ refused n s
@@ -114,7 +114,7 @@ module _ {t : Table} (shaped : Shaped t) where
   refused-lowest e =
       let first = responses-late t (taskNumbers t) e in
       let i = numbered (first .place) in
-      let inside : first .place < t .tasks = omega (arith, first .inside, taskNumbers-length t, tasks-length shaped) in
+      let inside : first .place < t .tasks = omega (arith, first .inside, taskNumbers-length t, tasks-length _ shaped) in
       let late : responseOf t i ≡ none = rw (number-at i inside) at (first .late) in (
         i,
         record {
@@ -130,7 +130,7 @@ module _ {t : Table} (shaped : Shaped t) where
   lowest-refused : (i : Task) → LowestLate t i → responsesOf t (taskNumbers t) ≡ refused 10 (AtTask i)
   lowest-refused i low =
       let inside : i .0 < length (taskNumbers t) =
-      omega (arith, low .listed, taskNumbers-length t, tasks-length shaped) in
+      omega (arith, low .listed, taskNumbers-length t, tasks-length _ shaped) in
       late-responses t (taskNumbers t) (i .0) inside (rw (number-at i (low .listed)) (late-none t i (low .late)))
       (λ k lt.
       let meets = low .lowest (numbered k) lt in
@@ -209,13 +209,13 @@ module _ (f : File) {a : Accepted} (e : accept f ≡ passed a) where
       let shaped = ok .isMade .shaped in
       let long = responses-length (a .table) (taskNumbers (a .table)) (ok .isTimed .found) in
       let few : length (a .responses) ≤ 8 =
-      omega (arith, taskNumbers-length (a .table), tasks-length shaped, shaped .tasksWithin) in
+      omega (arith, taskNumbers-length (a .table), tasks-length _ shaped, shaped .tasksWithin) in
       rw e (padded-any 8 0 (a .responses) (i .0) few)
 
   response-meets : (i : Task) → i .0 < a .table .tasks → MeetsPeriod (a .table) i (responseIn (readAnswer f) i)
   response-meets i lt =
       let ok = file-accepted f e in
-      let found = response-of (ok .isTimed) i (omega (arith, tasks-length (ok .isMade .shaped))) in
+      let found = response-of (ok .isTimed) i (omega (arith, tasks-length _ (ok .isMade .shaped))) in
       rw (answer-response i) (record { response = found .0; within = found .1 })
 
   response-past : (i : Task) → a .table .tasks ≤ i .0 → responseIn (readAnswer f) i ≡ 0
@@ -224,7 +224,7 @@ module _ (f : File) {a : Accepted} (e : accept f ≡ passed a) where
       let long = responses-length (a .table) (taskNumbers (a .table)) (ok .isTimed .found) in
       answer-response i
       ∙ List·getD-eq-default (a .responses) 0
-      (omega (arith, taskNumbers-length (a .table), tasks-length (ok .isMade .shaped)))
+      (omega (arith, taskNumbers-length (a .table), tasks-length _ (ok .isMade .shaped)))
 
 pub response-demand : (f : File) → ResponseDemand f
 unfolding readAnswer

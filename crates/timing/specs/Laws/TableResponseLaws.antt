@@ -23,7 +23,8 @@ use Rattle.timing.specs.Accepted.{bounded, responsesOf}
 use Rattle.timing.specs.Response.{tasksAbove, responseOf}
 use Rattle.timing.specs.Code.ResponseParts.{Timeable, boundOf, AllFit}
 use Rattle.timing.specs.Laws.HalvingLaws.{response-done}
-use Rattle.timing.specs.Laws.TimeableLaws.{tasks-length, tasks-next, tasks-end}
+use Rattle.timing.specs.Laws.TimeableLaws.{tasks-next, times-end}
+use Rattle.taskfile.specs.Laws.JudgingLaws.{tasks-length}
 
 -- ---- one task
 
@@ -41,8 +42,8 @@ bound-none (some Q) e = absurd (let z : _≡_ {A = ℕ} 0 1 = cc in omega arith)
 numbers-next : {t : Table} → Shaped t → (i : ℕ) → i < t .tasks
     → drop i (taskNumbers t) ≡ numbered i ∷ drop (suc i) (taskNumbers t)
 numbers-next {t} shaped i lt =
-    let below : i < length (taskNumbers t) = omega (arith, taskNumbers-length t, tasks-length shaped) in
-    rw (drop-cons (taskNumbers t) i (numbered i), taskNumbers-at t (numbered i) (numbered i) (omega (arith, tasks-length shaped)))
+    let below : i < length (taskNumbers t) = omega (arith, taskNumbers-length t, tasks-length _ shaped) in
+    rw (drop-cons (taskNumbers t) i (numbered i), taskNumbers-at t (numbered i) (numbered i) (omega (arith, tasks-length _ shaped)))
 
 -- ---- the tasks from task i on
 
@@ -69,11 +70,11 @@ pub found-none : {t : Table} → Timeable t → FoundFrom t (t .tasks) (replicat
 unfolding responsesOf
 found-none {t} timeable =
     let shaped = timeable .shaped in
-    let past : length (taskNumbers t) ≤ t .tasks = omega (arith, taskNumbers-length t, tasks-length shaped) in
+    let past : length (taskNumbers t) ≤ t .tasks = omega (arith, taskNumbers-length t, tasks-length _ shaped) in
     record {
       all = λ e.
           record {
-            fit = rw (tasks-end shaped (t .tasks) (omega arith)) tt;
+            fit = rw (times-end shaped (t .tasks) (omega arith)) tt;
             Rs = [];
             outcome = rw (drop-of-length-le (taskNumbers t) past);
             full = refl;

@@ -6,8 +6,8 @@ use Prim.Native.Nat.{ℕ, _+_, _*_, _≤_, _<_}
 use native.Mathlib.Numerals.{add-one}
 use native.Mathlib.Omega.{arith}
 use mathlib.Core.List.{[], _∷_, map}
-use lib.ListN.{length, getD, drop, drop-of-length-le}
-use lib.Seq.{drop-cons, getD-take, length-take-le}
+use lib.ListN.{getD, drop, drop-of-length-le}
+use lib.Seq.{drop-cons, getD-take}
 use Rattle.taskfile.specs.declared.Table.{Table}
 use Rattle.taskfile.specs.declared.Task.{Task}
 use Rattle.taskfile.specs.declared.TaskEntry.{TaskEntry}
@@ -19,11 +19,7 @@ use Rattle.timing.specs.Jobs.{jobsWithin}
 use Rattle.timing.specs.Response.{roundedUp, tasksAbove, interference, demand}
 use Rattle.timing.specs.Code.ResponseParts.{Timeable}
 use Rattle.notation.specs.Laws.ListLaws.{getD-any}
-
--- there are as many tasks as the table says
-pub tasks-length : {t : Table} → Shaped t → length (tasksOf t) ≡ t .tasks
-unfolding tasksOf
-tasks-length {t} s = length-take-le (t .tasks) (t .entries) (omega arith)
+use Rattle.taskfile.specs.Laws.JudgingLaws.{tasks-length}
 
 -- a task read from the array is the table's task, whatever the default
 pub task-read : {t : Table} → Shaped t → (k : ℕ) (d : TaskEntry) → k < t .tasks
@@ -48,11 +44,11 @@ period-read timeable k d lt =
 pub tasks-next : {t : Table} → Shaped t → (k : ℕ) → k < t .tasks
     → drop k (tasksOf t) ≡ taskOf t (numbered k) ∷ drop (k + 1) (tasksOf t)
 unfolding taskOf
-tasks-next {t} s k lt = rw (add-one, drop-cons (tasksOf t) k noTask (omega (arith, tasks-length s)))
+tasks-next {t} s k lt = rw (add-one, drop-cons (tasksOf t) k noTask (omega (arith, tasks-length _ s)))
 
 -- past the last task there are none
-pub tasks-end : {t : Table} → Shaped t → (k : ℕ) → t .tasks ≤ k → drop k (tasksOf t) ≡ []
-tasks-end {t} s k le = drop-of-length-le (tasksOf t) {i = k} (omega (arith, tasks-length s))
+pub times-end : {t : Table} → Shaped t → (k : ℕ) → t .tasks ≤ k → drop k (tasksOf t) ≡ []
+times-end {t} s k le = drop-of-length-le (tasksOf t) {i = k} (omega (arith, tasks-length _ s))
 
 -- ---- sums over the tasks from task k on
 
@@ -65,7 +61,7 @@ sum-step s g k lt = rw (tasks-next s k lt)
 -- past the last task it is 0
 pub sum-end : {t : Table} → Shaped t → (g : TaskEntry → ℕ) (k : ℕ) → t .tasks ≤ k → sum (map g (drop k (tasksOf t))) ≡ 0
 unfolding sum
-sum-end s g k le = rw (tasks-end s k le)
+sum-end s g k le = rw (times-end s k le)
 
 -- interference: the first task's term, and what the later tasks add
 pub interference-next : {t : Table} → Timeable t → (k r : ℕ) {C P : ℕ} → k < t .tasks → TimesRead t (numbered k) C P

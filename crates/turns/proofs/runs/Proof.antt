@@ -1,7 +1,7 @@
 -- `turns::runs` meets its contract: each return is one case of the test, and the last reads the top of the stack.
 -- Assumes nothing.
 use Rattle.snapshots.specs.Laws.TurnLaws.{runs-high}
-use Rattle.states.specs.Laws.StateReads.{runs-flat, runs-top}
+use Rattle.states.specs.Laws.StateReads.{runs-flat-read, runs-top-read}
 use borrow.Author.Needs.{needs}
 use Rattle.turns.proofs.runs.Statement.{statement}
 use Rattle.turns.proofs.runs.Tie as tie
@@ -13,7 +13,7 @@ element-copy-out-depth : tie.Need-element-copy-out-depth
 element-copy-out-depth c = search needs
 
 returns-2 : tie.Need-returns-2
-returns-2 c = runs-flat _ _ _ (c .if2 .taken)
+returns-2 c = runs-flat-read _ _ _ (c .if2 .taken)
 
 sub-top : tie.Need-sub-top
 sub-top c = search needs
@@ -36,7 +36,7 @@ owned-by-requires c κs = search needs
 returns-3 : tie.Need-returns-3
 returns-3 c =
     let deep = c .before .before in
-    runs-top _ _ _ (deep .before .before .before .before .pre) (deep .before .before .if1 .left) (deep .if2 .left) (c .owned-by .ensures)
+    runs-top-read _ _ _ (deep .before .before .before .before .pre) (deep .before .before .if1 .left) (deep .if2 .left) (c .owned-by .ensures)
 
 pub runs-spec : {M : Type 1} → statement M
 runs-spec =

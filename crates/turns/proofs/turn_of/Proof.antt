@@ -2,7 +2,7 @@
 -- law of it.
 -- Assumes nothing.
 use native.Mathlib.Omega.{arith}
-use Rattle.states.specs.Laws.StateReads.{runs-deep, turn-runs, turn-starts}
+use Rattle.states.specs.Laws.StateReads.{runs-deep-read, turn-runs-read, turn-starts-read}
 use borrow.Author.Needs.{needs}
 use Rattle.turns.proofs.turn_of.Statement.{statement}
 use Rattle.turns.proofs.turn_of.Tie as tie
@@ -14,16 +14,16 @@ element-copy-out-top : tie.Need-element-copy-out-top
 element-copy-out-top c = search needs
 
 sub-top : tie.Need-sub-top
-sub-top c = runs-deep _ _ _ (c .before .before .runs .ensures) (c .before .if1 .taken)
+sub-top c = runs-deep-read _ _ _ (c .before .before .runs .ensures) (c .before .if1 .taken)
 
 frame-at-requires : tie.Need-frame-at-requires
 frame-at-requires c κs =
-    omega (arith, c .before .before .before .pre .1 .few, runs-deep _ _ _ (c .before .before .runs .ensures) (c .before .if1 .taken))
+    omega (arith, c .before .before .before .pre .1 .few, runs-deep-read _ _ _ (c .before .before .runs .ensures) (c .before .if1 .taken))
 
 returns : tie.Need-returns
 returns c =
     let running = c .before .before in
-    turn-runs _ _ _ _ _ (running .before .before .pre .1) (running .before .runs .ensures) (running .if1 .taken) (c .frame-at .ensures)
+    turn-runs-read _ _ _ _ _ (running .before .before .pre .1) (running .before .runs .ensures) (running .if1 .taken) (c .frame-at .ensures)
 
 start-of-requires : tie.Need-start-of-requires
 start-of-requires c κs = search needs
@@ -31,7 +31,7 @@ start-of-requires c κs = search needs
 returns-2 : tie.Need-returns-2
 returns-2 c =
     let other = c .before in
-    turn-starts _ _ _ _ _ (other .before .before .pre .1) (other .before .runs .ensures) (other .if1 .left) (c .start-of .ensures)
+    turn-starts-read _ _ _ _ _ (other .before .before .pre .1) (other .before .runs .ensures) (other .if1 .left) (c .start-of .ensures)
 
 pub turn-of-spec : {M : Type 1} → statement M
 turn-of-spec =

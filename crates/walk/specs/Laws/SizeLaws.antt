@@ -19,8 +19,7 @@ use Rattle.timing.specs.Code.IsAccepted.{IsAccepted}
 use Rattle.machine.specs.declared.Local.{Local}
 use Rattle.machine.specs.Ends.{Flags, End, noFlags, noStore}
 use Rattle.machine.specs.Buffers.{orderRoom, runAnswer, unwritten}
-use Rattle.machine.specs.Instructions.{Store, perform, operationEffects, register, endJob, loadVariable, store, setNumber, add}
-use Rattle.machine.specs.Instructions.{subtract, skipLess, skipEqual, pick, acquireLock, releaseLock, assert}
+use Rattle.machine.specs.Instructions.{Store, perform, operationEffects, register, endJob, loadVariable, store, setNumber, add, subtract, skipLess, skipEqual, pick, acquireLock, releaseLock, assert}
 use Rattle.order.specs.Orders.{Turn, nextOf, performed, step, run, orderEnd}
 use Rattle.order.specs.Replay.{replay, replayed, replayAnswer}
 use Rattle.order.specs.States.{State, initial}

@@ -6,7 +6,7 @@ use Prim.Native.Nat.{_-_}
 use native.Mathlib.Omega.{arith}
 use lib.ListN.{length, length-map}
 use Rattle.words.specs.Words.{wordsOfRun, runWords}
-use Rattle.words.specs.Laws.WordsLaws.{StoredTo, stored-none, stored-length, stored-more, stored-all, run-length}
+use Rattle.words.specs.Laws.WordsLaws.{StoredTo, stored-none, stored-length, stored-more, stored-all, words-run-length}
 use Rattle.words.proofs.put_run.Statement.{statement}
 use Rattle.words.proofs.put_run.Tie as tie
 
@@ -19,7 +19,7 @@ abbrev μ-loop : tie.MeasureT-loop
 -- a run has eight variables and 32 flags, and so 43 words
 total : (c : tie.Start Inv-loop μ-loop) → length (runWords (c .args .run)) ≡ wordsOfRun
 total c =
-    run-length (c .args .run) (sym (length-map (c .args .run .store) _) ∙ c .good .0 .1 .1 .1 .1 .0 .1 .0 .1)
+    words-run-length (c .args .run) (sym (length-map (c .args .run .store) _) ∙ c .good .0 .1 .1 .1 .1 .0 .1 .0 .1)
     (sym (length-map (c .args .run .failed) _) ∙ c .good .0 .1 .1 .1 .1 .1 .0 .1 .0 .1)
 
 loop-holds : tie.Need-loop-holds Inv-loop μ-loop

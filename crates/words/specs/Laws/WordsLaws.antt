@@ -16,8 +16,7 @@ use Rattle.notation.specs.Laws.QuantifierLaws.{map-length, map-at}
 use Rattle.timing.specs.declared.ReadAnswer.{ReadAnswer}
 use Rattle.machine.specs.declared.RunAnswer.{RunAnswer}
 use Rattle.walk.specs.declared.WalkAnswer.{WalkAnswer}
-use Rattle.words.specs.Words.{wordsOfRead, wordsOfRun, wordsOfWalk, flag, readWords, verdictNumber}
-use Rattle.words.specs.Words.{runPart, runWords, walkWords, filledWith}
+use Rattle.words.specs.Words.{wordsOfRead, wordsOfRun, wordsOfWalk, flag, readWords, verdictNumber, runPart, runWords, walkWords, filledWith}
 
 -- ---- words stored one by one
 
@@ -95,9 +94,9 @@ module _ (a : RunAnswer) (variables : length (a .store) ≡ 8) (jobs : length (a
       let flags : List ℕ = map flag (a .failed) in
       omega (arith, variables, jobs, map-length flag (a .failed), length-append (a .store) flags)
 
-  pub run-length : length (runWords a) ≡ wordsOfRun
+  pub words-run-length : length (runWords a) ≡ wordsOfRun
   unfolding runWords
-  run-length = omega (arith, both-length, length-append (a .store ++ map flag (a .failed)) (a .length ∷ []))
+  words-run-length = omega (arith, both-length, length-append (a .store ++ map flag (a .failed)) (a .length ∷ []))
 
   -- the store and the flags stand after the first two words
   both-word : (k j : ℕ) → k ≡ suc (suc j) → j < 40
@@ -130,7 +129,7 @@ module _ (a : RunAnswer) (variables : length (a .store) ≡ 8) (jobs : length (a
 module _ (x : WalkAnswer) (variables : length (x .store) ≡ 8) (jobs : length (x .failed) ≡ 32) where
   part-length : length (runWords (runPart x)) ≡ wordsOfRun
   unfolding runPart
-  part-length = run-length (runPart x) variables jobs
+  part-length = words-run-length (runPart x) variables jobs
 
   pub walk-length : length (walkWords x) ≡ wordsOfWalk
   unfolding walkWords

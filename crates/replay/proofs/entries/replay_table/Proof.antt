@@ -2,7 +2,7 @@
 -- that of the definition.
 -- Assumes nothing.
 use borrow.Author.Needs.{needs}
-use Rattle.replay.specs.Laws.ReplayEntryLaws.{replay-lent}
+use Rattle.replay.specs.Laws.ReplayTableLaws.{replay-lent}
 use Rattle.replay.proofs.entries.replay_table.Statement.{statement}
 use Rattle.replay.proofs.entries.replay_table.Tie as tie
 
