@@ -33,7 +33,7 @@ use Rattle.matching.specs.Laws.EndedLaws.{ended-fewer}
 use Rattle.matching.specs.Laws.Histories.{Mark, Marks, job, marked, inRound, JobColumn, unbegun, effectOf, stepped, markStep, runMarks, Columns, columnsFrom, columns}
 use Rattle.notation.specs.Laws.ElementLaws.{none-or-some, or-none, at-every}
 use Rattle.matching.specs.Laws.Traces.{Traced}
-use Rattle.matching.specs.Laws.TurnTraceLaws.{GoesOn, Starts, under-lower, active-lower}
+use Rattle.matching.specs.Laws.TurnTraceLaws.{GoesOn, Starts, under-lower, trace-lower}
 
 -- ---- a job with no steps
 
@@ -83,7 +83,7 @@ module _ {a : Accepted} (ok : IsAccepted a) {s : State} (inv : Invariant a s) {r
   unfolding job
   moved-above y above = elim (none-or-some (inRound r (getD h y []))) [
     | inl none ↦ none
-    | inr made ↦ absurd (omega (arith, active-lower ok good (job y) (λ e. omega arith) (t .here y made)))
+    | inr made ↦ absurd (omega (arith, trace-lower ok good (job y) (λ e. omega arith) (t .here y made)))
   ]
 
   -- ---- the jobs' own states
@@ -169,9 +169,9 @@ module _ {a : Accepted} (ok : IsAccepted a) {s : State} (inv : Invariant a s) {r
     moved-locals k d lt = every-at (Agrees (moved .jobs)) (after .active) k d agree-moved lt
 
     -- the turn's job has ended if its instruction was an End
-    pub ended-here : hasEnded after (turn .frame .job) ≡ effect .ended
+    pub moved-ended : hasEnded after (turn .frame .job) ≡ effect .ended
     unfolding hasEnded afterEffect
-    ended-here =
+    moved-ended =
         flag-here (effect .ended) x (s .ended) (flagged-here ok inv good effect)
         ∙ ap (λ (b : Bool). effect .ended || b) (good .running .unended)
         ∙ or-none (effect .ended) false refl
@@ -182,7 +182,7 @@ module _ {a : Accepted} (ok : IsAccepted a) {s : State} (inv : Invariant a s) {r
       | yes same ↦
           ap (λ (n : ℕ). getD (moved .jobs) n unbegun .ended) same
           ∙ ap (λ (c : JobColumn). c .ended) moved-own
-          ∙ sym ended-here
+          ∙ sym moved-ended
           ∙ ap (λ (n : ℕ). hasEnded after (job n)) (sym same)
       | no apart ↦
           ap (λ (c : JobColumn). c .ended) (moved-other y apart)

@@ -28,7 +28,7 @@ use Rattle.plan.specs.Runs.{jobTotal}
 use Rattle.matching.specs.Laws.ColumnLaws.{allStored, columns-frame}
 use Rattle.matching.specs.Laws.EndedLaws.{ended-same, ended-more}
 use Rattle.matching.specs.Laws.Histories.{Marks, job, marked, inRound, rows, unbegun, Columns, columns}
-use Rattle.matching.specs.Laws.MovedLaws.{markAt, round-open, moved-listed, stores-all, moved-above, moved, columns-moved, moved-locals, ended-here, moved-endings, moved-failures, moved-present, moved-past}
+use Rattle.matching.specs.Laws.MovedLaws.{markAt, round-open, moved-listed, stores-all, moved-above, moved, columns-moved, moved-locals, moved-ended, moved-endings, moved-failures, moved-present, moved-past}
 use Rattle.matching.specs.Laws.RowLaws.{marked-keeps, rows-marked}
 use Rattle.matching.specs.Laws.Traces.{Traced}
 use Rattle.matching.specs.PlannedSteps.{endedCount}
@@ -104,7 +104,7 @@ module _ {a : Accepted} (ok : IsAccepted a) {s : State} (inv : Invariant a s) {r
   goes-count goes = ended-same a s after (λ y isJob. elim (ℕ-discrete (y .0) x) [
     | yes same ↦
         ap (λ (n : ℕ). hasEnded after (record { 0 = n })) same
-        ∙ ended-here ok inv t good kind v effect is
+        ∙ moved-ended ok inv t good kind v effect is
         ∙ goes
         ∙ sym (good .running .unended)
         ∙ ap (λ (n : ℕ). hasEnded s (record { 0 = n })) (sym same)
@@ -149,7 +149,7 @@ module _ {a : Accepted} (ok : IsAccepted a) {s : State} (inv : Invariant a s) {r
 
   ends-count : effect .ended ≡ true → endedCount a after ≡ suc (endedCount a s)
   ends-count ends =
-      ended-more a s after (turn .frame .job) (good .running .job) (good .running .unended) (ended-here ok inv t good kind v effect is ∙ ends)
+      ended-more a s after (turn .frame .job) (good .running .job) (good .running .unended) (moved-ended ok inv t good kind v effect is ∙ ends)
       (λ y isJob apart. ended-other ok inv good effect y apart)
 
   -- the stores after it: the round's that ended, the next round's, and those of earlier rounds

@@ -25,7 +25,7 @@ use Rattle.matching.specs.Laws.ColumnLaws.{columns-none}
 use Rattle.matching.specs.Laws.EndedLaws.{ended-none}
 use Rattle.matching.specs.Laws.Histories.{Mark, Marks, job, marked, inRound, JobColumn, unbegun, Columns, columns}
 use Rattle.notation.specs.Laws.ElementLaws.{replicate-any}
-use Rattle.matching.specs.Laws.MovedLaws.{markAt, ended-here}
+use Rattle.matching.specs.Laws.MovedLaws.{markAt, moved-ended}
 use Rattle.matching.specs.Laws.RowLaws.{rows-none}
 use Rattle.matching.specs.Laws.Traces.{Traced}
 use Rattle.matching.specs.Laws.TurnTraceLaws.{GoesOn, Starts, turn-kind, step-after}
@@ -92,7 +92,7 @@ module _ {a : Accepted} (ok : IsAccepted a) {s : State} (inv : Invariant a s) {r
   -- its job has ended if the step was an End
   pub effect-ended : hasEnded after stepJob ≡ effect .ended
   effect-ended =
-      ap (λ (next : State). hasEnded next stepJob) (sym (step-after made)) ∙ ended-here ok inv t (good .0) kind (byte % 16) effect refl
+      ap (λ (next : State). hasEnded next stepJob) (sym (step-after made)) ∙ moved-ended ok inv t (good .0) kind (byte % 16) effect refl
 
   -- where the step's job has ended, the next round begins with the store left
   pub step-ends : hasEnded after stepJob ≡ true

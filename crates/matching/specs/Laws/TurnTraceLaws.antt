@@ -87,8 +87,8 @@ module _ {a : Accepted} (ok : IsAccepted a) {s : State} {turn : Turn} (good : Go
   under-lower = lower-all (turn .under) (good .under) (good .over)
 
   -- so an active job other than the turn's has a lower number
-  pub active-lower : (y : Job) → (y .0 ≡ turn .frame .job .0 → ⊥) → isActive s y ≡ true → y .0 < turn .frame .job .0
-  active-lower y apart h = found-lower (y .0) (turn .frame .job .0) (turn .under) under-lower (good .kept y apart h)
+  pub trace-lower : (y : Job) → (y .0 ≡ turn .frame .job .0 → ⊥) → isActive s y ≡ true → y .0 < turn .frame .job .0
+  trace-lower y apart h = found-lower (y .0) (turn .frame .job .0) (turn .under) under-lower (good .kept y apart h)
 
 -- ---- a step by its turn
 

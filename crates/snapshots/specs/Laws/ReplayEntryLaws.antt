@@ -28,10 +28,10 @@ use Rattle.order.specs.Laws.StepLaws.{initial-invariant}
 
 module _ (f : File) (x : AcceptAnswer) (says : AcceptedAs x (accept f)) where
   -- a file that is refused
-  pub replay-refused : (order : List ℕ) {n p : ℕ} → x .check ≡ Refused n p
+  pub entry-refused : (order : List ℕ) {n p : ℕ} → x .check ≡ Refused n p
       → runAnswer (refused n p) ≡ replayAnswer f order
   unfolding replayAnswer replayed unwritten
-  replay-refused order e = sym (ap (λ (c : Checked ℕ End). runAnswer (unwritten c)) (bind-refused _ (accepted-refused x (accept f) says e)))
+  entry-refused order e = sym (ap (λ (c : Checked ℕ End). runAnswer (unwritten c)) (bind-refused _ (accepted-refused x (accept f) says e)))
 
   module _ (passes : x .check ≡ Passed) where
     abbrev found : (a : Accepted) × (accept f ≡ passed a) × AcceptedParts x a

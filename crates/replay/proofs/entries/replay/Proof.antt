@@ -3,7 +3,7 @@
 -- Assumes nothing.
 use mathlib.Core.Path.{_∙_}
 use native.Mathlib.Omega.{arith}
-use Rattle.snapshots.specs.Laws.ReplayEntryLaws.{replay-refused, answers-place, answers-fault, answers-ended}
+use Rattle.snapshots.specs.Laws.ReplayEntryLaws.{entry-refused, answers-place, answers-fault, answers-ended}
 use Rattle.lending.specs.Laws.LendLaws.{parts-lent}
 use borrow.Author.Needs.{needs}
 use Rattle.replay.proofs.entries.replay.Statement.{statement}
@@ -24,7 +24,7 @@ refused-run-requires c κs = search needs
 returns : tie.Need-returns
 returns c =
     c .refused-run .ensures
-    ∙ replay-refused _ _ (c .before .before .before .before .accept-file .ensures) _ (c .before .before .check .given .1)
+    ∙ entry-refused _ _ (c .before .before .before .before .accept-file .ensures) _ (c .before .before .check .given .1)
 
 enum-told : tie.Need-enum-told
 enum-told c = search needs
