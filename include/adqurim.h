@@ -1,14 +1,21 @@
 /*
- * Adqurim's C interface: the reader of task files, the replay of an order, the walk of all orders.
- * For C11 and C++11 or later.
+ * Adqurim's C interface: the reader of task files, the replay of an order, the walk of all orders,
+ * the check of a round plan, and the conversions of an order to its plan and of a plan to its
+ * order. For C11 and C++11 or later.
  *
- * Each entry comes twice. adqurim_read, adqurim_replay and adqurim_walk are the proved entries of
- * the library; they fill words that the caller lends. adqurim_read_file, adqurim_replay_order and
- * adqurim_walk_orders call them and fill a struct.
+ * Each entry comes twice: as a proved entry of the library, which fills words that the caller
+ * lends, and as a function that calls the entry and fills a struct.
  *
- * A slice passes as a pointer and then a length: bytes for a file or an order, words of 64 bits
- * for an answer. A pointer is never null, even where its length is 0. The library keeps nothing
- * between calls and allocates nothing.
+ *   adqurim_read            adqurim_read_file
+ *   adqurim_replay          adqurim_replay_order
+ *   adqurim_walk            adqurim_walk_orders
+ *   adqurim_check_plan      adqurim_check_round_plan
+ *   adqurim_order_to_plan   adqurim_convert_order
+ *   adqurim_plan_to_order   adqurim_convert_plan
+ *
+ * A slice passes as a pointer and then a length: bytes for a file, an order or a plan, words of 64
+ * bits for an answer. A pointer is never null, even where its length is 0. The library keeps
+ * nothing between calls and allocates nothing.
  */
 #ifndef ADQURIM_H
 #define ADQURIM_H
@@ -34,7 +41,7 @@ extern "C" {
 
 /*
  * The numbers of an answer. A refusal has its number, its place, and every other field zero.
- * The entries below give 0 to 32. No entry here takes a plan, which 40 to 45 are about.
+ * 30 to 32 come from entries that take an order, 40 to 45 from entries that take a plan.
  */
 enum adqurim_number {
     ADQURIM_ACCEPTED = 0, /* no refusal; place 0 */
@@ -89,6 +96,8 @@ enum adqurim_verdict {
 #define ADQURIM_READ_WORDS 11
 #define ADQURIM_REPLAY_WORDS 43
 #define ADQURIM_WALK_WORDS 45
+#define ADQURIM_CHECK_PLAN_WORDS 43
+#define ADQURIM_CONVERSION_WORDS 43
 
 /* What adqurim_read answers, word by word. */
 typedef struct adqurim_read_answer {
@@ -98,7 +107,7 @@ typedef struct adqurim_read_answer {
     uint64_t jobs;                          /* how many */
 } adqurim_read_answer;
 
-/* What adqurim_replay answers, word by word: how an order's run ends. */
+/* What the replay, the plan check and the conversions answer, word by word: how a run ends. */
 typedef struct adqurim_run {
     uint64_t number;                    /* an adqurim_number */
     uint64_t place;
@@ -126,6 +135,8 @@ typedef struct adqurim_walk_answer {
 ADQURIM_STATIC_ASSERT(sizeof(adqurim_read_answer) == ADQURIM_READ_WORDS * 8, "11 words");
 ADQURIM_STATIC_ASSERT(sizeof(adqurim_run) == ADQURIM_REPLAY_WORDS * 8, "43 words");
 ADQURIM_STATIC_ASSERT(sizeof(adqurim_walk_answer) == ADQURIM_WALK_WORDS * 8, "45 words");
+ADQURIM_STATIC_ASSERT(sizeof(adqurim_run) == ADQURIM_CHECK_PLAN_WORDS * 8, "43 words");
+ADQURIM_STATIC_ASSERT(sizeof(adqurim_run) == ADQURIM_CONVERSION_WORDS * 8, "43 words");
 #undef ADQURIM_STATIC_ASSERT
 
 /*
@@ -196,6 +207,76 @@ bool adqurim_walk(const uint8_t *file, size_t file_len, uint64_t allowance, uint
                   size_t order_len, uint64_t *answer, size_t answer_len);
 
 /*
+ * Checks a round plan of a task file's jobs and fills the first 43 words of the answer:
+ *
+ *   word 0           the number: 0 if the plan is legal, else the number of the refusal,
+ *                    1 to 11 for the file, 40 to 45 for the plan
+ *   word 1           the place of the refusal, a record's index for the file; for the plan an
+ *                    offset (40 to 42), a job (43 and 44) or a round (45); 0 if the plan is legal
+ *   words 2 to 9     the end store, variables 0 to 7
+ *   words 10 to 41   for each of jobs 0 to 31 a 1 if an assertion of the job failed, else 0
+ *   word 42          how many bytes were written to a lent buffer: 0, since a check writes none
+ *
+ * A refusal has every word but 0 and 1 zero. Words past the 43rd never change.
+ *
+ * Returns whether the answer has room for the 43 words. Without room nothing changes and the
+ * answer is false. The file and the plan are only read, and neither overlaps the answer.
+ */
+bool adqurim_check_plan(const uint8_t *file, size_t file_len, const uint8_t *plan, size_t plan_len,
+                        uint64_t *answer, size_t answer_len);
+
+/*
+ * Converts an order of a task file's jobs to its plan and fills the first 43 words of the answer:
+ *
+ *   word 0           the number: 0 if the order is complete, else the number of the refusal,
+ *                    1 to 11 for the file, 20 if the plan buffer is below 1,281 bytes, 30 to 32
+ *                    for the order
+ *   word 1           the place of the refusal, a record's index for the file, a step's for the
+ *                    order; else 0
+ *   words 2 to 9     the end store, variables 0 to 7
+ *   words 10 to 41   for each of jobs 0 to 31 a 1 if an assertion of the job failed, else 0
+ *   word 42          the plan's length in bytes, at most 1,281
+ *
+ * A refusal has every word but 0 and 1 zero. Words past the 43rd never change.
+ *
+ * The plan buffer then holds the plan, and zeros up to byte 1,281; after a refusal, what it held
+ * before. Bytes beyond the first 1,281 never change.
+ *
+ * Returns whether the answer has room for the 43 words. Without room nothing changes, the plan
+ * buffer neither, and the answer is false. The file and the order are only read; neither overlaps
+ * the plan or the answer, nor do these overlap each other.
+ */
+bool adqurim_order_to_plan(const uint8_t *file, size_t file_len, const uint8_t *order,
+                           size_t order_len, uint8_t *plan, size_t plan_len, uint64_t *answer,
+                           size_t answer_len);
+
+/*
+ * Converts a round plan of a task file's jobs to its order and fills the first 43 words of the
+ * answer:
+ *
+ *   word 0           the number: 0 if the plan is legal, else the number of the refusal,
+ *                    1 to 11 for the file, 20 if the order buffer is below 512 bytes, 40 to 45
+ *                    for the plan
+ *   word 1           the place of the refusal, a record's index for the file; for the plan an
+ *                    offset (40 to 42), a job (43 and 44) or a round (45); else 0
+ *   words 2 to 9     the end store, variables 0 to 7
+ *   words 10 to 41   for each of jobs 0 to 31 a 1 if an assertion of the job failed, else 0
+ *   word 42          the order's length in bytes, at most 512
+ *
+ * A refusal has every word but 0 and 1 zero. Words past the 43rd never change.
+ *
+ * The order buffer then holds the order, and zeros up to byte 512; after a refusal, what it held
+ * before. Bytes beyond the first 512 never change.
+ *
+ * Returns whether the answer has room for the 43 words. Without room nothing changes, the order
+ * buffer neither, and the answer is false. The file and the plan are only read; neither overlaps
+ * the order or the answer, nor do these overlap each other.
+ */
+bool adqurim_plan_to_order(const uint8_t *file, size_t file_len, const uint8_t *plan,
+                           size_t plan_len, uint8_t *order, size_t order_len, uint64_t *answer,
+                           size_t answer_len);
+
+/*
  * The same entries with structs. Each returns the answer's number, 0 if nothing is refused. What
  * is said above of the lent bytes holds here too.
  *
@@ -228,6 +309,38 @@ static inline uint64_t adqurim_walk_orders(const uint8_t *file, size_t file_len,
                                            adqurim_walk_answer *answer) {
     uint64_t words[ADQURIM_WALK_WORDS];
     (void)adqurim_walk(file, file_len, allowance, order, order_len, words, ADQURIM_WALK_WORDS);
+    memcpy(answer, words, sizeof words);
+    return answer->number;
+}
+
+/* Checks a round plan. */
+static inline uint64_t adqurim_check_round_plan(const uint8_t *file, size_t file_len,
+                                                const uint8_t *plan, size_t plan_len,
+                                                adqurim_run *answer) {
+    uint64_t words[ADQURIM_CHECK_PLAN_WORDS];
+    (void)adqurim_check_plan(file, file_len, plan, plan_len, words, ADQURIM_CHECK_PLAN_WORDS);
+    memcpy(answer, words, sizeof words);
+    return answer->number;
+}
+
+/* Converts an order to its plan. */
+static inline uint64_t adqurim_convert_order(const uint8_t *file, size_t file_len,
+                                             const uint8_t *order, size_t order_len,
+                                             uint8_t *plan, size_t plan_len, adqurim_run *answer) {
+    uint64_t words[ADQURIM_CONVERSION_WORDS];
+    (void)adqurim_order_to_plan(file, file_len, order, order_len, plan, plan_len, words,
+                                ADQURIM_CONVERSION_WORDS);
+    memcpy(answer, words, sizeof words);
+    return answer->number;
+}
+
+/* Converts a round plan to its order. */
+static inline uint64_t adqurim_convert_plan(const uint8_t *file, size_t file_len,
+                                            const uint8_t *plan, size_t plan_len,
+                                            uint8_t *order, size_t order_len, adqurim_run *answer) {
+    uint64_t words[ADQURIM_CONVERSION_WORDS];
+    (void)adqurim_plan_to_order(file, file_len, plan, plan_len, order, order_len, words,
+                                ADQURIM_CONVERSION_WORDS);
     memcpy(answer, words, sizeof words);
     return answer->number;
 }

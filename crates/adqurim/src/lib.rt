@@ -2,6 +2,9 @@
 // each word holds.
 
 use acceptance::entries::read;
+use order_plan::entries::order_to_plan;
+use plan_check::entries::check_plan;
+use plan_order::entries::plan_to_order;
 use replay::entries::replay;
 use walker::entries::walk_file;
 use words::READ_WORDS;
@@ -17,6 +20,9 @@ ghost use Rattle.notation.specs.Lists.{if_then_else_};
 ghost use Rattle.timing.specs.ReadEntries.{readAnswer};
 ghost use Rattle.order.specs.Replay.{replayAnswer};
 ghost use Rattle.walk.specs.WalkEntry.{walkAnswer, walkAfter};
+ghost use Rattle.plan.specs.Plans.{planAnswer};
+ghost use Rattle.matching.specs.ConversionEntries.{orderToPlanAnswer, orderToPlanAfter};
+ghost use Rattle.matching.specs.ConversionEntries.{planToOrderAnswer, planToOrderAfter};
 ghost use Rattle.words.specs.Words.{wordsOfRead, wordsOfRun, wordsOfWalk, readWords, runWords, walkWords, filledWith};
 
 // The reader's entry. Words 0 and 1 are number and place, words 2 to 9 the response times of tasks 0 to 7 (0 past
@@ -76,5 +82,63 @@ pub extern "C" fn adqurim_walk(
     }
     let x = walk_file(file, allowance, order);
     put_walk(x, answer);
+    true
+}
+
+// The plan check's entry. The words are as the replay's; nothing is written, so word 42 is 0. It answers whether there
+// was room for the words; without room no word changes.
+#[no_mangle]
+pub extern "C" fn adqurim_check_plan(file: &[u8], plan: &[u8], answer: &mut [u64]) -> bool
+    ensures room { λ r. ⌜ r ≡ leb wordsOfRun (length (now (answer .entry))) ⌝ }
+    ensures words { λ _. ⌜ now (answer .exit)
+        ≡ filledWith (runWords (planAnswer (now (file .entry)) (now (plan .entry)))) (now (answer .entry)) ⌝ }
+{
+    if answer.len() < RUN_WORDS {
+        return false;
+    }
+    let checked = check_plan(file, plan);
+    put_run(checked, answer);
+    true
+}
+
+// The entry from an order to a plan. The words are as the replay's, word 42 being the plan's length. The plan buffer's
+// first 1,281 bytes hold the plan and zeros after it; a refusal leaves it as it was. It answers whether there was room
+// for the words; without room nothing changes, the plan buffer neither.
+#[no_mangle]
+pub extern "C" fn adqurim_order_to_plan(file: &[u8], order: &[u8], plan: &mut [u8], answer: &mut [u64]) -> bool
+    ensures room { λ r. ⌜ r ≡ leb wordsOfRun (length (now (answer .entry))) ⌝ }
+    ensures words { λ _. ⌜ now (answer .exit)
+        ≡ filledWith (runWords (orderToPlanAnswer (now (file .entry)) (now (order .entry)) (now (plan .entry))))
+        (now (answer .entry)) ⌝ }
+    ensures buffer { λ _. ⌜ now (plan .exit)
+        ≡ (if leb wordsOfRun (length (now (answer .entry)))
+        then orderToPlanAfter (now (file .entry)) (now (order .entry)) (now (plan .entry)) else now (plan .entry)) ⌝ }
+{
+    if answer.len() < RUN_WORDS {
+        return false;
+    }
+    let planned = order_to_plan(file, order, plan);
+    put_run(planned, answer);
+    true
+}
+
+// The entry from a plan to an order. The words are as the replay's, word 42 being the order's length. The order buffer's
+// first 512 bytes hold the order and zeros after it; a refusal leaves it as it was. It answers whether there was room
+// for the words; without room nothing changes, the order buffer neither.
+#[no_mangle]
+pub extern "C" fn adqurim_plan_to_order(file: &[u8], plan: &[u8], order: &mut [u8], answer: &mut [u64]) -> bool
+    ensures room { λ r. ⌜ r ≡ leb wordsOfRun (length (now (answer .entry))) ⌝ }
+    ensures words { λ _. ⌜ now (answer .exit)
+        ≡ filledWith (runWords (planToOrderAnswer (now (file .entry)) (now (plan .entry)) (now (order .entry))))
+        (now (answer .entry)) ⌝ }
+    ensures buffer { λ _. ⌜ now (order .exit)
+        ≡ (if leb wordsOfRun (length (now (answer .entry)))
+        then planToOrderAfter (now (file .entry)) (now (plan .entry)) (now (order .entry)) else now (order .entry)) ⌝ }
+{
+    if answer.len() < RUN_WORDS {
+        return false;
+    }
+    let ordered = plan_to_order(file, plan, order);
+    put_run(ordered, answer);
     true
 }

@@ -7,6 +7,7 @@ pub mod CutRounds
 pub mod CutRuns
 pub mod Cuts
 pub mod EndedLaws
+pub mod EntryLaws
 pub mod FitsLaws
 pub mod Histories
 pub mod JobHistoryLaws
@@ -14,6 +15,7 @@ pub mod JobReadingLaws
 pub mod LegalLaws
 pub mod MadeLaws
 pub mod MovedLaws
+pub mod NumberedLaws
 pub mod OfferedLaws
 pub mod OrderKept
 pub mod OrderPlanned

@@ -1,7 +1,6 @@
 // What a walk comes to, and what that answers and shows.
 use ends::failed_in;
 use ends::some_failed;
-use snapshots::ORDER_ROOM;
 use snapshots::STATE;
 use snapshots::STORE;
 use states::eight_at;
@@ -11,12 +10,11 @@ use taskfile::numbers::UNDECIDED;
 use walk::Verdict;
 use walk::WalkAnswer;
 ghost use mathlib.Core.Path.{_≡_};
-ghost use Prim.Native.Nat.{_≤_, _<_, _^_};
+ghost use Prim.Native.Nat.{_<_, _^_};
 ghost use mathlib.Core.Bool.{true};
-ghost use lib.ListN.{length};
 ghost use Rattle.states.specs.Code.StateBytes.{snapshotIn};
 ghost use Rattle.walk.specs.WalkEntry.{refusal};
-ghost use Rattle.outcomes.specs.Code.Outcomes.{heldAt, stoppedAt, endedAt, answerOf, shownLength, clearedFrom};
+ghost use Rattle.outcomes.specs.Code.Outcomes.{heldAt, stoppedAt, endedAt, answerOf, shownLength};
 
 // What a walk comes to: whether a failing order was found, whether the allowance stopped it before, and the moves made
 // so far; of an order found also its length, its end store and its failed jobs.
@@ -131,16 +129,4 @@ pub fn shown_length(r: Outcome) -> usize
         return r.length as usize;
     }
     0
-}
-
-// Zeros from a byte of the buffer on, up to the room of an order.
-pub fn clear_from(from: usize, out: &mut [u8])
-    requires { ⌜ (from ≤ 512) × (512 ≤ length (now out)) ⌝ }
-    ensures { λ _. ⌜ now (out .exit) ≡ clearedFrom from (now (out .entry)) ⌝ }
-{
-    let mut i = from;
-    while i < ORDER_ROOM {
-        out[i] = 0;
-        i += 1;
-    }
 }

@@ -1,5 +1,5 @@
 // The numbers of refusals. Document 01, "Numbers by who causes them": the file's author and the bench; the caller;
-// the author of an order.
+// the author of an order; the author of a plan.
 pub const SIZE: u8 = 1;
 
 pub const KIND: u8 = 2;
@@ -31,3 +31,15 @@ pub const STEP: u8 = 30;
 pub const SHORT: u8 = 31;
 
 pub const EXTRA: u8 = 32;
+
+pub const SHAPE: u8 = 40;
+
+pub const VALUE: u8 = 41;
+
+pub const ROUND: u8 = 42;
+
+pub const ORDER: u8 = 43;
+
+pub const LOCK: u8 = 44;
+
+pub const GUESS: u8 = 45;

@@ -2,7 +2,6 @@
 use acceptance::entries::accept_file;
 use lending::lend;
 use outcomes::Outcome;
-use outcomes::clear_from;
 use outcomes::outcome_answer;
 use outcomes::refused_walk;
 use outcomes::shown_length;
@@ -13,6 +12,7 @@ use taskfile::numbers::ROOM;
 use timing::JobList;
 use trials::walk;
 use walk::WalkAnswer;
+use writing::clear_from;
 ghost use mathlib.Core.Path.{_≡_};
 ghost use Prim.Native.Nat.{_≤_};
 ghost use lib.ListN.{length};
@@ -58,6 +58,6 @@ pub fn walk_file(file: &[u8], allowance: u64, out: &mut [u8]) -> WalkAnswer
         return refused_walk(ROOM, 0);
     }
     let r = walk_table(accepted.table, accepted.list, allowance, out);
-    clear_from(shown_length(r), out);
+    clear_from(shown_length(r), ORDER_ROOM, out);
     outcome_answer(r)
 }

@@ -1,10 +1,11 @@
-//! The files whose reading is timed, and the orders whose replay is.
+//! The files whose reading is timed, and the orders and plans whose checks and conversions are.
 
-use crate::measure::Input;
-use conformance::cases::{accepted, full_table, table_x, ORDER_OF_X};
+use crate::measure::{Entry, Input};
+use conformance::cases::{accepted, full_table, plan_of_x, table_x, ORDER_OF_X};
 use conformance::orders::random_order;
 use generator::hostile::{nearly_full, tasks_of, WIDEST};
 use generator::{Random, TableDescription};
+use interpreter::conversion::order_to_plan;
 use std::cmp::Ordering;
 
 /// Whether a row's files are made to take long.
@@ -35,9 +36,9 @@ pub fn read_rows() -> Vec<Row> {
     refused.resize(256 * 16, 0);
     let largest = "145 records: 8 tasks of 16 instructions, 8 locks, 32 jobs";
     let mut rows = vec![
-        plain("table X", Input::Read(table_x().write())),
-        plain(largest, Input::Read(full_table().write())),
-        plain("256 records: the same and 111 never reached", Input::Read(refused)),
+        plain("table X", Input::read(table_x().write())),
+        plain(largest, Input::read(full_table().write())),
+        plain("256 records: the same and 111 never reached", Input::read(refused)),
     ];
     rows.extend(family_rows());
     rows.extend(heavy_tables().into_iter().map(heavy_row));
@@ -45,15 +46,46 @@ pub fn read_rows() -> Vec<Row> {
     rows
 }
 
-/// The replay's rows: the order of table X, and a complete order of the largest table.
-pub fn replay_rows() -> Vec<Row> {
-    let file = full_table().write();
-    let order = random_order(&mut Random::new(204), &accepted(&file));
-    assert_eq!(order.len(), 512, "the order performs every instruction");
+/// A complete order of the largest table by random moves, and its plan.
+fn longest(file: &[u8]) -> (Vec<u8>, Vec<u8>) {
+    let order = random_order(&mut Random::new(204), &accepted(file));
+    let plan = order_to_plan(&accepted(file), &order).expect("the order is complete").0;
+    assert_eq!((order.len(), plan.len()), (512, 1281), "the order performs every instruction");
+    (order, plan)
+}
+
+/// An entry's two rows: table X, and the largest table with as many steps as any has. The order is
+/// converted or replayed, the plan converted or checked; `prefix` stands before a row's name.
+fn two_rows(entry: Entry, prefix: &str) -> Vec<Row> {
+    let (x, file) = (table_x().write(), full_table().write());
+    let (order, plan) = longest(&file);
+    let (bytes_of_x, bytes) = match entry {
+        Entry::CheckPlan | Entry::PlanToOrder => (plan_of_x(), plan),
+        _ => (ORDER_OF_X.to_vec(), order),
+    };
+    let row =
+        |name: &str, file, bytes| plain(&format!("{prefix}{name}"), Input { entry, file, bytes });
     vec![
-        plain("table X, 8 steps", Input::Replay(table_x().write(), ORDER_OF_X.to_vec())),
-        plain("145 records, 32 jobs of 16 instructions, 512 steps", Input::Replay(file, order)),
+        row("table X, 8 steps", x, bytes_of_x),
+        row("145 records, 32 jobs of 16 instructions, 512 steps", file, bytes),
     ]
+}
+
+/// The replay's rows.
+pub fn replay_rows() -> Vec<Row> {
+    two_rows(Entry::Replay, "")
+}
+
+/// The plan check's rows, with the plans of the replay's orders.
+pub fn plan_rows() -> Vec<Row> {
+    two_rows(Entry::CheckPlan, "")
+}
+
+/// The conversions' rows, with the same orders and plans.
+pub fn conversion_rows() -> Vec<Row> {
+    let mut rows = two_rows(Entry::OrderToPlan, "order to plan: ");
+    rows.extend(two_rows(Entry::PlanToOrder, "plan to order: "));
+    rows
 }
 
 /// The periods of the family that is measured whole, longest first.
@@ -86,7 +118,7 @@ fn family_rows() -> Vec<Row> {
             let above = periods.iter().map(|period| (1, *period));
             std::iter::once((1, WIDEST)).chain(above).collect::<Vec<_>>()
         };
-        let file = |periods| Input::Read(tasks_of(&times(periods)).write());
+        let file = |periods| Input::read(tasks_of(&times(periods)).write());
         let inputs: Vec<Input> = chosen.map(file).collect();
         let name = format!("slowest of the family's {}, utilisation {side} 1", inputs.len());
         Row { name, inputs, kind: Kind::Family }
@@ -123,7 +155,7 @@ fn heavy_row(times: Vec<(u32, u32)>) -> Row {
     let words: Vec<String> = times.iter().map(|(c, p)| format!("{c}/{p}")).collect();
     Row {
         name: format!("C/P {}", words.join(", ")),
-        inputs: vec![Input::Read(tasks_of(&times).write())],
+        inputs: vec![Input::read(tasks_of(&times).write())],
         kind: Kind::Other,
     }
 }
@@ -132,7 +164,7 @@ fn heavy_row(times: Vec<(u32, u32)>) -> Row {
 fn random_rows() -> Vec<Row> {
     let family = |name: &str, seed: u64, count: usize, make: fn(&mut Random) -> TableDescription| {
         let mut random = Random::new(seed);
-        let inputs = (0..count).map(|_| Input::Read(make(&mut random).write())).collect();
+        let inputs = (0..count).map(|_| Input::read(make(&mut random).write())).collect();
         Row { name: format!("slowest of {count}: {name}"), inputs, kind: Kind::Other }
     };
     vec![

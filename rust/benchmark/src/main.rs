@@ -13,7 +13,7 @@ mod walks;
 
 use files::Row;
 use measure::{time_both, Side};
-use report::Timing;
+use report::{Tables, Timing};
 use std::time::Duration;
 use walks::WalkTiming;
 
@@ -51,10 +51,19 @@ fn main() -> std::io::Result<()> {
     let load = report::load();
     let reads = measure_rows(files::read_rows())?;
     let replays = measure_rows(files::replay_rows())?;
+    let plans = measure_rows(files::plan_rows())?;
+    let conversions = measure_rows(files::conversion_rows())?;
     let walks: Vec<WalkTiming> = walks::walk_rows().into_iter().map(walks::time_walks).collect();
-    let stack = report::stack(stack::least_kib()?);
-    print!("{}\n{}", report::read_table(&reads), report::replay_table(&replays));
-    print!("\n{}\n{stack}", report::walk_table(&walks));
-    let page = report::page(&reads, &replays, &walks, &stack, &load);
+    let tables = Tables {
+        reads: report::read_table(&reads),
+        replays: report::replay_table(&replays),
+        plans: report::plan_table(&plans),
+        conversions: report::conversion_table(&conversions),
+        walks: report::walk_table(&walks),
+        stack: report::stack(stack::least_kib()?),
+    };
+    let Tables { reads, replays, plans, conversions, walks, stack } = &tables;
+    print!("{reads}\n{replays}\n{plans}\n{conversions}\n{walks}\n{stack}");
+    let page = report::page(&tables, &load);
     std::fs::write(PAGE, page + &report::history(&std::fs::read_to_string(PAGE)?))
 }

@@ -1,7 +1,11 @@
 //! How long the proved entries and the interpreter take on an input.
 
 use binding::raw::{self, ReadAnswer, RunAnswer};
-use conformance::proved::{expected_read, expected_replay};
+use binding::{ORDER_ROOM, PLAN_ROOM};
+use conformance::proved::{
+    expected_check_plan, expected_order_to_plan, expected_plan_to_order, expected_read,
+    expected_replay,
+};
 use std::hint::black_box;
 use std::io::{Read, Result, Write};
 use std::process::{Child, Command, Stdio};
@@ -21,13 +25,27 @@ pub const MOST_SAMPLES: u128 = 401;
 const SHORT: Duration = Duration::from_micros(20);
 pub const AT_ONCE: u32 = 16;
 
+/// The entries that are timed beside the interpreter.
+#[derive(Debug, Clone, Copy, PartialEq, Eq)]
+pub enum Entry {
+    Read,
+    Replay,
+    CheckPlan,
+    OrderToPlan,
+    PlanToOrder,
+}
+
+/// In the order of their numbers, by which a child is told the entry.
+const ENTRIES: [Entry; 5] =
+    [Entry::Read, Entry::Replay, Entry::CheckPlan, Entry::OrderToPlan, Entry::PlanToOrder];
+
 /// What an entry is called on.
 #[derive(Debug, Clone)]
-pub enum Input {
-    /// The reader's file.
-    Read(Vec<u8>),
-    /// The replay's file and order.
-    Replay(Vec<u8>, Vec<u8>),
+pub struct Input {
+    pub entry: Entry,
+    pub file: Vec<u8>,
+    /// The order or the plan; none for the reader.
+    pub bytes: Vec<u8>,
 }
 
 /// What an entry answers. A box would add its allocation to the time.
@@ -38,24 +56,45 @@ enum Answer {
     Run(RunAnswer),
 }
 
+/// Calls a conversion with a buffer of its own, which counts as used.
+fn with_buffer<const ROOM: usize>(
+    conversion: fn(&[u8], &[u8], &mut [u8]) -> RunAnswer,
+    file: &[u8],
+    bytes: &[u8],
+) -> Answer {
+    let mut buffer = [0; ROOM];
+    let answer = conversion(file, bytes, &mut buffer);
+    black_box(&buffer);
+    Answer::Run(answer)
+}
+
 impl Input {
+    /// A reader's input.
+    pub fn read(file: Vec<u8>) -> Input {
+        Input { entry: Entry::Read, file, bytes: Vec::new() }
+    }
+
     /// What the interpreter answers.
     fn expected(&self) -> Answer {
-        match self {
-            Input::Read(file) => Answer::Read(expected_read(black_box(file))),
-            Input::Replay(file, order) => {
-                Answer::Run(expected_replay(black_box(file), black_box(order)))
-            }
+        let (file, bytes) = (black_box(&self.file), black_box(&self.bytes));
+        match self.entry {
+            Entry::Read => Answer::Read(expected_read(file)),
+            Entry::Replay => Answer::Run(expected_replay(file, bytes)),
+            Entry::CheckPlan => Answer::Run(expected_check_plan(file, bytes)),
+            Entry::OrderToPlan => with_buffer::<PLAN_ROOM>(expected_order_to_plan, file, bytes),
+            Entry::PlanToOrder => with_buffer::<ORDER_ROOM>(expected_plan_to_order, file, bytes),
         }
     }
 
     /// What the proved entry answers.
     fn proved(&self) -> Answer {
-        match self {
-            Input::Read(file) => Answer::Read(raw::read(black_box(file))),
-            Input::Replay(file, order) => {
-                Answer::Run(raw::replay(black_box(file), black_box(order)))
-            }
+        let (file, bytes) = (black_box(&self.file), black_box(&self.bytes));
+        match self.entry {
+            Entry::Read => Answer::Read(raw::read(file)),
+            Entry::Replay => Answer::Run(raw::replay(file, bytes)),
+            Entry::CheckPlan => Answer::Run(raw::check_plan(file, bytes)),
+            Entry::OrderToPlan => with_buffer::<PLAN_ROOM>(raw::order_to_plan, file, bytes),
+            Entry::PlanToOrder => with_buffer::<ORDER_ROOM>(raw::plan_to_order, file, bytes),
         }
     }
 
@@ -67,24 +106,19 @@ impl Input {
         }
     }
 
-    /// The bytes for a child: the file's length if an order follows it, else 0, then the file and the
-    /// order.
+    /// The bytes for a child: the entry, the file's length, then the file and the order or plan.
     fn to_bytes(&self) -> Vec<u8> {
-        match self {
-            Input::Read(file) => [&[0; 8], &file[..]].concat(),
-            Input::Replay(file, order) => {
-                [&(file.len() as u64).to_le_bytes(), &file[..], order].concat()
-            }
-        }
+        let length = self.file.len() as u64;
+        [&[self.entry as u8], &length.to_le_bytes()[..], &self.file, &self.bytes].concat()
     }
 
     /// The input of these bytes.
     fn from_bytes(bytes: &[u8]) -> Input {
+        let (entry, bytes) = bytes.split_first().expect("the parent writes an entry");
         let (length, bytes) = bytes.split_first_chunk().expect("the parent writes a length");
-        match u64::from_le_bytes(*length) as usize {
-            0 => Input::Read(bytes.to_vec()),
-            length => Input::Replay(bytes[..length].to_vec(), bytes[length..].to_vec()),
-        }
+        let (file, bytes) = bytes.split_at(u64::from_le_bytes(*length) as usize);
+        let entry = ENTRIES[usize::from(*entry)];
+        Input { entry, file: file.to_vec(), bytes: bytes.to_vec() }
     }
 }
 

@@ -70,6 +70,16 @@ pub fn replay_table(timings: &[Timing]) -> String {
     table("file and order", timings)
 }
 
+/// The plan check's table.
+pub fn plan_table(timings: &[Timing]) -> String {
+    table("file and plan", timings)
+}
+
+/// The conversions' table.
+pub fn conversion_table(timings: &[Timing]) -> String {
+    table("file and what is converted", timings)
+}
+
 /// The walk's table, and below it the median of its ratios.
 pub fn walk_table(timings: &[WalkTiming]) -> String {
     let mut text = String::new();
@@ -131,19 +141,26 @@ fn slowest(timings: &[Timing], kind: Kind, files: &str) -> String {
     format!("{which} takes the proved entry {ratio} times as long as {}.", timings[0].name)
 }
 
+/// The tables as text, in the order of the page.
+pub struct Tables {
+    pub reads: String,
+    pub replays: String,
+    pub plans: String,
+    pub conversions: String,
+    pub walks: String,
+    pub stack: String,
+}
+
 /// The whole page; `load` is the load average before the first run.
-pub fn page(
-    reads: &[Timing],
-    replays: &[Timing],
-    walks: &[WalkTiming],
-    stack: &str,
-    load: &str,
-) -> String {
+pub fn page(tables: &Tables, load: &str) -> String {
+    format!("{}{}{}", head(load), runs_part(tables), walk_part(tables))
+}
+
+/// How the times were measured.
+fn head(load: &str) -> String {
     let cores = std::thread::available_parallelism().map_or(0, usize::from);
     let (model, date, architecture) = (model(), date(), std::env::consts::ARCH);
     let limit = LIMIT.as_secs();
-    let (read_table, replay_table) = (read_table(reads), replay_table(replays));
-    let walk_table = walk_table(walks);
     let most = u128::from(TURNS) * MOST_SAMPLES;
     format!(
         "# Benchmarks
@@ -162,7 +179,15 @@ by the interpreter's.
   checks). A sample is one call, or the mean of {AT_ONCE} short ones. A first run in a child process
   comes before; if it takes over 2 s it is the only run, and at {limit} s it is stopped.
 
-## Reading a file
+"
+    )
+}
+
+/// The entries beside the interpreter.
+fn runs_part(tables: &Tables) -> String {
+    let Tables { reads, replays, plans, conversions, .. } = tables;
+    format!(
+        "## Reading a file
 
 The family of hostile files is every choice of up to seven tasks with C 1 and a period of 1, 2, 3, 7,
 43 or 1807 above a task with C 1 and P 4,294,967,295. The other hostile files are chosen by hand or
@@ -170,13 +195,32 @@ at random; none is known to be the slowest that there is. The lowest task stands
 C/P. Of several tables the one that is slowest by the proved entry is shown; the interpreter may be
 slower on another.
 
-{read_table}
+{reads}
 ## Replaying an order
 
 The file is read first, by either side. The order of 512 steps is a complete one by random moves.
 
-{replay_table}
-## Walking a table
+{replays}
+## Checking a plan
+
+The plans are those of the same orders. The file is read first, by either side.
+
+{plans}
+## Converting
+
+The same orders to their plans, and these plans to their orders. The file is read first, by either
+side; the buffer is lent anew for each call, and filling it with zeros before is part of the time.
+
+{conversions}
+"
+    )
+}
+
+/// The walk beside the walker.
+fn walk_part(tables: &Tables) -> String {
+    let Tables { walks, stack, .. } = tables;
+    format!(
+        "## Walking a table
 
 Tables whose walk holds after about 20,000,000 moves, so that every move of the tree is made. The
 other side is not the interpreter but a straightforward walker in Rust,
@@ -186,7 +230,7 @@ over tasks below the running job's and tasks with no job left. The ratio is the 
 the walker's, each the median of {WALK_TURNS} walks in turn; both give one verdict and count. The proved
 walk's time has the reading of the file in it.
 
-{walk_table}
+{walks}
 {stack}"
     )
 }

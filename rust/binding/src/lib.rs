@@ -1,7 +1,8 @@
 //! Safe calls of the proved entries through the C interface of `include/adqurim.h`.
 //!
-//! [`read`], [`replay`] and [`walk`] give a value or a [`Refusal`], which prints as a sentence.
-//! The module [`raw`] has the same entries with their numbers, places and lent memory.
+//! [`read`], [`replay`], [`walk`], [`check_plan`], [`order_to_plan`] and [`plan_to_order`] give a
+//! value or a [`Refusal`], which prints as a sentence. The module [`raw`] has the same entries with
+//! their numbers, places and lent memory.
 //!
 //! ```
 //! let refusal = binding::read(&[1; 7]).unwrap_err();
@@ -29,7 +30,7 @@ pub struct Timing {
     pub jobs: usize,
 }
 
-/// What a complete order ends with.
+/// What a complete order or a legal plan ends with.
 #[derive(Debug, Clone, PartialEq, Eq)]
 pub struct Ending {
     pub end_store: [u8; VARIABLES],
@@ -44,6 +45,20 @@ pub enum Verdict {
     Holds { count: u64 },
     /// This is the first order that fails, and its ending.
     Fails { count: u64, order: Vec<u8>, ending: Ending },
+}
+
+/// A complete order's plan, and the ending of both.
+#[derive(Debug, Clone, PartialEq, Eq)]
+pub struct Planned {
+    pub plan: Vec<u8>,
+    pub ending: Ending,
+}
+
+/// A legal plan's order, and the ending of both.
+#[derive(Debug, Clone, PartialEq, Eq)]
+pub struct Ordered {
+    pub order: Vec<u8>,
+    pub ending: Ending,
 }
 
 /// Reads a task file: the response times and the number of jobs, or a refusal by 1 to 11.
@@ -77,6 +92,31 @@ pub fn walk(file: &[u8], allowance: u64) -> Result<Verdict, Refusal> {
             ending: ending(answer.end_store, answer.failed_jobs),
         },
     })
+}
+
+/// Checks a round plan: its ending, or a refusal by 1 to 11 or 40 to 45.
+pub fn check_plan(file: &[u8], plan: &[u8]) -> Result<Ending, Refusal> {
+    let answer = raw::check_plan(file, plan);
+    accept(answer.number, answer.place)?;
+    Ok(ending(answer.end_store, answer.failed_jobs))
+}
+
+/// Converts an order to its plan: the plan, or a refusal by 1 to 11 or 30 to 32.
+pub fn order_to_plan(file: &[u8], order: &[u8]) -> Result<Planned, Refusal> {
+    let mut plan = [0; PLAN_ROOM];
+    let answer = raw::order_to_plan(file, order, &mut plan);
+    accept(answer.number, answer.place)?;
+    let plan = plan[..answer.length as usize].to_vec();
+    Ok(Planned { plan, ending: ending(answer.end_store, answer.failed_jobs) })
+}
+
+/// Converts a round plan to its order: the order, or a refusal by 1 to 11 or 40 to 45.
+pub fn plan_to_order(file: &[u8], plan: &[u8]) -> Result<Ordered, Refusal> {
+    let mut order = [0; ORDER_ROOM];
+    let answer = raw::plan_to_order(file, plan, &mut order);
+    accept(answer.number, answer.place)?;
+    let order = order[..answer.length as usize].to_vec();
+    Ok(Ordered { order, ending: ending(answer.end_store, answer.failed_jobs) })
 }
 
 /// The refusal of an answer, if it is one.

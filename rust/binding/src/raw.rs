@@ -2,7 +2,8 @@
 //! place that a caller has to look at. This is the only module with unsafe code.
 
 pub use crate::words::{
-    ReadAnswer, RunAnswer, Verdict, WalkAnswer, READ_WORDS, REPLAY_WORDS, WALK_WORDS,
+    ReadAnswer, RunAnswer, Verdict, WalkAnswer, CHECK_PLAN_WORDS, CONVERSION_WORDS, READ_WORDS,
+    REPLAY_WORDS, WALK_WORDS,
 };
 
 mod c {
@@ -27,6 +28,37 @@ mod c {
             file: *const u8,
             file_len: usize,
             allowance: u64,
+            order: *mut u8,
+            order_len: usize,
+            answer: *mut u64,
+            answer_len: usize,
+        ) -> bool;
+
+        pub fn adqurim_check_plan(
+            file: *const u8,
+            file_len: usize,
+            plan: *const u8,
+            plan_len: usize,
+            answer: *mut u64,
+            answer_len: usize,
+        ) -> bool;
+
+        pub fn adqurim_order_to_plan(
+            file: *const u8,
+            file_len: usize,
+            order: *const u8,
+            order_len: usize,
+            plan: *mut u8,
+            plan_len: usize,
+            answer: *mut u64,
+            answer_len: usize,
+        ) -> bool;
+
+        pub fn adqurim_plan_to_order(
+            file: *const u8,
+            file_len: usize,
+            plan: *const u8,
+            plan_len: usize,
             order: *mut u8,
             order_len: usize,
             answer: *mut u64,
@@ -99,4 +131,80 @@ pub fn walk(file: &[u8], allowance: u64, order: &mut [u8]) -> WalkAnswer {
     let room = walk_words(file, allowance, order, &mut words);
     assert!(room, "the entry has room for its words");
     WalkAnswer::from(words)
+}
+
+/// Checks a round plan into lent words. False, and no word changed, if there is no room for 43.
+pub fn check_plan_words(file: &[u8], plan: &[u8], answer: &mut [u64]) -> bool {
+    // SAFETY: as for the replay, with the plan for the order.
+    unsafe {
+        c::adqurim_check_plan(
+            file.as_ptr(),
+            file.len(),
+            plan.as_ptr(),
+            plan.len(),
+            answer.as_mut_ptr(),
+            answer.len(),
+        )
+    }
+}
+
+/// Checks a round plan.
+pub fn check_plan(file: &[u8], plan: &[u8]) -> RunAnswer {
+    let mut words = [0; CHECK_PLAN_WORDS];
+    let room = check_plan_words(file, plan, &mut words);
+    assert!(room, "the entry has room for its words");
+    RunAnswer::from(words)
+}
+
+/// Converts an order into lent words and a lent plan buffer. False, and neither changed, if there
+/// is no room for 43 words.
+pub fn order_to_plan_words(file: &[u8], order: &[u8], plan: &mut [u8], answer: &mut [u64]) -> bool {
+    // SAFETY: as for the replay. The entry writes only the plan and the answer, two exclusive
+    // slices, which overlap neither each other nor what is shared.
+    unsafe {
+        c::adqurim_order_to_plan(
+            file.as_ptr(),
+            file.len(),
+            order.as_ptr(),
+            order.len(),
+            plan.as_mut_ptr(),
+            plan.len(),
+            answer.as_mut_ptr(),
+            answer.len(),
+        )
+    }
+}
+
+/// Converts an order. The buffer takes its plan, with zeros up to 1,281; a refusal leaves it.
+pub fn order_to_plan(file: &[u8], order: &[u8], plan: &mut [u8]) -> RunAnswer {
+    let mut words = [0; CONVERSION_WORDS];
+    let room = order_to_plan_words(file, order, plan, &mut words);
+    assert!(room, "the entry has room for its words");
+    RunAnswer::from(words)
+}
+
+/// Converts a round plan into lent words and a lent order buffer. False, and neither changed, if
+/// there is no room for 43 words.
+pub fn plan_to_order_words(file: &[u8], plan: &[u8], order: &mut [u8], answer: &mut [u64]) -> bool {
+    // SAFETY: as for the other conversion.
+    unsafe {
+        c::adqurim_plan_to_order(
+            file.as_ptr(),
+            file.len(),
+            plan.as_ptr(),
+            plan.len(),
+            order.as_mut_ptr(),
+            order.len(),
+            answer.as_mut_ptr(),
+            answer.len(),
+        )
+    }
+}
+
+/// Converts a round plan. The buffer takes its order, with zeros up to 512; a refusal leaves it.
+pub fn plan_to_order(file: &[u8], plan: &[u8], order: &mut [u8]) -> RunAnswer {
+    let mut words = [0; CONVERSION_WORDS];
+    let room = plan_to_order_words(file, plan, order, &mut words);
+    assert!(room, "the entry has room for its words");
+    RunAnswer::from(words)
 }

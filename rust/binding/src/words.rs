@@ -26,7 +26,11 @@ pub struct ReadAnswer {
 /// How many words the replay's entry fills.
 pub const REPLAY_WORDS: usize = 43;
 
-/// What the replay's entry answers, each field as wide as its word so that none is cut.
+/// How many words the plan check's entry fills, and each conversion's: as many as the replay's.
+pub const CHECK_PLAN_WORDS: usize = REPLAY_WORDS;
+pub const CONVERSION_WORDS: usize = REPLAY_WORDS;
+
+/// What these entries answer, each field as wide as its word so that none is cut.
 #[derive(Debug, Clone, Copy, PartialEq, Eq, Default)]
 pub struct RunAnswer {
     pub number: u64,

@@ -100,9 +100,9 @@ fn note_held_back(accepted: &Accepted, state: &State, found: &mut Orders) {
 
 /// One way for a job to run in a plan: for each step its round, for each position of its body the
 /// value there if it is a Pick. Both are as long as the body; a job may need less of them.
-struct Choice {
-    rounds: Vec<u8>,
-    values: Vec<u8>,
+pub struct Choice {
+    pub rounds: Vec<u8>,
+    pub values: Vec<u8>,
 }
 
 /// All plans that the checker accepts, and how many were refused by 43 and 44.
@@ -114,29 +114,36 @@ pub struct Plans {
 }
 
 /// Lists the legal plans out of all round assignments and Pick values. None if there are more than
-/// `most` assignments. A job's rounds never fall, so round r depends on the guesses up to r alone
-/// and the right guesses are forced.
+/// `most` assignments.
 pub fn plans(accepted: &Accepted, most: usize) -> Option<Plans> {
+    let mut found = Plans::default();
+    let listed = each_plan(accepted, most, |plan| match plan::check(accepted, &plan) {
+        Ok((_, ending)) => drop(found.legal.insert(plan, ending)),
+        Err(refusal) if refusal.number == 43 => found.refused_43 += 1,
+        Err(refusal) if refusal.number == 44 => found.refused_44 += 1,
+        Err(refusal) => panic!("a forced plan is refused by {refusal:?}"),
+    });
+    listed.then_some(found)
+}
+
+/// Visits the plan of each round assignment with each choice of Pick values, its guesses right.
+/// Every legal plan is among them, some more than once, as a job may need less than its choice.
+/// False, and none visited, if there are more than `most`. A job's rounds never fall, so round r
+/// depends on the guesses up to r alone and the right guesses are forced.
+pub fn each_plan(accepted: &Accepted, most: usize, mut visit: impl FnMut(Vec<u8>)) -> bool {
     let choices: Vec<Vec<Choice>> =
         accepted.job_numbers().map(|job| job_choices(accepted, job)).collect();
     let total = choices.iter().try_fold(1_usize, |total, of_job| total.checked_mul(of_job.len()));
-    let total = total.filter(|total| *total <= most)?;
-    let mut found = Plans::default();
+    let Some(total) = total.filter(|total| *total <= most) else { return false };
     for mut number in 0..total {
         let mut chosen = Vec::new();
         for of_job in &choices {
             chosen.push(&of_job[number % of_job.len()]);
             number /= of_job.len();
         }
-        let plan = forced_plan(accepted, &chosen);
-        match plan::check(accepted, &plan) {
-            Ok((_, ending)) => drop(found.legal.insert(plan, ending)),
-            Err(refusal) if refusal.number == 43 => found.refused_43 += 1,
-            Err(refusal) if refusal.number == 44 => found.refused_44 += 1,
-            Err(refusal) => panic!("a forced plan is refused by {refusal:?}"),
-        }
+        visit(forced_plan(accepted, &chosen));
     }
-    Some(found)
+    true
 }
 
 /// Every sequence of rounds that never falls, with every value for each Pick of the body.
@@ -166,7 +173,7 @@ fn extend(lists: Vec<Vec<u8>>, next: impl Fn(&[u8]) -> std::ops::Range<u8>) -> V
 
 /// The plan of one choice for each job with its forced guesses: k times, guess r + 1 becomes the
 /// store left in round r.
-fn forced_plan(accepted: &Accepted, chosen: &[&Choice]) -> Vec<u8> {
+pub fn forced_plan(accepted: &Accepted, chosen: &[&Choice]) -> Vec<u8> {
     let k = chosen.len();
     let mut guesses: Vec<Store> = vec![accepted.table.initial_store; k];
     let mut columns = Vec::new();

@@ -13,17 +13,44 @@ pub fn expected_read(file: &[u8]) -> ReadAnswer {
     }
 }
 
-/// What the proved replay must answer to a file and an order, by the interpreter. It writes nothing.
+/// What the proved replay must answer to a file and an order, by the interpreter.
 pub fn expected_replay(file: &[u8], order: &[u8]) -> RunAnswer {
-    let interpreter::RunAnswer { number, place, end_store, failed_jobs } =
-        interpreter::replay(file, order);
+    written_none(interpreter::replay(file, order))
+}
+
+/// What the proved plan check must answer to a file and a plan, by the interpreter.
+pub fn expected_check_plan(file: &[u8], plan: &[u8]) -> RunAnswer {
+    written_none(interpreter::check_plan(file, plan))
+}
+
+/// What the proved conversion of an order must answer, by the interpreter, which leaves in the plan
+/// buffer what the proved one must leave there.
+pub fn expected_order_to_plan(file: &[u8], order: &[u8], plan: &mut [u8]) -> RunAnswer {
+    written(interpreter::order_to_plan(file, order, plan))
+}
+
+/// The same for the conversion of a plan and the order buffer.
+pub fn expected_plan_to_order(file: &[u8], plan: &[u8], order: &mut [u8]) -> RunAnswer {
+    written(interpreter::plan_to_order(file, plan, order))
+}
+
+/// An answer of the interpreter's conversions.
+fn written(answer: interpreter::ConversionAnswer) -> RunAnswer {
+    let interpreter::ConversionAnswer { number, place, length, end_store, failed_jobs } = answer;
     RunAnswer {
         number: number.into(),
         place: place as u64,
         end_store: end_store.map(u64::from),
         failed_jobs: flags(failed_jobs),
-        length: 0,
+        length: length as u64,
     }
+}
+
+/// An answer of its replay or plan check, which write nothing.
+fn written_none(answer: interpreter::RunAnswer) -> RunAnswer {
+    let interpreter::RunAnswer { number, place, end_store, failed_jobs } = answer;
+    let length = 0;
+    written(interpreter::ConversionAnswer { number, place, length, end_store, failed_jobs })
 }
 
 /// What the proved walk must answer to a file and an allowance, by the interpreter, which leaves in

@@ -1,10 +1,12 @@
 //! The values that the binding gives, against the interpreter: an accepted answer in types of its
 //! own, a refusal by its number and place.
 
-use binding::{read, replay, walk, Ending, JobNumber, Refusal, Timing, Verdict};
-use conformance::cases::{table_x, tasks, ORDER_OF_X};
+use binding::{check_plan, order_to_plan, plan_to_order, read, replay, walk};
+use binding::{Ending, JobNumber, Ordered, Planned, Refusal, Timing, Verdict};
+use conformance::cases::{edited, plan_of_x, table_x, tasks, ORDER_OF_X};
 use conformance::families::{any, long, refused_files, small, Family};
 use conformance::orders::{random_order, random_steps, variants};
+use conformance::plans::some_plans;
 use generator::{code, random_nest, random_race, Random};
 use interpreter::timing::accept;
 
@@ -35,12 +37,32 @@ fn expected_read(file: &[u8]) -> Result<Timing, Refusal> {
     Ok(Timing { response_times: accepted.response_times, jobs: accepted.jobs.len() })
 }
 
-fn expected_replay(file: &[u8], order: &[u8]) -> Result<Ending, Refusal> {
-    let answer = interpreter::replay(file, order);
+/// The ending of a replay or a plan check of the interpreter.
+fn ending(answer: interpreter::RunAnswer) -> Result<Ending, Refusal> {
     match answer.number {
         0 => Ok(Ending { end_store: answer.end_store, failed_jobs: jobs(answer.failed_jobs) }),
         number => Err(refusal(number, answer.place)),
     }
+}
+
+fn expected_replay(file: &[u8], order: &[u8]) -> Result<Ending, Refusal> {
+    ending(interpreter::replay(file, order))
+}
+
+/// A complete order's plan and its ending; the interpreter replays it for the latter.
+fn expected_planned(file: &[u8], order: &[u8]) -> Result<Planned, Refusal> {
+    let ending = expected_replay(file, order)?;
+    let mut buffer = [0; 1281];
+    let length = interpreter::order_to_plan(file, order, &mut buffer).length;
+    Ok(Planned { plan: buffer[..length].to_vec(), ending })
+}
+
+/// A legal plan's order and its ending; the interpreter checks it for the latter.
+fn expected_ordered(file: &[u8], plan: &[u8]) -> Result<Ordered, Refusal> {
+    let ending = ending(interpreter::check_plan(file, plan))?;
+    let mut buffer = [0; 512];
+    let length = interpreter::plan_to_order(file, plan, &mut buffer).length;
+    Ok(Ordered { order: buffer[..length].to_vec(), ending })
 }
 
 fn expected_walk(file: &[u8], allowance: u64) -> Result<Verdict, Refusal> {
@@ -64,6 +86,9 @@ fn expected_walk(file: &[u8], allowance: u64) -> Result<Verdict, Refusal> {
 struct Tally {
     read: u64,
     replayed: u64,
+    planned: u64,
+    ordered: u64,
+    plans_refused: u64,
     holds: u64,
     fails: u64,
     refused: u64,
@@ -79,6 +104,9 @@ impl Tally {
             assert_eq!(ending, expected_replay(file, order), "{file:02x?} {order:?}");
             self.replayed += u64::from(ending.is_ok());
             self.refused += u64::from(ending.is_err());
+            let planned = order_to_plan(file, order);
+            assert_eq!(planned, expected_planned(file, order), "{file:02x?} {order:?}");
+            self.planned += u64::from(planned.is_ok());
         }
         for allowance in [5, ALLOWANCE] {
             let verdict = walk(file, allowance);
@@ -88,6 +116,18 @@ impl Tally {
                 Ok(Verdict::Fails { .. }) => self.fails += 1,
                 Err(_) => self.refused += 1,
             }
+        }
+    }
+
+    fn compare_plans(&mut self, file: &[u8], plans: &[Vec<u8>]) {
+        for plan in plans {
+            let checked = check_plan(file, plan);
+            let expected = ending(interpreter::check_plan(file, plan));
+            assert_eq!(checked, expected, "{file:02x?} {plan:?}");
+            let ordered = plan_to_order(file, plan);
+            assert_eq!(ordered, expected_ordered(file, plan), "{file:02x?} {plan:?}");
+            self.ordered += u64::from(ordered.is_ok());
+            self.plans_refused += u64::from(ordered.is_err());
         }
     }
 }
@@ -105,11 +145,20 @@ fn some_orders(random: &mut Random, file: &[u8]) -> Vec<Vec<u8>> {
     }
 }
 
+/// Some plans of a file, or the plan of table X if it is refused.
+fn plans_of(random: &mut Random, file: &[u8]) -> Vec<Vec<u8>> {
+    match accept(file) {
+        Err(_) => vec![plan_of_x()],
+        Ok(accepted) => some_plans(random, &accepted).into_iter().map(|(_, plan)| plan).collect(),
+    }
+}
+
 #[test]
 fn values_are_the_interpreters() {
     let mut tally = Tally::default();
     for file in refused_files() {
         tally.compare(&file, &[vec![0]]);
+        tally.compare_plans(&file, &[plan_of_x()]);
     }
     for family in FAMILIES {
         let mut random = Random::new(family.seed);
@@ -118,11 +167,13 @@ fn values_are_the_interpreters() {
             let file = table.write_shuffled(&mut random).0;
             let orders = some_orders(&mut random, &file);
             tally.compare(&file, &orders);
+            tally.compare_plans(&file, &plans_of(&mut random, &file));
         }
         println!("{}: {tally:?}", family.name);
     }
     assert!(tally.read >= 500 && tally.replayed >= 500 && tally.refused >= 500);
     assert!(tally.holds >= 200 && tally.fails >= 200);
+    assert!(tally.planned >= 500 && tally.ordered >= 500 && tally.plans_refused >= 500);
 }
 
 /// Table X with the values of document 01.
@@ -133,12 +184,19 @@ fn table_x_in_values() {
     let ending = Ending { end_store: [1, 0, 0, 0, 0, 0, 0, 0], failed_jobs: vec![JobNumber(0)] };
     assert_eq!(replay(&file, &ORDER_OF_X), Ok(ending.clone()));
     assert_eq!(replay(&file, &[0, 16, 16, 0]), Err(Refusal { number: 30, place: 3 }));
+    let planned = Planned { plan: plan_of_x(), ending: ending.clone() };
+    assert_eq!(order_to_plan(&file, &ORDER_OF_X), Ok(planned));
+    assert_eq!(check_plan(&file, &plan_of_x()), Ok(ending.clone()));
+    let later = edited(&plan_of_x(), &[(27, 1), (29, 1), (31, 1)]);
+    assert_eq!(check_plan(&file, &later), Err(Refusal { number: 43, place: 0 }));
+    let ordered = Ordered { order: ORDER_OF_X.to_vec(), ending: ending.clone() };
+    assert_eq!(plan_to_order(&file, &plan_of_x()), Ok(ordered));
     let fails = Verdict::Fails { count: 23, order: ORDER_OF_X.to_vec(), ending };
     assert_eq!(walk(&file, 23), Ok(fails));
     assert_eq!(walk(&file, 22), Err(Refusal { number: 21, place: 0 }));
 }
 
-/// A table of eight tasks has eight response times, one without jobs an empty order.
+/// A table of eight tasks has eight response times, one without jobs an empty order and the plan 0.
 #[test]
 fn most_tasks_and_no_jobs() {
     let eight = tasks(1, &[[1, 100, 0]; 8], &[code::end()]).write();
@@ -146,6 +204,10 @@ fn most_tasks_and_no_jobs() {
     assert_eq!(read(&eight), Ok(Timing { response_times, jobs: 8 }));
     let none = tasks(5, &[[1, 4, 5]], &[code::end()]).write();
     assert_eq!(read(&none), Ok(Timing { response_times: vec![1], jobs: 0 }));
-    assert_eq!(replay(&none, &[]), Ok(Ending { end_store: [0; 8], failed_jobs: vec![] }));
+    let ending = Ending { end_store: [0; 8], failed_jobs: vec![] };
+    assert_eq!(replay(&none, &[]), Ok(ending.clone()));
+    assert_eq!(check_plan(&none, &[0]), Ok(ending.clone()));
+    assert_eq!(order_to_plan(&none, &[]), Ok(Planned { plan: vec![0], ending: ending.clone() }));
+    assert_eq!(plan_to_order(&none, &[0]), Ok(Ordered { order: vec![], ending }));
     assert_eq!(walk(&none, 0), Ok(Verdict::Holds { count: 0 }));
 }

@@ -1,12 +1,15 @@
-//! The numbers of the header and of the README against those of the binding.
+//! The entries and numbers of the header and of the README against those of the binding.
 
-use binding::raw::{Verdict, READ_WORDS, REPLAY_WORDS, WALK_WORDS};
+use binding::raw::{
+    Verdict, CHECK_PLAN_WORDS, CONVERSION_WORDS, READ_WORDS, REPLAY_WORDS, WALK_WORDS,
+};
 use binding::{
     Place, Rule, JOB_LIST_ROOM, MOST_JOBS, MOST_TASKS, ORDER_ROOM, PLAN_ROOM, VARIABLES,
 };
-use std::collections::BTreeMap;
+use std::collections::{BTreeMap, BTreeSet};
 
 const HEADER: &str = include_str!("../../../include/adqurim.h");
+const BOUND: &str = include_str!("../../binding/src/raw.rs");
 const README: &str = include_str!("../../../README.md");
 
 type Named = BTreeMap<String, u64>;
@@ -35,6 +38,20 @@ fn constants() -> Named {
         Some((name.to_string(), number.parse().ok()?))
     };
     HEADER.lines().filter_map(pair).collect()
+}
+
+/// The entries that a text declares: the names between these words and a parenthesis.
+fn declared<'a>(text: &'a str, words: &str) -> BTreeSet<&'a str> {
+    let lines = text.lines().filter_map(|line| line.trim().strip_prefix(words));
+    let name = |line: &'a str| line.split_once('(').map(|(name, _)| name);
+    lines.filter_map(name).filter(|name| name.starts_with("adqurim_")).collect()
+}
+
+#[test]
+fn every_entry_of_the_header_is_bound() {
+    let entries = declared(HEADER, "bool ");
+    assert_eq!(entries.len(), 6);
+    assert_eq!(entries, declared(BOUND, "pub fn "));
 }
 
 #[test]
@@ -68,6 +85,8 @@ fn every_constant_is_in_the_header() {
         ("ADQURIM_READ_WORDS", READ_WORDS),
         ("ADQURIM_REPLAY_WORDS", REPLAY_WORDS),
         ("ADQURIM_WALK_WORDS", WALK_WORDS),
+        ("ADQURIM_CHECK_PLAN_WORDS", CHECK_PLAN_WORDS),
+        ("ADQURIM_CONVERSION_WORDS", CONVERSION_WORDS),
     ];
     assert_eq!(constants(), named(expected.map(|(name, size)| (name, size as u64))));
 }

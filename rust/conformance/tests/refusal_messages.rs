@@ -87,6 +87,7 @@ fn each_message_says_its_place_and_rule() {
 
 #[test]
 fn some_messages_whole() {
+    #[rustfmt::skip]
     let expected = [
         (1, 0, "the file's length is 0, above 4,096 or no multiple of 16 (1 SIZE)"),
         (2, 7, "record 7 has the wrong kind for its chain (2 KIND)"),
@@ -95,6 +96,14 @@ fn some_messages_whole() {
         (30, 3, "step 3 is not a legal step (30 STEP)"),
         (31, 8, "step 8 is missing: the order ends with jobs unfinished (31 SHORT)"),
         (40, 33, "offset 33 of the plan has the first wrong, missing or extra byte (40 SHAPE)"),
+        (41, 18, "offset 18 of the plan has a value that its instruction does not allow \
+            (41 VALUE)"),
+        (42, 17, "offset 17 of the plan has a round that is not below the number of jobs, \
+            or is below that of the job's previous step (42 ROUND)"),
+        (43, 0, "job 0 and a job with a higher number break the round rules, locks aside \
+            (43 ORDER)"),
+        (44, 1, "job 1 and a job with a higher number nest, but the outer one's priority is not \
+            below the inner one's base (44 LOCK)"),
         (45, 1, "round 1 is the lowest with a wrong guess (45 GUESS)"),
         (12, 4, "refused by the unknown number 12 at place 4"),
         (u64::MAX, 0, "refused by the unknown number 18446744073709551615 at place 0"),

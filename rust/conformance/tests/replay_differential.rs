@@ -4,11 +4,11 @@
 use binding::raw::{replay, replay_words, RunAnswer, REPLAY_WORDS};
 use conformance::cases::{edited, rates, table_x, tasks, ORDER_OF_X};
 use conformance::entries::word_pattern;
-use conformance::families::{any, free_position, largest, long, small, Family};
+use conformance::families::{any, crowded, largest_with_assertions, long, small, Family};
 use conformance::orders::{random_order, random_steps, variants};
 use conformance::proved::expected_replay;
 use generator::files::{damaged, random_bytes, random_records};
-use generator::{code, random_nest, random_race, random_table, Random, Sizes, TableDescription};
+use generator::{code, random_nest, random_race, random_table, Random, Sizes};
 use interpreter::timing::accept;
 use std::time::Instant;
 
@@ -22,24 +22,6 @@ const FAMILIES: [Family; 7] = [
     Family { name: "many jobs", seed: 305, tables: 3_000, make: crowded },
     Family { name: "the largest table", seed: 306, tables: 100, make: largest_with_assertions },
 ];
-
-/// Several tasks with many jobs in the window, and locks.
-fn crowded(random: &mut Random) -> TableDescription {
-    let sizes = Sizes { tasks: (3, 8), jobs: (12, 32), locks: (1, 8), ..Sizes::ANY };
-    random_table(random, &sizes)
-}
-
-/// The largest table with assertions that fail or hold.
-fn largest_with_assertions(random: &mut Random) -> TableDescription {
-    let mut table = largest(random);
-    for task in &mut table.tasks {
-        let place = free_position(random);
-        let store = code::store(random.index(8) as u8, 0);
-        let others = [code::assert(0), code::pick(0, 3), code::load(0, 1), store];
-        task.body[place] = others[random.index(4)];
-    }
-    table
-}
 
 /// What the orders came to.
 #[derive(Debug)]

@@ -4,7 +4,9 @@
 use binding::raw::{walk, walk_words, Verdict, WalkAnswer, WALK_WORDS};
 use conformance::cases::{table_x, tasks, ORDER_OF_X};
 use conformance::entries::{amid, filled, pattern, word_pattern};
-use conformance::families::{any, free_position, largest, long, refused_files, small, Family};
+use conformance::families::{
+    any, free_position, largest, long, nest, nest_of_four, refused_files, small, Family,
+};
 use conformance::proved::expected_walk;
 use generator::files::{damaged, random_bytes, random_records};
 use generator::{code, random_nest, random_race, random_table, Random, Sizes, TableDescription};
@@ -50,22 +52,6 @@ fn rich(random: &mut Random) -> TableDescription {
 fn crowded(random: &mut Random) -> TableDescription {
     let sizes = Sizes { tasks: (2, 8), jobs: (8, 32), most_pick: 1, ..Sizes::ANY };
     random_table(random, &sizes)
-}
-
-/// Gives each task one job that may preempt those of all lower tasks.
-fn nest(table: &mut TableDescription) {
-    table.window = table.tasks.len() as u32;
-    for (number, task) in table.tasks.iter_mut().enumerate() {
-        [task.execution, task.period, task.first_arrival] = [1, 20, number as u32];
-    }
-}
-
-/// Four jobs that nest, with locks and Picks.
-fn nest_of_four(random: &mut Random) -> TableDescription {
-    let sizes = Sizes { tasks: (4, 4), body: (2, 4), locks: (0, 3), most_pick: 1, ..Sizes::SMALL };
-    let mut table = random_table(random, &sizes);
-    nest(&mut table);
-    table
 }
 
 /// A race whose jobs nest, so that a failing order comes after many that hold.

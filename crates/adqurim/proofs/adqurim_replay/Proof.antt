@@ -6,12 +6,13 @@ use borrow.Author.Needs.{needs}
 use borrow.Author.Tests.{le-leb, lt-leb}
 use Rattle.machine.specs.declared.RunAnswer.{RunAnswer}
 use Rattle.words.specs.Words.{runWords, filledWith}
-use Rattle.adqurim.specs.Laws.EntryLaws.{replay-unfilled}
+use Rattle.walk.specs.Laws.SizeLaws.{replay-sized}
+use Rattle.adqurim.specs.Laws.EntryLaws.{run-unfilled}
 use Rattle.adqurim.proofs.adqurim_replay.Statement.{statement}
 use Rattle.adqurim.proofs.adqurim_replay.Tie as tie
 
 returns : tie.Need-returns
-returns c = (sym (lt-leb _ _ (c .if1 .taken)), replay-unfilled _ _ _ (c .if1 .taken))
+returns c = (sym (lt-leb _ _ (c .if1 .taken)), run-unfilled _ _ (replay-sized _ _) (c .if1 .taken))
 
 replay-requires : tie.Need-replay-requires
 replay-requires c κs = search needs

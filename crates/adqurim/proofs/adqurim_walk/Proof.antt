@@ -6,14 +6,14 @@ use borrow.Author.Needs.{needs}
 use borrow.Author.Tests.{le-leb, lt-leb}
 use Rattle.walk.specs.declared.WalkAnswer.{WalkAnswer}
 use Rattle.words.specs.Words.{walkWords, filledWith}
-use Rattle.adqurim.specs.Laws.EntryLaws.{walk-unfilled, buffer-kept, buffer-walked}
+use Rattle.adqurim.specs.Laws.EntryLaws.{walk-unfilled, buffer-kept, buffer-changed}
 use Rattle.adqurim.proofs.adqurim_walk.Statement.{statement}
 use Rattle.adqurim.proofs.adqurim_walk.Tie as tie
 
 returns : tie.Need-returns
 returns c =
     let short = c .if1 .taken in
-    (sym (lt-leb _ _ short), (walk-unfilled _ _ _ _ short, buffer-kept _ _ _ short))
+    (sym (lt-leb _ _ short), (walk-unfilled _ _ _ _ short, buffer-kept _ _ _ _ short))
 
 walk-file-requires : tie.Need-walk-file-requires
 walk-file-requires c κs = search needs
@@ -35,7 +35,7 @@ returns-2 c =
     let put = c .before .before .put-walk .ensures in
     let lent = called .before .before .before .before .before .before .args .answer .now in (
       sym (le-leb _ _ room),
-      (put ∙ ap (λ (x : WalkAnswer). filledWith (walkWords x) lent) (walked .0), walked .1 ∙ buffer-walked _ _ _ room),
+      (put ∙ ap (λ (x : WalkAnswer). filledWith (walkWords x) lent) (walked .0), walked .1 ∙ buffer-changed _ _ _ _ room),
     )
 
 pub adqurim-walk-spec : {M : Type 1} → statement M

@@ -14,9 +14,9 @@ use Rattle.notation.specs.Laws.PaddedLaws.{padded-length}
 use Rattle.taskfile.specs.Records.{File}
 use Rattle.timing.specs.Accepted.{Accepted, accept}
 use Rattle.timing.specs.ReadEntries.{readAnswerOf, readAnswer}
-use Rattle.order.specs.Replay.{replayAnswer}
+use Rattle.machine.specs.declared.RunAnswer.{RunAnswer}
 use Rattle.walk.specs.WalkEntry.{walkAnswer}
-use Rattle.walk.specs.Laws.SizeLaws.{replay-sized, walk-sized}
+use Rattle.walk.specs.Laws.SizeLaws.{Sized, walk-sized}
 use Rattle.words.specs.Words.{wordsOfRead, wordsOfRun, wordsOfWalk, readWords, runWords, walkWords, filledWith}
 use Rattle.words.specs.Laws.WordsLaws.{no-room, read-length, words-run-length, walk-length}
 
@@ -32,12 +32,10 @@ unfolding readAnswer
 read-unfilled lent f short =
     no-room (readWords (readAnswer f)) lent (omega (arith, read-length (readAnswer f) (eight (accept f))))
 
-pub replay-unfilled : (lent : List ℕ) (f : File) (order : List ℕ) → length lent < wordsOfRun
-    → lent ≡ filledWith (runWords (replayAnswer f order)) lent
-replay-unfilled lent f order short =
-    let sized = replay-sized f order in
-    no-room (runWords (replayAnswer f order)) lent
-    (omega (arith, words-run-length (replayAnswer f order) (sized .eight) (sized .each)))
+pub run-unfilled : (lent : List ℕ) (x : RunAnswer) → Sized (x .store) (x .failed) → length lent < wordsOfRun
+    → lent ≡ filledWith (runWords x) lent
+run-unfilled lent x sized short =
+    no-room (runWords x) lent (omega (arith, words-run-length x (sized .eight) (sized .each)))
 
 pub walk-unfilled : (lent : List ℕ) (f : File) (allowance : ℕ) (buffer : List ℕ) → length lent < wordsOfWalk
     → lent ≡ filledWith (walkWords (walkAnswer f allowance buffer)) lent
@@ -46,13 +44,11 @@ walk-unfilled lent f allowance buffer short =
     no-room (walkWords (walkAnswer f allowance buffer)) lent
     (omega (arith, walk-length (walkAnswer f allowance buffer) (sized .eight) (sized .each)))
 
--- the order buffer, without room for the words and with it
-pub buffer-kept : (n : ℕ) (after before : List ℕ) → n < wordsOfWalk
-    → before ≡ (if leb wordsOfWalk n then after else before)
+-- a lent buffer, without room for so many words and with it
+pub buffer-kept : (words n : ℕ) (after before : List ℕ) → n < words → before ≡ (if leb words n then after else before)
 unfolding if_then_else_
-buffer-kept n after before short = rw (lt-leb wordsOfWalk n short)
+buffer-kept words n after before short = rw (lt-leb words n short)
 
-pub buffer-walked : (n : ℕ) (after before : List ℕ) → wordsOfWalk ≤ n
-    → after ≡ (if leb wordsOfWalk n then after else before)
+pub buffer-changed : (words n : ℕ) (after before : List ℕ) → words ≤ n → after ≡ (if leb words n then after else before)
 unfolding if_then_else_
-buffer-walked n after before room = rw (le-leb wordsOfWalk n room)
+buffer-changed words n after before room = rw (le-leb words n room)

@@ -16,14 +16,14 @@ replicate-more : (n : ℕ) → replicate {A = ℕ} n 0 ++ (0 ∷ []) ≡ replica
 replicate-more zero = refl
 replicate-more (suc n) = ap (λ (xs : List ℕ). 0 ∷ xs) (replicate-more n)
 
--- the bytes from `from` up to i are zeros, and all others as before
-pub record Cleared (from : ℕ) (before : List ℕ) (i : ℕ) (now : List ℕ) : Type 0 where
+-- of a room at the front of the buffer, the bytes from `from` up to i are zeros, and all others as before
+pub record Cleared (room from : ℕ) (before : List ℕ) (i : ℕ) (now : List ℕ) : Type 0 where
   pub is : now ≡ take from before ++ (replicate (i - from) 0 ++ drop i before)
   pub least : from ≤ i
-  pub most : i ≤ 512
+  pub most : i ≤ room
 
-pub cleared-none : (from : ℕ) (before : List ℕ) → from ≤ 512 → Cleared from before from before
-cleared-none from before le =
+pub cleared-none : (room from : ℕ) (before : List ℕ) → from ≤ room → Cleared room from before from before
+cleared-none room from before le =
     let none : from - from ≡ 0 = omega arith in
     record {
       is = sym (ap (λ (n : ℕ). take from before ++ (replicate n 0 ++ drop from before)) none ∙ take-append-drop from before);
@@ -31,9 +31,9 @@ cleared-none from before le =
       most = le;
     }
 
-pub cleared-length : {from : ℕ} {before : List ℕ} {i : ℕ} {now : List ℕ} → Cleared from before i now
-    → 512 ≤ length before → length now ≡ length before
-cleared-length {from} {before} {i} {now} cleared room =
+pub cleared-length : {room from : ℕ} {before : List ℕ} {i : ℕ} {now : List ℕ} → Cleared room from before i now
+    → room ≤ length before → length now ≡ length before
+cleared-length {room} {from} {before} {i} {now} cleared enough =
     let front = length-take-le from before (omega (arith, cleared .least, cleared .most)) in
     let rest = length-drop i before in
     let zeros = replicate-length (i - from) in
@@ -41,9 +41,9 @@ cleared-length {from} {before} {i} {now} cleared room =
     ∙ length-append (take from before) (replicate (i - from) 0 ++ drop i before)
     ∙ omega (arith, length-append (replicate (i - from) 0) (drop i before), front, rest, zeros, cleared .least, cleared .most)
 
-pub cleared-more : {from : ℕ} {before : List ℕ} {i : ℕ} {now : List ℕ} → Cleared from before i now
-    → 512 ≤ length before → i < 512 → Cleared from before (i + 1) (set now i 0)
-cleared-more {from} {before} {i} {now} cleared room lt =
+pub cleared-more : {room from : ℕ} {before : List ℕ} {i : ℕ} {now : List ℕ} → Cleared room from before i now
+    → room ≤ length before → i < room → Cleared room from before (i + 1) (set now i 0)
+cleared-more {room} {from} {before} {i} {now} cleared enough lt =
     let front = take from before in
     let zeros = replicate {A = ℕ} (i - from) 0 in
     let long : length (front ++ zeros) ≡ i =
@@ -63,8 +63,8 @@ cleared-more {from} {before} {i} {now} cleared room lt =
       most = omega arith;
     }
 
-pub cleared-all : {from : ℕ} {before : List ℕ} {i : ℕ} {now : List ℕ} → Cleared from before i now → 512 ≤ i
-    → now ≡ take from before ++ (replicate (512 - from) 0 ++ drop 512 before)
-cleared-all {from} {before} {i} cleared enough =
-    let all : i ≡ 512 = omega (arith, cleared .most) in
+pub cleared-all : {room from : ℕ} {before : List ℕ} {i : ℕ} {now : List ℕ} → Cleared room from before i now → room ≤ i
+    → now ≡ take from before ++ (replicate (room - from) 0 ++ drop room before)
+cleared-all {room} {from} {before} {i} cleared enough =
+    let all : i ≡ room = omega (arith, cleared .most) in
     cleared .is ∙ ap (λ (n : ℕ). take from before ++ (replicate (n - from) 0 ++ drop n before)) all

@@ -1,8 +1,6 @@
 -- The outcomes of a walk, as its functions yield them, and what they answer.
 -- Assumes nothing.
-use Prim.Native.Nat.{ℕ, _-_}
-use mathlib.Core.List.{List, _++_}
-use lib.ListN.{take, drop, replicate}
+use Prim.Native.Nat.{ℕ}
 use mathlib.Core.Bool.{true, false}
 use Rattle.notation.specs.Lists.{if_then_else_, any}
 use Rattle.machine.specs.Ends.{noStore, noFlags}
@@ -55,7 +53,3 @@ answerOf r =
 -- how many bytes of the buffer are an order to show
 unfoldable pub shownLength : Outcome → ℕ
 shownLength r = if r .found then r .length else 0
-
--- the bytes of an order's room from one on are zero, and all others are kept
-abbrev pub clearedFrom : ℕ → List ℕ → List ℕ
-clearedFrom n buffer = take n buffer ++ (replicate (512 - n) 0 ++ drop 512 buffer)

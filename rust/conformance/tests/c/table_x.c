@@ -1,6 +1,7 @@
 /*
- * Table X of document 01 through the C interface: read, replayed and walked with allowances 23 and
- * 22. Says the first result that is not document 01's, and returns 1.
+ * Table X of document 01 through the C interface: read, replayed, walked with allowances 23 and 22,
+ * its order converted to its plan and back. Says the first result that is not document 01's, and
+ * returns 1.
  */
 #include "adqurim.h"
 #include "table_x.h"
@@ -32,13 +33,20 @@ static void expect_zeros(const char *what, const uint64_t *words, size_t count) 
     }
 }
 
-/* Expects a buffer of two bytes more than the room: the order, zeros, and two bytes unchanged. */
-static void expect_buffer(const uint8_t *buffer, const uint8_t *order, size_t length) {
-    for (size_t at = 0; at < ADQURIM_ORDER_ROOM; at++) {
-        expect("byte of the order buffer", buffer[at], at < length ? order[at] : 0);
+/* Expects a buffer of two bytes more than the room: the bytes, zeros, and two bytes unchanged. */
+static void expect_filled(const uint8_t *buffer, size_t room, const uint8_t *bytes, size_t length) {
+    for (size_t at = 0; at < room; at++) {
+        expect("byte of the buffer", buffer[at], at < length ? bytes[at] : 0);
     }
-    expect("byte 512", buffer[ADQURIM_ORDER_ROOM], FILL);
-    expect("byte 513", buffer[ADQURIM_ORDER_ROOM + 1], FILL);
+    expect("first byte beyond the room", buffer[room], FILL);
+    expect("second byte beyond the room", buffer[room + 1], FILL);
+}
+
+/* Expects that every byte of a buffer is as it was. */
+static void expect_untouched(const uint8_t *buffer, size_t length) {
+    for (size_t at = 0; at < length; at++) {
+        expect("byte of an untouched buffer", buffer[at], FILL);
+    }
 }
 
 /* Expects that variable 0 ends 1, the others 0, and that only job 0 failed. */
@@ -103,7 +111,7 @@ static void walk_x(void) {
     expect("count", walk.count, COUNT_OF_X);
     expect("length of the order", walk.length, sizeof order_of_x);
     expect_end(walk.store, walk.failed);
-    expect_buffer(order, order_of_x, sizeof order_of_x);
+    expect_filled(order, ADQURIM_ORDER_ROOM, order_of_x, sizeof order_of_x);
 }
 
 /* Allowance 22: undecided. A buffer of 511 bytes: no room. */
@@ -120,7 +128,7 @@ static void walk_refused(void) {
     expect("place with 22", walk.place, 0);
     expect("verdict with 22", walk.verdict, ADQURIM_VERDICT_NONE);
     expect("count with 22", walk.count, 0);
-    expect_buffer(order, order_of_x, 0);
+    expect_filled(order, ADQURIM_ORDER_ROOM, order_of_x, 0);
 }
 
 /* The words without a struct: none changes where one is missing. */
@@ -138,6 +146,91 @@ static void walk_words(void) {
     expect("word 44", words[44], COUNT_OF_X);
 }
 
+/* P10: the plan is accepted as the order is. P11: job 1 in rounds 1 1 1, refused by 43 at 0. */
+static void check_plan_of_x(void) {
+    adqurim_run run;
+    memset(&run, FILL, sizeof run);
+    uint64_t number = adqurim_check_round_plan(table_x, sizeof table_x, plan_of_x,
+                                               sizeof plan_of_x, &run);
+    expect("check", number, ADQURIM_ACCEPTED);
+    expect("place of the check", run.place, 0);
+    expect_end(run.store, run.failed);
+    expect("length of the check", run.length, 0);
+    uint8_t plan[sizeof plan_of_x];
+    memcpy(plan, plan_of_x, sizeof plan);
+    plan[27] = plan[29] = plan[31] = 1;
+    number = adqurim_check_round_plan(table_x, sizeof table_x, plan, sizeof plan, &run);
+    expect("check of P11", number, ADQURIM_ORDER);
+    expect("place of P11", run.place, 0);
+    expect_zeros("end store of P11", run.store, ADQURIM_VARIABLES);
+}
+
+/* The order becomes the plan of P10, and that plan the order again. */
+static void there_and_back(void) {
+    adqurim_run run;
+    uint8_t plan[ADQURIM_PLAN_ROOM + 2], order[ADQURIM_ORDER_ROOM + 2];
+    memset(plan, FILL, sizeof plan);
+    memset(order, FILL, sizeof order);
+    uint64_t number = adqurim_convert_order(table_x, sizeof table_x, order_of_x,
+                                            sizeof order_of_x, plan, sizeof plan, &run);
+    expect("order to plan", number, ADQURIM_ACCEPTED);
+    expect_end(run.store, run.failed);
+    expect("length of the plan", run.length, sizeof plan_of_x);
+    expect_filled(plan, ADQURIM_PLAN_ROOM, plan_of_x, sizeof plan_of_x);
+    number = adqurim_convert_plan(table_x, sizeof table_x, plan, run.length, order, sizeof order,
+                                  &run);
+    expect("plan to order", number, ADQURIM_ACCEPTED);
+    expect_end(run.store, run.failed);
+    expect("length of the order", run.length, sizeof order_of_x);
+    expect_filled(order, ADQURIM_ORDER_ROOM, order_of_x, sizeof order_of_x);
+}
+
+/* A short order, a plan with a byte too many, and buffers a byte too short change no buffer. */
+static void conversions_refused(void) {
+    adqurim_run run;
+    uint8_t buffer[ADQURIM_PLAN_ROOM], longer[sizeof plan_of_x + 1] = {0};
+    memset(buffer, FILL, sizeof buffer);
+    memcpy(longer, plan_of_x, sizeof plan_of_x);
+    uint64_t number = adqurim_convert_order(table_x, sizeof table_x, order_of_x, 7, buffer,
+                                            sizeof buffer, &run);
+    expect("short order", number, ADQURIM_SHORT);
+    expect("place of the short order", run.place, 7);
+    number = adqurim_convert_plan(table_x, sizeof table_x, longer, sizeof longer, buffer,
+                                  sizeof buffer, &run);
+    expect("long plan", number, ADQURIM_SHAPE);
+    expect("place of the long plan", run.place, sizeof plan_of_x);
+    number = adqurim_convert_order(table_x, sizeof table_x, order_of_x, sizeof order_of_x, buffer,
+                                   ADQURIM_PLAN_ROOM - 1, &run);
+    expect("plan buffer of 1,280 bytes", number, ADQURIM_ROOM);
+    number = adqurim_convert_plan(table_x, sizeof table_x, plan_of_x, sizeof plan_of_x, buffer,
+                                  ADQURIM_ORDER_ROOM - 1, &run);
+    expect("order buffer of 511 bytes", number, ADQURIM_ROOM);
+    expect_untouched(buffer, sizeof buffer);
+}
+
+/* The words of the plan's entries without a struct: nothing changes where one is missing. */
+static void plan_words(void) {
+    uint64_t words[ADQURIM_CONVERSION_WORDS] = {7};
+    const size_t few = ADQURIM_CONVERSION_WORDS - 1;
+    uint8_t buffer[ADQURIM_PLAN_ROOM];
+    memset(buffer, FILL, sizeof buffer);
+    bool room = adqurim_check_plan(table_x, sizeof table_x, plan_of_x, sizeof plan_of_x, words,
+                                   ADQURIM_CHECK_PLAN_WORDS - 1);
+    expect("room for 42 words of a check", room, false);
+    room = adqurim_order_to_plan(table_x, sizeof table_x, order_of_x, sizeof order_of_x, buffer,
+                                 sizeof buffer, words, few);
+    expect("room for 42 words of a plan", room, false);
+    room = adqurim_plan_to_order(table_x, sizeof table_x, plan_of_x, sizeof plan_of_x, buffer,
+                                 sizeof buffer, words, few);
+    expect("room for 42 words of an order", room, false);
+    expect("word 0 without room", words[0], 7);
+    expect_untouched(buffer, sizeof buffer);
+    room = adqurim_order_to_plan(table_x, sizeof table_x, order_of_x, sizeof order_of_x, buffer,
+                                 sizeof buffer, words, ADQURIM_CONVERSION_WORDS);
+    expect("room for 43 words", room, true);
+    expect("word 42", words[42], sizeof plan_of_x);
+}
+
 int main(void) {
     read_x();
     read_refused();
@@ -145,5 +238,9 @@ int main(void) {
     walk_x();
     walk_refused();
     walk_words();
+    check_plan_of_x();
+    there_and_back();
+    conversions_refused();
+    plan_words();
     return 0;
 }

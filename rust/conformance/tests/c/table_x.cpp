@@ -1,14 +1,36 @@
-// The C interface called from C++: table X of document 01 read, replayed and walked. Says what
-// differs from document 01, and returns 1.
+// The C interface called from C++: table X of document 01 read, replayed, walked, and its order
+// converted to its plan and back. Says what differs from document 01, and returns 1.
 #include "adqurim.h"
 #include "table_x.h"
 
 #include <cstdio>
+#include <cstring>
 
 // The walk's count. Another value makes the program fail, which a test wants to see once.
 #ifndef COUNT_OF_X
 #define COUNT_OF_X 23
 #endif
+
+// Whether the order becomes the plan of P10, which is accepted, and that plan the order again.
+static bool there_and_back() {
+    adqurim_run run = {};
+    uint8_t plan[ADQURIM_PLAN_ROOM] = {};
+    uint8_t order[ADQURIM_ORDER_ROOM] = {};
+    bool same = adqurim_convert_order(table_x, sizeof table_x, order_of_x, sizeof order_of_x, plan,
+                                      sizeof plan, &run) == ADQURIM_ACCEPTED;
+    same = same && run.length == sizeof plan_of_x && run.store[0] == 1 && run.failed[0] == 1 &&
+           std::memcmp(plan, plan_of_x, sizeof plan_of_x) == 0;
+    same = same && adqurim_check_round_plan(table_x, sizeof table_x, plan, sizeof plan_of_x,
+                                            &run) == ADQURIM_ACCEPTED;
+    same = same && run.store[0] == 1 && run.failed[0] == 1 && run.length == 0;
+    same = same && adqurim_check_round_plan(table_x, sizeof table_x, plan, sizeof plan,
+                                            &run) == ADQURIM_SHAPE;
+    same = same && run.place == sizeof plan_of_x && run.store[0] == 0;
+    same = same && adqurim_convert_plan(table_x, sizeof table_x, plan, sizeof plan_of_x, order,
+                                        sizeof order, &run) == ADQURIM_ACCEPTED;
+    return same && run.length == sizeof order_of_x && run.failed[0] == 1 &&
+           std::memcmp(order, order_of_x, sizeof order_of_x) == 0;
+}
 
 int main() {
     adqurim_read_answer read = {};
@@ -27,6 +49,7 @@ int main() {
            walk.length == sizeof order_of_x && order[1] == order_of_x[1];
     same = same && adqurim_walk_orders(table_x, sizeof table_x, 22, order, sizeof order,
                                        &walk) == ADQURIM_UNDECIDED;
+    same = same && there_and_back();
     if (!same) {
         std::fprintf(stderr, "table X differs from document 01 through C++\n");
     }

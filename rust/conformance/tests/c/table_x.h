@@ -1,4 +1,7 @@
-/* Table X of document 01, by hand: 11 records in walk order, and the order of its sheet. */
+/*
+ * Table X of document 01, by hand: 11 records in walk order, the order of its sheet, and that
+ * order's plan, which is case P10.
+ */
 #ifndef TABLE_X_H
 #define TABLE_X_H
 
@@ -19,5 +22,13 @@ static const uint8_t table_x[11 * 16] = {
 };
 
 static const uint8_t order_of_x[8] = {0, 16, 16, 16, 0, 0, 0, 0};
+
+static const uint8_t plan_of_x[33] = {
+    2,                            /* jobs */
+    0, 0, 0, 0, 0, 0, 0, 0,       /* guess of round 0 */
+    1, 0, 0, 0, 0, 0, 0, 0,       /* guess of round 1 */
+    0, 0, 1, 0, 1, 0, 1, 0, 1, 0, /* job 0: rounds 0 1 1 1 1 */
+    0, 0, 0, 0, 0, 0,             /* job 1: rounds 0 0 0 */
+};
 
 #endif

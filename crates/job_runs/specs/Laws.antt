@@ -1,0 +1,6 @@
+pub mod ByteLaws
+pub mod FlagLaws
+pub mod JobLaws
+pub mod JobsLaws
+pub mod LentSteps
+pub mod StepLaws

@@ -1,0 +1,4 @@
+pub mod Marks
+pub mod PairParts
+pub mod RunParts
+pub mod TableParts

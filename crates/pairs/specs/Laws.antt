@@ -1,0 +1,2 @@
+pub mod PairAgreed
+pub mod PairLaws

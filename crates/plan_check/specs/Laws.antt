@@ -1,0 +1,5 @@
+pub mod CheckLaws
+pub mod FaultLaws
+pub mod GuessLaws
+pub mod LegalityLaws
+pub mod PlanEntryLaws

@@ -1,0 +1,109 @@
+// Numbers 43 to 45, and how a legal plan ends.
+use marks::Fault;
+use marks::GUESSES;
+use marks::MARKS;
+use marks::STORES;
+use pairs::pair_fault;
+use plan::Round;
+use rounds::same_store;
+use rounds::store_of;
+use snapshots::PROGRAM;
+use snapshots::TIMES;
+use taskfile::limits::VARIABLES;
+use taskfile::numbers::GUESS;
+use taskfile::numbers::LOCK;
+use taskfile::numbers::ORDER;
+ghost use mathlib.Core.Path.{_≡_};
+ghost use Prim.Native.Nat.{_+_, _*_, _≤_, _<_};
+ghost use lib.ListN.{length};
+ghost use Rattle.notation.specs.Lists.{lastOr};
+ghost use Rattle.plan.specs.Runs.{guess};
+ghost use Rattle.marks.specs.Code.Marks.{faultOf, storesIn, IsMarks};
+ghost use Rattle.marks.specs.Code.PairParts.{dueStoreIn, guessFaultIn, legalityIn};
+
+// The guess of round r.
+pub fn guess_of(plan: &[u8], r: Round) -> [u8; VARIABLES]
+    requires { ⌜ (r .0 < 32) × (9 + 8 * r .0 ≤ length (now plan)) ⌝ }
+    ensures { λ s. ⌜ s ≡ guess (now (plan .entry)) r ⌝ }
+{
+    let at = GUESSES + VARIABLES * (r.0 as usize);
+    [
+        plan[at],
+        plan[at + 1],
+        plan[at + 2],
+        plan[at + 3],
+        plan[at + 4],
+        plan[at + 5],
+        plan[at + 6],
+        plan[at + 7],
+    ]
+}
+
+// The store that round r must start from, of k rounds: the initial store, then the store left in the round before.
+pub fn due_store(store: [u8; VARIABLES], stores: &[u8; STORES], k: u8, r: Round) -> [u8; VARIABLES]
+    requires { ⌜ (k ≤ 32) × (r .0 ≤ k) ⌝ }
+    ensures { λ s. ⌜ s ≡ dueStoreIn store (now (stores .entry)) k (r .0) ⌝ }
+{
+    if r.0 == 0 {
+        return store;
+    }
+    store_of(stores, Round(r.0 - 1))
+}
+
+// The lowest of k rounds whose guess is wrong.
+pub fn guess_fault(plan: &[u8], store: [u8; VARIABLES], stores: &[u8; STORES], k: u8) -> Fault
+    requires { ⌜ (k ≤ 32) × (1 + 8 * k ≤ length (now plan)) ⌝ }
+    ensures { λ r. ⌜ r ≡ faultOf (guessFaultIn (now (plan .entry)) store (now (stores .entry)) k) ⌝ }
+{
+    let mut r: u8 = 0;
+    while r < k {
+        if !same_store(
+            guess_of(plan, Round(r)),
+            due_store(store, stores, k, Round(r)),
+        ) {
+            let place = r as u32;
+            return Fault {
+                number: GUESS,
+                place: place,
+            };
+        }
+        r += 1;
+    }
+    Fault {
+        number: 0,
+        place: 0,
+    }
+}
+
+// The first fault of 43, 44 and 45.
+pub fn legality_fault(
+    program: &[u8; PROGRAM],
+    times: &[u64; TIMES],
+    plan: &[u8],
+    store: [u8; VARIABLES],
+    stores: &[u8; STORES],
+    marks: &[u8; MARKS],
+    k: u8,
+) -> Fault
+    requires { ⌜ IsMarks (now marks) × (k ≤ 32) × (1 + 8 * k ≤ length (now plan)) ⌝ }
+    ensures { λ r. ⌜ r ≡ faultOf (legalityIn (now (program .entry)) (now (times .entry)) (now (plan .entry)) store
+        (now (stores .entry)) (now (marks .entry)) k) ⌝ }
+{
+    let order = pair_fault(ORDER, program, times, marks, k);
+    if order.number != 0 {
+        return order;
+    }
+    let lock = pair_fault(LOCK, program, times, marks, k);
+    if lock.number != 0 {
+        return lock;
+    }
+    guess_fault(plan, store, stores, k)
+}
+
+// The end store: that of the last round, or the initial store if there are none.
+pub fn end_store(store: [u8; VARIABLES], stores: &[u8; STORES], k: u8) -> [u8; VARIABLES]
+    requires { ⌜ k ≤ 32 ⌝ }
+    ensures { λ s. ⌜ s ≡ lastOr store (storesIn (now (stores .entry)) k) ⌝ }
+{
+    due_store(store, stores, k, Round(k))
+}
