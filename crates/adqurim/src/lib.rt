@@ -105,7 +105,12 @@ pub extern "C" fn adqurim_check_plan(file: &[u8], plan: &[u8], answer: &mut [u64
 // first 1,281 bytes hold the plan and zeros after it; a refusal leaves it as it was. It answers whether there was room
 // for the words; without room nothing changes, the plan buffer neither.
 #[no_mangle]
-pub extern "C" fn adqurim_order_to_plan(file: &[u8], order: &[u8], plan: &mut [u8], answer: &mut [u64]) -> bool
+pub extern "C" fn adqurim_order_to_plan(
+    file: &[u8],
+    order: &[u8],
+    plan: &mut [u8],
+    answer: &mut [u64],
+) -> bool
     ensures room { λ r. ⌜ r ≡ leb wordsOfRun (length (now (answer .entry))) ⌝ }
     ensures words { λ _. ⌜ now (answer .exit)
         ≡ filledWith (runWords (orderToPlanAnswer (now (file .entry)) (now (order .entry)) (now (plan .entry))))
@@ -126,7 +131,12 @@ pub extern "C" fn adqurim_order_to_plan(file: &[u8], order: &[u8], plan: &mut [u
 // first 512 bytes hold the order and zeros after it; a refusal leaves it as it was. It answers whether there was room
 // for the words; without room nothing changes, the order buffer neither.
 #[no_mangle]
-pub extern "C" fn adqurim_plan_to_order(file: &[u8], plan: &[u8], order: &mut [u8], answer: &mut [u64]) -> bool
+pub extern "C" fn adqurim_plan_to_order(
+    file: &[u8],
+    plan: &[u8],
+    order: &mut [u8],
+    answer: &mut [u64],
+) -> bool
     ensures room { λ r. ⌜ r ≡ leb wordsOfRun (length (now (answer .entry))) ⌝ }
     ensures words { λ _. ⌜ now (answer .exit)
         ≡ filledWith (runWords (planToOrderAnswer (now (file .entry)) (now (plan .entry)) (now (order .entry))))

@@ -22,19 +22,6 @@ pub fn refused_run(number: u8, place: u32) -> RunAnswer
     }
 }
 
-// An end, with nothing written.
-pub fn ended_run(store: [u8; VARIABLES], failed: [bool; JOBS]) -> RunAnswer
-    ensures { λ r. ⌜ r ≡ runAnswer (unwritten (passed (record { store = store; failed = failed }))) ⌝ }
-{
-    RunAnswer {
-        number: 0,
-        place: 0,
-        store: store,
-        failed: failed,
-        length: 0,
-    }
-}
-
 // An end, with so many bytes written.
 pub fn written_run(store: [u8; VARIABLES], failed: [bool; JOBS], length: u32) -> RunAnswer
     ensures { λ r. ⌜ ((bytes : List ℕ) → count bytes ≡ length
@@ -47,4 +34,11 @@ pub fn written_run(store: [u8; VARIABLES], failed: [bool; JOBS], length: u32) ->
         failed: failed,
         length: length,
     }
+}
+
+// An end, with nothing written.
+pub fn ended_run(store: [u8; VARIABLES], failed: [bool; JOBS]) -> RunAnswer
+    ensures { λ r. ⌜ r ≡ runAnswer (unwritten (passed (record { store = store; failed = failed }))) ⌝ }
+{
+    written_run(store, failed, 0)
 }

@@ -1,5 +1,4 @@
 // An accepted table in the arrays that are lent to the steps.
-use snapshots::BODIES;
 use snapshots::INSTRUCTION;
 use snapshots::LATEST;
 use snapshots::NO_TASK;
@@ -8,20 +7,20 @@ use snapshots::PROGRAM;
 use snapshots::TIMES;
 use taskfile::Table;
 use taskfile::limits::INSTRUCTIONS;
-use taskfile::limits::JOBS;
 use timing::JobList;
-ghost use Prim.Native.Nat.{_≤_};
+ghost use Prim.Native.Nat.{_*_, _≤_};
 ghost use Rattle.taskfile.specs.Code.JudgingParts.{Shaped};
 ghost use Rattle.snapshots.specs.Code.Lent.{BodiesTo, OwnersTo, TimesTo};
 
-// The bodies of the eight tasks, and no job's task.
+// The bodies of the table's tasks, and no job's task.
 pub fn bodies_of(t: Table) -> [u8; PROGRAM]
     requires { ⌜ Shaped t ⌝ }
-    ensures { λ r. ⌜ BodiesTo t 128 r ⌝ }
+    ensures { λ r. ⌜ BodiesTo t (16 * t .tasks) r ⌝ }
 {
+    let most = INSTRUCTIONS * (t.tasks as usize);
     let mut program = [NO_TASK; PROGRAM];
     let mut n: usize = 0;
-    while n < BODIES {
+    while n < most {
         let e = t.entries[n / INSTRUCTIONS];
         let o = e.body[n % INSTRUCTIONS];
         program[INSTRUCTION * n] = o.operation;
@@ -51,11 +50,13 @@ pub fn program_of(t: Table, list: JobList) -> [u8; PROGRAM]
 
 // The arrival and the latest finish of each job.
 pub fn times_of(list: JobList) -> [u64; TIMES]
-    ensures { λ r. ⌜ TimesTo list 32 r ⌝ }
+    requires { ⌜ list .count ≤ 32 ⌝ }
+    ensures { λ r. ⌜ TimesTo list (list .count) r ⌝ }
 {
+    let count = list.count as usize;
     let mut times = [0u64; TIMES];
     let mut x: usize = 0;
-    while x < JOBS {
+    while x < count {
         let job = list.jobs[x];
         times[x] = job.arrival;
         times[LATEST + x] = job.latest;

@@ -15,7 +15,6 @@ pub mod JobReadingLaws
 pub mod LegalLaws
 pub mod MadeLaws
 pub mod MovedLaws
-pub mod NumberedLaws
 pub mod OfferedLaws
 pub mod OrderKept
 pub mod OrderPlanned
@@ -39,6 +38,7 @@ pub mod PlanSteps
 pub mod PlanTurn
 pub mod PlannedStepLaws
 pub mod PreemptionLaws
+pub mod RefusalLaws
 pub mod RoundLaws
 pub mod RowLaws
 pub mod RunLaws

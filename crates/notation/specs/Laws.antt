@@ -4,6 +4,7 @@ pub mod CountLaws
 pub mod ElementLaws
 pub mod ListLaws
 pub mod MemberLaws
+pub mod NumberedLaws
 pub mod PaddedLaws
 pub mod PairLaws
 pub mod QuantifierLaws

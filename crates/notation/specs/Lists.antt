@@ -3,9 +3,9 @@
 -- Assumes nothing.
 use Prim.Native.Nat.{ℕ, zero, suc, _+_, _≤_}
 use mathlib.Core.Bool.{Bool, true, false, _&&_, _||_}
-use mathlib.Core.List.{List, [], _∷_, _++_}
+use mathlib.Core.List.{List, [], _∷_, _++_, map}
 use mathlib.Core.Option.{Option, none, some}
-use lib.ListN.{length, take, replicate}
+use lib.ListN.{length, getD, take, replicate}
 use lib.Dec.{eqb}
 
 unfoldable pub if_then_else_ : {A : Type 0} → Bool → A → A → A
@@ -71,6 +71,10 @@ lastOr d (x ∷ xs) = lastOr x xs
 unfoldable pub sum : List ℕ → ℕ
 sum [] = 0
 sum (x ∷ xs) = x + sum xs
+
+-- the n numbers of the list from place a on
+unfoldable pub bytesAt : List ℕ → ℕ → ℕ → List ℕ
+bytesAt bytes a n = map (λ k. getD bytes (a + k) 0) (upTo n)
 
 -- the list as an array of n elements: filled up with x, cut if it is longer
 unfoldable pub padded : {A : Type 0} → ℕ → A → List A → List A

@@ -23,9 +23,10 @@ use turns::turn_of;
 ghost use mathlib.Core.Path.{_≡_};
 ghost use Prim.Native.Nat.{_≤_, _<_};
 ghost use lib.ListN.{length};
-ghost use Rattle.states.specs.Code.StateBytes.{bytesAt, IsState};
+ghost use Rattle.states.specs.Code.StateBytes.{IsState};
+ghost use Rattle.notation.specs.Lists.{bytesAt};
 ghost use Rattle.marks.specs.Code.Marks.{IsMarks};
-ghost use Rattle.order_plan.specs.Code.Tracing.{noteIn, guessIn, roundIn, notedOf, AreNoted, StepNoted, OrderNoted};
+ghost use Rattle.order_plan.specs.Code.Tracing.{noteIn, guessIn, roundIn, notedOf, AreNoted, NotedStep, NotedOrder};
 
 // Notes a step of job x in round r with its value, if it has room for one more.
 pub fn note_step(marks: &mut [u8; MARKS], x: Job, r: Round, value: u8)
@@ -65,7 +66,7 @@ pub fn trace_step(
     guesses: &mut [u8; STORES],
 ) -> Round
     requires { ⌜ (locks .count ≤ 8) × AreNoted (now s) (now marks) (now guesses) ⌝ }
-    ensures { λ q. ⌜ StepNoted (now (program .entry)) (now (times .entry)) locks
+    ensures { λ q. ⌜ NotedStep (now (program .entry)) (now (times .entry)) locks
         (notedOf (now (s .entry)) r (now (marks .entry)) (now (guesses .entry))) byte
         (now (s .exit)) (now (marks .exit)) (now (guesses .exit)) q ⌝ }
 {
@@ -100,7 +101,7 @@ pub fn trace_order(
     guesses: &mut [u8; STORES],
 )
     requires { ⌜ (locks .count ≤ 8) × AreNoted start (now marks) (now guesses) ⌝ }
-    ensures { λ _. ⌜ OrderNoted (now (program .entry)) (now (times .entry)) locks
+    ensures { λ _. ⌜ NotedOrder (now (program .entry)) (now (times .entry)) locks
         (notedOf start (record { 0 = 0 }) (now (marks .entry)) (now (guesses .entry))) (now (order .entry))
         (now (marks .exit)) (now (guesses .exit)) ⌝ }
 {

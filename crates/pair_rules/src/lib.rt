@@ -13,13 +13,13 @@ use timing::Job;
 ghost use mathlib.Core.Path.{_≡_};
 ghost use Prim.Native.Nat.{_<_};
 ghost use Rattle.marks.specs.Code.Marks.{IsMarks};
-ghost use Rattle.marks.specs.Code.PairParts.{startRound, endRound, beforeKept, roundsApart, roundsNested, noneWithin};
-ghost use Rattle.marks.specs.Code.PairParts.{preemptKept, priorityUpTo, lockKept, orderFaulty, lockFaulty};
+ghost use Rattle.marks.specs.Code.PairParts.{roundOfStart, roundOfEnd, beforeKept, roundsApart, roundsNested, noneWithin};
+ghost use Rattle.marks.specs.Code.PairParts.{preemptKept, priorityReached, lockKept, orderFaulty, lockFaulty};
 
 // The round of job x's first step.
 pub fn start_round(marks: &[u8; MARKS], x: Job) -> Round
     requires { ⌜ x .0 < 32 ⌝ }
-    ensures { λ r. ⌜ r ≡ startRound (now (marks .entry)) (x .0) ⌝ }
+    ensures { λ r. ⌜ r ≡ roundOfStart (now (marks .entry)) (x .0) ⌝ }
 {
     if count_at(marks, x) == 0 {
         return Round(0);
@@ -30,7 +30,7 @@ pub fn start_round(marks: &[u8; MARKS], x: Job) -> Round
 // The round of job x's last step.
 pub fn end_round(marks: &[u8; MARKS], x: Job) -> Round
     requires { ⌜ IsMarks (now marks) × (x .0 < 32) ⌝ }
-    ensures { λ r. ⌜ r ≡ endRound (now (marks .entry)) (x .0) ⌝ }
+    ensures { λ r. ⌜ r ≡ roundOfEnd (now (marks .entry)) (x .0) ⌝ }
 {
     let count = count_at(marks, x);
     if count == 0 {
@@ -59,7 +59,7 @@ pub fn none_within(marks: &[u8; MARKS], x: Job, r: Round, q: Round) -> bool
 // Job x's priority after its steps up to round r, where its base is this.
 pub fn priority_up_to(marks: &[u8; MARKS], base: u8, x: Job, r: Round) -> u8
     requires { ⌜ IsMarks (now marks) × (x .0 < 32) ⌝ }
-    ensures { λ p. ⌜ p ≡ priorityUpTo (now (marks .entry)) base (x .0) r ⌝ }
+    ensures { λ p. ⌜ p ≡ priorityReached (now (marks .entry)) base (x .0) r ⌝ }
 {
     let count = count_at(marks, x);
     let mut priority = base;

@@ -13,7 +13,7 @@ ghost use mathlib.Core.Path.{_≡_};
 ghost use Prim.Native.Nat.{_≤_, _<_};
 ghost use lib.ListN.{length};
 ghost use Rattle.notation.specs.Lists.{same};
-ghost use Rattle.marks.specs.Code.Marks.{storeAt, withStore, markAt, countAt, withMark};
+ghost use Rattle.marks.specs.Code.Marks.{storeAt, withStore, stepMarked, stepCount, withMark};
 
 // The store of round r.
 pub fn store_of(stores: &[u8; STORES], r: Round) -> [u8; VARIABLES]
@@ -76,7 +76,7 @@ pub fn put_mark(marks: &mut [u8; MARKS], x: Job, n: u8, r: Round, value: u8, pri
 // How many steps job x has.
 pub fn count_at(marks: &[u8; MARKS], x: Job) -> u8
     requires { ⌜ x .0 < 32 ⌝ }
-    ensures { λ n. ⌜ n ≡ countAt (now (marks .entry)) (x .0) ⌝ }
+    ensures { λ n. ⌜ n ≡ stepCount (now (marks .entry)) (x .0) ⌝ }
 {
     marks[COUNTS + (x.0 as usize)]
 }
@@ -84,7 +84,7 @@ pub fn count_at(marks: &[u8; MARKS], x: Job) -> u8
 // The round of step n of job x.
 pub fn round_at(marks: &[u8; MARKS], x: Job, n: u8) -> Round
     requires { ⌜ (x .0 < 32) × (n < 16) ⌝ }
-    ensures { λ r. ⌜ r ≡ markAt (now (marks .entry)) (x .0) n .round ⌝ }
+    ensures { λ r. ⌜ r ≡ stepMarked (now (marks .entry)) (x .0) n .round ⌝ }
 {
     Round(marks[ROUNDS + (INSTRUCTIONS * (x.0 as usize) + (n as usize))])
 }
@@ -92,7 +92,7 @@ pub fn round_at(marks: &[u8; MARKS], x: Job, n: u8) -> Round
 // The value of step n of job x.
 pub fn value_at(marks: &[u8; MARKS], x: Job, n: u8) -> u8
     requires { ⌜ (x .0 < 32) × (n < 16) ⌝ }
-    ensures { λ v. ⌜ v ≡ markAt (now (marks .entry)) (x .0) n .value ⌝ }
+    ensures { λ v. ⌜ v ≡ stepMarked (now (marks .entry)) (x .0) n .value ⌝ }
 {
     marks[CHOICES + (INSTRUCTIONS * (x.0 as usize) + (n as usize))]
 }
@@ -100,7 +100,7 @@ pub fn value_at(marks: &[u8; MARKS], x: Job, n: u8) -> u8
 // The priority of job x after its step n.
 pub fn priority_after(marks: &[u8; MARKS], x: Job, n: u8) -> u8
     requires { ⌜ (x .0 < 32) × (n < 16) ⌝ }
-    ensures { λ p. ⌜ p ≡ markAt (now (marks .entry)) (x .0) n .priorityAfter ⌝ }
+    ensures { λ p. ⌜ p ≡ stepMarked (now (marks .entry)) (x .0) n .priorityAfter ⌝ }
 {
     marks[PRIORITIES + (INSTRUCTIONS * (x.0 as usize) + (n as usize))]
 }

@@ -50,9 +50,6 @@ pub const STATE: usize = STACK + FRAME * TASKS;
 
 // ---- A table in the arrays that are lent to the steps.
 
-// Instructions of a program.
-pub const BODIES: usize = TASKS * INSTRUCTIONS;
-
 // Bytes of an instruction.
 pub const INSTRUCTION: usize = 4;
 

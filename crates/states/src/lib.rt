@@ -9,7 +9,8 @@ use timing::Job;
 ghost use mathlib.Core.Path.{_≡_};
 ghost use Prim.Native.Nat.{_+_, _*_, _≤_, _<_};
 ghost use lib.ListN.{length};
-ghost use Rattle.states.specs.Code.StateBytes.{bytesAt, frameIn, Replaced, FrameReplaced};
+ghost use Rattle.states.specs.Code.StateBytes.{frameIn, Replaced, FrameReplaced};
+ghost use Rattle.notation.specs.Lists.{bytesAt};
 
 // Eight bytes of a state.
 pub fn eight_at(s: &[u8; STATE], at: usize) -> [u8; 8]

@@ -1,14 +1,18 @@
--- `answers::ended_run` meets its contract: the definition computes to the answer.
+-- `answers::ended_run` meets its contract: it is the answer with no byte written.
 -- Assumes nothing.
 use mathlib.Core.Path.{refl}
-use Rattle.machine.specs.Ends.{noStore, noFlags}
-use Rattle.machine.specs.Buffers.{runAnswer, unwritten}
+use mathlib.Core.List.{[]}
+use Rattle.machine.specs.Buffers.{unwritten}
 use Rattle.answers.proofs.ended_run.Statement.{statement}
 use Rattle.answers.proofs.ended_run.Tie as tie
+use borrow.Author.Needs.{needs}
+
+written-run-requires : tie.Need-written-run-requires
+written-run-requires c κs = search needs
 
 returns : tie.Need-returns
-unfolding runAnswer unwritten noStore noFlags
-returns c = refl
+unfolding unwritten
+returns c = c .written-run .ensures [] refl
 
 pub ended-run-spec : {M : Type 1} → statement M
-ended-run-spec = tie.close (tie.spec returns)
+ended-run-spec = tie.close (tie.spec written-run-requires returns)

@@ -1,7 +1,7 @@
 -- `filling::bodies_of` meets its contract. The loop's invariant: the instructions before number n are stored. The
 -- measure is the number of instructions left. Assumes nothing.
 use mathlib.Core.Path.{refl}
-use Prim.Native.Nat.{_-_}
+use Prim.Native.Nat.{_-_, _*_}
 use native.Mathlib.Omega.{arith}
 use Rattle.snapshots.specs.Laws.LentLaws.{bodies-none, bodies-more, bodies-all, instruction-read}
 use Rattle.snapshots.specs.Code.Lent.{BodiesTo}
@@ -9,10 +9,16 @@ use Rattle.filling.proofs.bodies_of.Statement.{statement}
 use Rattle.filling.proofs.bodies_of.Tie as tie
 
 abbrev Inv-loop : tie.InvT-loop
-Inv-loop t program₀ n₀ program n = BodiesTo t n program
+Inv-loop t most program₀ n₀ program n = BodiesTo t n program
 
 abbrev μ-loop : tie.MeasureT-loop
-μ-loop t program₀ n₀ program n = 128 - n
+μ-loop t most program₀ n₀ program n = 16 * t .tasks - n
+
+cast-most : tie.Need-cast-most Inv-loop μ-loop
+cast-most c = omega arith
+
+mul-most : tie.Need-mul-most Inv-loop μ-loop
+mul-most c = omega (arith, c .pre .tasksWithin)
 
 loop-holds : tie.Need-loop-holds Inv-loop μ-loop
 loop-holds c = bodies-none _
@@ -80,6 +86,8 @@ bodies-of-spec =
     (tie.spec
     Inv-loop
     μ-loop
+    cast-most
+    mul-most
     loop-holds
     mul-e
     element-copy-out-e

@@ -1,7 +1,7 @@
 -- `filling::times_of` meets its contract. The loop's invariant: the times of the jobs before x are stored. The
 -- measure is the number of jobs left. Assumes nothing.
 use mathlib.Core.Path.{refl}
-use Prim.Native.Nat.{_-_}
+use Prim.Native.Nat.{_-_, _≤_}
 use native.Mathlib.Omega.{arith}
 use Rattle.snapshots.specs.Laws.LentLaws.{times-none, times-more, times-all}
 use Rattle.snapshots.specs.Code.Lent.{TimesTo}
@@ -9,13 +9,16 @@ use Rattle.filling.proofs.times_of.Statement.{statement}
 use Rattle.filling.proofs.times_of.Tie as tie
 
 abbrev Inv-loop : tie.InvT-loop
-Inv-loop list times₀ x₀ times x = TimesTo list x times
+Inv-loop list count times₀ x₀ times x = TimesTo list x times × (x ≤ list .count)
 
 abbrev μ-loop : tie.MeasureT-loop
-μ-loop list times₀ x₀ times x = 32 - x
+μ-loop list count times₀ x₀ times x = list .count - x
+
+cast-count : tie.Need-cast-count Inv-loop μ-loop
+cast-count c = omega arith
 
 loop-holds : tie.Need-loop-holds Inv-loop μ-loop
-loop-holds c = times-none _ _ refl
+loop-holds c = (times-none _ _ refl, omega arith)
 
 mul-job : tie.Need-mul-job Inv-loop μ-loop
 mul-job c = omega arith
@@ -45,10 +48,10 @@ loop-less : tie.Need-loop-less Inv-loop μ-loop
 loop-less c = omega arith
 
 loop-again : tie.Need-loop-again Inv-loop μ-loop
-loop-again c = times-more (c .before .before .loop .inv) (omega arith) refl refl
+loop-again c = (times-more (c .before .before .loop .inv .0) (omega arith) refl refl, omega arith)
 
 returns : tie.Need-returns Inv-loop μ-loop
-returns c = times-all (c .before .loop .inv) (omega arith)
+returns c = times-all (c .before .loop .inv .0) (omega arith)
 
 pub times-of-spec : {M : Type 1} → statement M
 times-of-spec =
@@ -56,6 +59,7 @@ times-of-spec =
     (tie.spec
     Inv-loop
     μ-loop
+    cast-count
     loop-holds
     mul-job
     element-copy-out-job

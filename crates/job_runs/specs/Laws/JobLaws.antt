@@ -8,7 +8,7 @@ use mathlib.Core.Bool.{Bool, true, false, _||_}
 use mathlib.Core.List.{List, [], _∷_, _++_, map, append-nil}
 use lib.ListN.{length, getD}
 use Rattle.notation.specs.Checked.{Checked, refused, passed}
-use Rattle.notation.specs.Lists.{from, upTo}
+use Rattle.notation.specs.Lists.{from, upTo, bytesAt}
 use Rattle.notation.specs.Laws.TabulateLaws.{values-length}
 use Rattle.taskfile.specs.declared.Ceilings.{Ceilings}
 use Rattle.taskfile.specs.declared.Instruction.{Instruction}
@@ -22,21 +22,21 @@ use Rattle.machine.specs.Instructions.{fresh, perform}
 use Rattle.plan.specs.declared.Round.{Round}
 use Rattle.plan.specs.Runs.{Plan, Step, RunState, JobRun, firstRound, roundAt, stepBytes, stepEffect, stepMade, runningAfter, runJob}
 use Rattle.snapshots.specs.Code.SnapshotSteps.{ownerIn, instructionIn}
-use Rattle.states.specs.Code.StateBytes.{bytesAt}
 use Rattle.marks.specs.declared.Fault.{Fault}
 use Rattle.marks.specs.declared.JobRan.{JobRan}
-use Rattle.marks.specs.Code.Marks.{faultOf, storeAt, withStore, runStateIn, markAt, countAt, marksOf, withMark, IsMarks}
+use Rattle.marks.specs.Code.Marks.{faultOf, storeAt, withStore, runStateIn, stepMarked, stepCount, stepsMarked, withMark, IsMarks}
 use Rattle.marks.specs.Code.RunParts.{Holds, stepBytesFor, NoFault, JobRanAs, JobRanOf}
 use Rattle.marks.specs.Laws.MarkLaws.{count-here, mark-added, mark-others, mark-whole}
 use Rattle.marks.specs.Laws.StoreLaws.{put-length}
 use Rattle.job_runs.specs.Laws.ByteLaws.{bytes-refused, bytes-passed, bytes-round}
 use Rattle.job_runs.specs.Laws.FlagLaws.{flag-kept}
 use Rattle.job_runs.specs.Laws.LentSteps.{lentStep, bodySize, fresh-inside, inside-short, owner-small, bytes-lent, effect-lent, inside-on, made-lent, after-lent}
-use Rattle.job_runs.specs.Laws.StepLaws.{afterSteps, after-none, after-more, step-refused, step-ended, step-goes, perform-length}
+use Rattle.machine.specs.Laws.InstructionLaws.{perform-length}
+use Rattle.job_runs.specs.Laws.StepLaws.{afterSteps, made-none, made-more, step-refused, step-ended, step-goes}
 
 -- a job's first n steps
 unfoldable pub firstSteps : List ℕ → ℕ → ℕ → List Step
-firstSteps marks x n = map (markAt marks x) (upTo n)
+firstSteps marks x n = map (stepMarked marks x) (upTo n)
 
 -- the whole run of job x
 abbrev pub wholeJob : Accepted → Plan → ℕ → RunState → Checked ℕ JobRun
@@ -48,11 +48,11 @@ pub record Running (program : List ℕ) (locks : Ceilings) (plan : Plan) (k x st
     (offset n : ℕ) : Type 0 where
   pub room : length stores ≡ 256
   pub isMarks : IsMarks marks
-  pub others : (y : ℕ) → y < 32 → (y ≡ x → ⊥) → marksOf marks y ≡ marksOf marks₀ y
+  pub others : (y : ℕ) → y < 32 → (y ≡ x → ⊥) → stepsMarked marks y ≡ stepsMarked marks₀ y
   pub near : offset ≡ start + 2 * n
   pub few : n ≤ 16
   pub owned : owner ≡ ownerIn program x
-  pub counted : 0 < n → countAt marks x ≡ n
+  pub counted : 0 < n → stepCount marks x ≡ n
   pub inside : (a : Accepted) (times : List ℕ) → Holds a program times locks k → IsJob a (record { 0 = x })
       → local .next < bodySize a x
   pub runs : (a : Accepted) (times : List ℕ) → Holds a program times locks k → IsJob a (record { 0 = x })
@@ -75,7 +75,7 @@ run-starts program locks plan k x start stores marks room isMarks owned new = re
   owned = owned;
   counted = λ some. absurd (omega arith);
   inside = λ a times held isJob. rw new (fresh-inside held x isJob);
-  runs = λ a times held isJob flags. rw (new, ← flag-kept false x flags refl) (after-none _);
+  runs = λ a times held isJob flags. rw (new, ← flag-kept false x flags refl) (made-none _);
 }
 
 module _ {program : List ℕ} {locks : Ceilings} {plan : Plan} {k x start : ℕ} {stores₀ marks₀ : List ℕ} {owner : ℕ}
@@ -110,7 +110,7 @@ module _ {program : List ℕ} {locks : Ceilings} {plan : Plan} {k x start : ℕ}
 
   -- all sixteen steps are made
   pub run-used : (fault : Fault) → NoFault fault → 16 ≤ n → Ran fault
-  unfolding runJob afterSteps firstSteps marksOf
+  unfolding runJob afterSteps firstSteps stepsMarked
   run-used fault clear used = ran-as fault (λ a times held isJob flags.
       (let none : 16 - n ≡ 0 = omega arith in
       let ends : wholeJob a plan x (runStateIn k stores₀ flags start)
@@ -120,7 +120,7 @@ module _ {program : List ℕ} {locks : Ceilings} {plan : Plan} {k x start : ℕ}
       }) =
       run .runs a times held isJob flags ∙ rw none refl in
       subst (JobRanAs k x flags stores marks _) (sym ends)
-      (clear, append-nil _ ∙ ap (λ (c : ℕ). map (markAt marks x) (upTo c)) (sym (run .counted (omega arith))), refl)))
+      (clear, append-nil _ ∙ ap (λ (c : ℕ). map (stepMarked marks x) (upTo c)) (sym (run .counted (omega arith))), refl)))
 
   module _ {i : Instruction} (reads : i ≡ instructionIn program owner (local .next)) {fault : Fault}
       (is : fault ≡ faultOf (stepBytesFor k i plan previous offset)) (more : n < 16) where
@@ -160,23 +160,23 @@ module _ {program : List ℕ} {locks : Ceilings} {plan : Plan} {k x start : ℕ}
       isMarks′ : IsMarks marks′
       isMarks′ = rw notes (mark-whole (run .isMarks) x n isX more _)
 
-      others′ : (y : ℕ) → y < 32 → (y ≡ x → ⊥) → marksOf marks′ y ≡ marksOf marks₀ y
+      others′ : (y : ℕ) → y < 32 → (y ≡ x → ⊥) → stepsMarked marks′ y ≡ stepsMarked marks₀ y
       others′ y isY apart =
-          ap (λ (m : List ℕ). marksOf m y) notes
+          ap (λ (m : List ℕ). stepsMarked m y) notes
           ∙ mark-others marks (run .isMarks .whole) x n isX more _ y isY apart (run .isMarks .few y isY)
           ∙ run .others y isY apart
 
-      counted′ : countAt marks′ x ≡ n + 1
-      counted′ = ap (λ (m : List ℕ). countAt m x) notes ∙ count-here marks (run .isMarks .whole) x n isX more _
+      counted′ : stepCount marks′ x ≡ n + 1
+      counted′ = ap (λ (m : List ℕ). stepCount m x) notes ∙ count-here marks (run .isMarks .whole) x n isX more _
 
-      added : marksOf marks′ x ≡ firstSteps marks x n ++ (lentStep locks plan owner offset effect ∷ [])
+      added : stepsMarked marks′ x ≡ firstSteps marks x n ++ (lentStep locks plan owner offset effect ∷ [])
       unfolding firstSteps
-      added = ap (λ (m : List ℕ). marksOf m x) notes ∙ mark-added marks (run .isMarks .whole) x n isX more _
+      added = ap (λ (m : List ℕ). stepsMarked m x) notes ∙ mark-added marks (run .isMarks .whole) x n isX more _
 
       first-added : firstSteps marks′ x (n + 1)
           ≡ firstSteps marks x n ++ (lentStep locks plan owner offset effect ∷ [])
-      unfolding firstSteps marksOf
-      first-added = ap (λ (c : ℕ). map (markAt marks′ x) (upTo c)) (sym counted′) ∙ added
+      unfolding firstSteps stepsMarked
+      first-added = ap (λ (c : ℕ). map (stepMarked marks′ x) (upTo c)) (sym counted′) ∙ added
 
       -- the steps and where the run stands, for an accepted table
       module _ {a : Accepted} {times : List ℕ} (held : Holds a program times locks k)
@@ -212,7 +212,7 @@ module _ {program : List ℕ} {locks : Ceilings} {plan : Plan} {k x start : ℕ}
             ∙ ap₂ (λ (s : List ℕ) (b : Bool). runStateIn k s (flagged b x flags) (offset + 2)) (sym puts) (sym either)
 
         ended-is : effect .ended ≡ true → wholeJob a plan x (runStateIn k stores₀ flags start)
-            ≡ passed (record { steps = marksOf marks′ x; running = after })
+            ≡ passed (record { steps = stepsMarked marks′ x; running = after })
         unfolding runStateIn afterSteps
         ended-is ends =
             run .runs a times held isJob flags
@@ -234,7 +234,7 @@ module _ {program : List ℕ} {locks : Ceilings} {plan : Plan} {k x start : ℕ}
             ∙ ap (λ (m : ℕ). afterSteps (firstSteps marks x n) (runJob a plan job m local previous before)) left
             ∙ ap (afterSteps (firstSteps marks x n))
             (step-goes a plan job (16 - (n + 1)) local previous before passes effect-is goes)
-            ∙ after-more _ _ _
+            ∙ made-more _ _ _
             ∙ ap₂ (λ (s : Step) (r : RunState). afterSteps (firstSteps marks x n ++ (s ∷ [])) (onward r)) made-is after-is
             ∙ ap (λ (l : List Step). afterSteps l (onward after)) (sym first-added)
 

@@ -21,9 +21,9 @@ use Rattle.machine.specs.Ends.{Flags, noFlags, flagged}
 use Rattle.plan.specs.Runs.{Plan, Step, RunState, JobRun, JobRuns, runJobs}
 use Rattle.marks.specs.declared.Fault.{Fault}
 use Rattle.marks.specs.declared.JobRan.{JobRan}
-use Rattle.marks.specs.Code.Marks.{runStateIn, marksOf, stepsIn, IsMarks}
+use Rattle.marks.specs.Code.Marks.{runStateIn, stepsMarked, stepsIn, IsMarks}
 use Rattle.marks.specs.Code.RunParts.{Holds, FaultIs, NoFault, JobRanAs, JobRanOf, JobsRanAs, JobsRanOf}
-use Rattle.marks.specs.Laws.MarkLaws.{values-snoc}
+use Rattle.notation.specs.Laws.TabulateLaws.{values-snoc}
 use Rattle.job_runs.specs.Laws.JobLaws.{wholeJob}
 
 -- ---- jobs before others
@@ -73,7 +73,7 @@ module _ (a : Accepted) (plan : Plan) (x : ℕ) (others : List Job) (running : R
   passed-first : (c : Checked ℕ JobRun) → wholeJob a plan x running ≡ c → JobRanAs k x flags stores marks r c
       → NoFault (r .fault)
       → runJobs a plan (job ∷ others) running
-      ≡ afterJobs (marksOf marks x ∷ [])
+      ≡ afterJobs (stepsMarked marks x ∷ [])
       (runJobs a plan others (runStateIn k stores (flagged (r .failed) x flags) (r .offset)))
   unfolding runJobs _>>=_
   passed-first (refused number place) is ran clear = absurd (omega (arith, ran .number-is, ran .numbered))
@@ -116,14 +116,14 @@ flags-kept true x flags = length-set flags x true
 flags-kept false x flags = refl
 
 -- the steps of the jobs up to x, where the run of x kept those of the others
-steps-more : (marks marks′ : List ℕ) (x : ℕ) → x < 32
-    → ((y : ℕ) → y < 32 → (y ≡ x → ⊥) → marksOf marks′ y ≡ marksOf marks y)
-    → stepsIn marks x ++ (marksOf marks′ x ∷ []) ≡ stepsIn marks′ (x + 1)
+made-more : (marks marks′ : List ℕ) (x : ℕ) → x < 32
+    → ((y : ℕ) → y < 32 → (y ≡ x → ⊥) → stepsMarked marks′ y ≡ stepsMarked marks y)
+    → stepsIn marks x ++ (stepsMarked marks′ x ∷ []) ≡ stepsIn marks′ (x + 1)
 unfolding stepsIn
-steps-more marks marks′ x isX others =
-    ap (λ (l : List (List Step)). l ++ (marksOf marks′ x ∷ []))
-    (same-values (marksOf marks) (marksOf marks′) x (λ y lt. sym (others y (omega arith) (λ e. omega arith))))
-    ∙ sym (values-snoc (marksOf marks′) x)
+made-more marks marks′ x isX others =
+    ap (λ (l : List (List Step)). l ++ (stepsMarked marks′ x ∷ []))
+    (same-values (stepsMarked marks) (stepsMarked marks′) x (λ y lt. sym (others y (omega arith) (λ e. omega arith))))
+    ∙ sym (values-snoc (stepsMarked marks′) x)
 
 module _ {program : List ℕ} {locks : Ceilings} {plan : Plan} {k : ℕ} {stores₀ stores marks : List ℕ} {failed : Flags}
     {offset x : ℕ} (run : JobsRunning program locks plan k stores₀ stores marks failed offset x)
@@ -205,5 +205,5 @@ module _ {program : List ℕ} {locks : Ceilings} {plan : Plan} {k : ℕ} {stores
           ∙ more-jobs _ _ _
           ∙ ap₂ (λ (l : List (List Step)) (f : Flags).
           afterJobs l (runJobs a plan (drop (x + 1) (jobNumbers a)) (runStateIn k stores′ f (r .offset))))
-          (steps-more marks marks′ x (omega arith) (one .others)) (sym raised));
+          (made-more marks marks′ x (omega arith) (one .others)) (sym raised));
     }

@@ -24,16 +24,16 @@ afterSteps made (refused number place) = refused number place
 afterSteps made (passed run) = passed (record { steps = made ++ run .steps; running = run .running })
 
 -- none, and some after others
-pub after-none : (c : Checked ℕ JobRun) → c ≡ afterSteps [] c
+pub made-none : (c : Checked ℕ JobRun) → c ≡ afterSteps [] c
 unfolding afterSteps
-after-none (refused number place) = refl
-after-none (passed run) = refl
+made-none (refused number place) = refl
+made-none (passed run) = refl
 
-pub after-more : (made more : List Step) (c : Checked ℕ JobRun)
+pub made-more : (made more : List Step) (c : Checked ℕ JobRun)
     → afterSteps made (afterSteps more c) ≡ afterSteps (made ++ more) c
 unfolding afterSteps
-after-more made more (refused number place) = refl
-after-more made more (passed run) =
+made-more made more (refused number place) = refl
+made-more made more (passed run) =
     ap (λ (l : List Step). passed (record { steps = l; running = run .running }))
     (sym (append-assoc made more (run .steps)))
 
@@ -70,27 +70,3 @@ module _ (a : Accepted) (plan : Plan) (x : Job) (left : ℕ) (local : Local) (pr
         (runJob a plan x left (effect .local) (roundAt plan (running .offset)) (runningAfter plan x running effect))
     unfolding runJob _>>_ if_then_else_ stepMade
     step-goes goes = rw (passes, is, goes) (rest-after _ _)
-
--- ---- a store stays as long as it is
-
-store-kept : (o : ℕ) (i : Instruction) (v : ℕ) (l : Local) (s : Store)
-    → length (getD operationEffects o endJob i v l s .store) ≡ length s
-unfolding operationEffects endJob loadVariable store setNumber add subtract skipLess skipEqual pick acquireLock
-    releaseLock assert
-store-kept zero i v l s = refl
-store-kept (suc zero) i v l s = refl
-store-kept (suc (suc zero)) i v l s = length-set s _ _
-store-kept (suc (suc (suc zero))) i v l s = refl
-store-kept (suc (suc (suc (suc zero)))) i v l s = refl
-store-kept (suc (suc (suc (suc (suc zero))))) i v l s = refl
-store-kept (suc (suc (suc (suc (suc (suc zero)))))) i v l s = refl
-store-kept (suc (suc (suc (suc (suc (suc (suc zero))))))) i v l s = refl
-store-kept (suc (suc (suc (suc (suc (suc (suc (suc zero)))))))) i v l s = refl
-store-kept (suc (suc (suc (suc (suc (suc (suc (suc (suc zero))))))))) i v l s = refl
-store-kept (suc (suc (suc (suc (suc (suc (suc (suc (suc (suc zero)))))))))) i v l s = refl
-store-kept (suc (suc (suc (suc (suc (suc (suc (suc (suc (suc (suc zero))))))))))) i v l s = refl
-store-kept (suc (suc (suc (suc (suc (suc (suc (suc (suc (suc (suc (suc o)))))))))))) i v l s = refl
-
-pub perform-length : (i : Instruction) (v : ℕ) (l : Local) (s : Store) → length (perform i v l s .store) ≡ length s
-unfolding perform
-perform-length i v l s = store-kept (i .operation) i v l s

@@ -28,7 +28,7 @@ use Rattle.states.specs.Code.StateBytes.{snapshotIn, IsState}
 use Rattle.lending.specs.Code.Lending.{LentOf}
 
 module _ {t : Table} {list : JobList} {program times : List ℕ} (start : List ℕ) (shaped : Shaped t) (owners : OwnersTo t list (list .count) program)
-    (held : TimesTo list 32 times) (first : snapshotIn start ≡ firstSnapshot program (t .store)) where
+    (held : TimesTo list (list .count) times) (first : snapshotIn start ≡ firstSnapshot program (t .store)) where
   holds : (a : Accepted) → IsAccepted a → t ≡ a .table → list ≡ jobListOf (a .jobs)
       → Lends a program times (record { count = t .locks; ceilings = t .ceilings })
   holds a ok table listed =

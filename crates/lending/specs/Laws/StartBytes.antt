@@ -8,12 +8,12 @@ use mathlib.Core.Bool.{false, not}
 use mathlib.Core.List.{List, map}
 use lib.ListN.{length, getD, replicate, length-replicate, getD-replicate}
 use lib.Dec.{eqb}
-use Rattle.notation.specs.Lists.{upTo}
+use Rattle.notation.specs.Lists.{upTo, bytesAt}
 use Rattle.machine.specs.Ends.{noFlags}
 use Rattle.machine.specs.Held.{noLocks}
 use Rattle.machine.specs.Instructions.{fresh}
 use Rattle.snapshots.specs.Code.SnapshotSteps.{noFrame, firstFrom, firstSnapshot}
-use Rattle.states.specs.Code.StateBytes.{bytesAt, frameAt, frameIn, flagIn, snapshotIn, IsState, Replaced}
+use Rattle.states.specs.Code.StateBytes.{frameAt, frameIn, flagIn, snapshotIn, IsState, Replaced}
 use Rattle.notation.specs.Laws.TabulateLaws.{values-length, values-are}
 
 -- n equal values

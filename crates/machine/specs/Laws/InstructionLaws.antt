@@ -93,3 +93,25 @@ pub perform-shaped : (i : Instruction) (v : ℕ) (l : Local) (s : Store) → Loc
     → LocalShaped (perform i v l s .local) (perform i v l s .store)
 unfolding perform
 perform-shaped i v l s h = shaped (i .operation) i v l s h
+
+-- each operation by its number leaves as many variables as it found
+stored-length : (o : ℕ) (i : Instruction) (v : ℕ) (l : Local) (s : Store)
+    → length (getD operationEffects o endJob i v l s .store) ≡ length s
+unfolding operationEffects endJob loadVariable store setNumber add subtract skipLess skipEqual pick acquireLock releaseLock assert
+stored-length zero i v l s = refl
+stored-length (suc zero) i v l s = refl
+stored-length (suc (suc zero)) i v l s = length-set s (i .a) (register l (i .b))
+stored-length (suc (suc (suc zero))) i v l s = refl
+stored-length (suc (suc (suc (suc zero)))) i v l s = refl
+stored-length (suc (suc (suc (suc (suc zero))))) i v l s = refl
+stored-length (suc (suc (suc (suc (suc (suc zero)))))) i v l s = refl
+stored-length (suc (suc (suc (suc (suc (suc (suc zero))))))) i v l s = refl
+stored-length (suc (suc (suc (suc (suc (suc (suc (suc zero)))))))) i v l s = refl
+stored-length (suc (suc (suc (suc (suc (suc (suc (suc (suc zero))))))))) i v l s = refl
+stored-length (suc (suc (suc (suc (suc (suc (suc (suc (suc (suc zero)))))))))) i v l s = refl
+stored-length (suc (suc (suc (suc (suc (suc (suc (suc (suc (suc (suc zero))))))))))) i v l s = refl
+stored-length (suc (suc (suc (suc (suc (suc (suc (suc (suc (suc (suc (suc o)))))))))))) i v l s = refl
+
+pub perform-length : (i : Instruction) (v : ℕ) (l : Local) (s : Store) → length (perform i v l s .store) ≡ length s
+unfolding perform
+perform-length i v l s = stored-length (i .operation) i v l s

@@ -8,12 +8,11 @@ use mathlib.Core.List.{List, map}
 use lib.ListN.{length, getD, set}
 use lib.Seq.{paste}
 use Rattle.notation.specs.Checked.{Checked, refused, passed}
-use Rattle.notation.specs.Lists.{upTo}
+use Rattle.notation.specs.Lists.{upTo, bytesAt}
 use Rattle.machine.specs.Ends.{Flags}
 use Rattle.machine.specs.Instructions.{Store}
 use Rattle.plan.specs.declared.Round.{Round}
 use Rattle.plan.specs.Runs.{Step, RunState}
-use Rattle.states.specs.Code.StateBytes.{bytesAt}
 use Rattle.marks.specs.declared.Fault.{Fault}
 
 -- ---- a fault
@@ -44,8 +43,8 @@ runStateIn k stores failed offset = record { offset = offset; stores = storesIn 
 -- ---- the marks of the steps
 
 -- step n of job x
-unfoldable pub markAt : List ℕ → ℕ → ℕ → Step
-markAt marks x n =
+unfoldable pub stepMarked : List ℕ → ℕ → ℕ → Step
+stepMarked marks x n =
     record {
       round = record { 0 = getD marks (16 * x + n) 0 };
       value = getD marks (512 + (16 * x + n)) 0;
@@ -53,19 +52,19 @@ markAt marks x n =
     }
 
 -- how many steps job x has
-unfoldable pub countAt : List ℕ → ℕ → ℕ
-countAt marks x = getD marks (1536 + x) 0
+unfoldable pub stepCount : List ℕ → ℕ → ℕ
+stepCount marks x = getD marks (1536 + x) 0
 
 -- the steps of job x, and their rounds
-unfoldable pub marksOf : List ℕ → ℕ → List Step
-marksOf marks x = map (markAt marks x) (upTo (countAt marks x))
+unfoldable pub stepsMarked : List ℕ → ℕ → List Step
+stepsMarked marks x = map (stepMarked marks x) (upTo (stepCount marks x))
 
 unfoldable pub roundsIn : List ℕ → ℕ → List Round
-roundsIn marks x = map (λ step. step .round) (marksOf marks x)
+roundsIn marks x = map (λ step. step .round) (stepsMarked marks x)
 
 -- the steps of the first k jobs
 unfoldable pub stepsIn : List ℕ → ℕ → List (List Step)
-stepsIn marks k = map (marksOf marks) (upTo k)
+stepsIn marks k = map (stepsMarked marks) (upTo k)
 
 -- the marks with step n of job x as its last
 unfoldable pub withMark : List ℕ → ℕ → ℕ → Step → List ℕ
@@ -76,4 +75,4 @@ withMark marks x n step =
 -- the array of marks is whole, and no job has more than sixteen steps
 pub record IsMarks (marks : List ℕ) : Type 0 where
   pub whole : length marks ≡ 1568
-  pub few : (x : ℕ) → x < 32 → countAt marks x ≤ 16
+  pub few : (x : ℕ) → x < 32 → stepCount marks x ≤ 16

@@ -14,28 +14,28 @@ use Rattle.plan.specs.declared.Round.{Round}
 use Rattle.plan.specs.Legality.{Pair}
 use Rattle.plan.specs.Runs.{Plan, firstRound, earlier, notLater, guess}
 use Rattle.snapshots.specs.Code.SnapshotSteps.{Program, LentTimes, ownerIn, beforeIn, preemptsIn}
-use Rattle.marks.specs.Code.Marks.{storesIn, marksOf, roundsIn}
+use Rattle.marks.specs.Code.Marks.{storesIn, stepsMarked, roundsIn}
 
 -- ---- two jobs
 
-unfoldable pub startRound : List ℕ → ℕ → Round
-startRound marks x = firstOr firstRound (roundsIn marks x)
+unfoldable pub roundOfStart : List ℕ → ℕ → Round
+roundOfStart marks x = firstOr firstRound (roundsIn marks x)
 
-unfoldable pub endRound : List ℕ → ℕ → Round
-endRound marks x = lastOr firstRound (roundsIn marks x)
+unfoldable pub roundOfEnd : List ℕ → ℕ → Round
+roundOfEnd marks x = lastOr firstRound (roundsIn marks x)
 
 unfoldable pub beforeKept : Program → LentTimes → List ℕ → ℕ → ℕ → Bool
 beforeKept program times marks x y =
-    not (beforeIn program times x y) || earlier (endRound marks x) (startRound marks y)
+    not (beforeIn program times x y) || earlier (roundOfEnd marks x) (roundOfStart marks y)
 
 unfoldable pub roundsApart : List ℕ → ℕ → ℕ → Bool
 roundsApart marks x y =
-    earlier (endRound marks x) (startRound marks y) || earlier (endRound marks y) (startRound marks x)
+    earlier (roundOfEnd marks x) (roundOfStart marks y) || earlier (roundOfEnd marks y) (roundOfStart marks x)
 
 -- y is nested in x
 unfoldable pub roundsNested : List ℕ → ℕ → ℕ → Bool
 roundsNested marks y x =
-    notLater (startRound marks x) (startRound marks y) && earlier (endRound marks y) (endRound marks x)
+    notLater (roundOfStart marks x) (roundOfStart marks y) && earlier (roundOfEnd marks y) (roundOfEnd marks x)
 
 -- x has no step in rounds r + 1 to q
 unfoldable pub noneWithin : List ℕ → ℕ → Round → Round → Bool
@@ -45,17 +45,17 @@ unfoldable pub preemptKept : Program → LentTimes → List ℕ → ℕ → ℕ 
 preemptKept program times marks y x =
     not (preemptsIn program times y x)
     || roundsApart marks x y
-    || roundsNested marks y x && noneWithin marks x (startRound marks y) (endRound marks y)
+    || roundsNested marks y x && noneWithin marks x (roundOfStart marks y) (roundOfEnd marks y)
 
 -- x's priority after its steps up to round r, where its base is this
-unfoldable pub priorityUpTo : List ℕ → ℕ → ℕ → Round → ℕ
-priorityUpTo marks base x r =
-    lastOr base (map (λ step. step .priorityAfter) (only (λ step. notLater (step .round) r) (marksOf marks x)))
+unfoldable pub priorityReached : List ℕ → ℕ → ℕ → Round → ℕ
+priorityReached marks base x r =
+    lastOr base (map (λ step. step .priorityAfter) (only (λ step. notLater (step .round) r) (stepsMarked marks x)))
 
 unfoldable pub lockKept : Program → LentTimes → List ℕ → ℕ → ℕ → Bool
 lockKept program times marks y x =
     not (preemptsIn program times y x && roundsNested marks y x)
-    || ltb (priorityUpTo marks (ownerIn program x) x (startRound marks y)) (ownerIn program y)
+    || ltb (priorityReached marks (ownerIn program x) x (roundOfStart marks y)) (ownerIn program y)
 
 unfoldable pub orderFaulty : Program → LentTimes → List ℕ → ℕ → ℕ → Bool
 orderFaulty program times marks x y =

@@ -25,7 +25,7 @@ use Rattle.marks.specs.declared.Fault.{Fault}
 use Rattle.marks.specs.declared.JobRan.{JobRan}
 use Rattle.marks.specs.declared.JobsRan.{JobsRan}
 use Rattle.marks.specs.declared.PlanRan.{PlanRan}
-use Rattle.marks.specs.Code.Marks.{storesIn, runStateIn, marksOf, stepsIn, IsMarks}
+use Rattle.marks.specs.Code.Marks.{storesIn, runStateIn, stepsMarked, stepsIn, IsMarks}
 
 -- the lent arrays hold an accepted table of k jobs
 pub record Holds (a : Accepted) (program times : List ℕ) (locks : Ceilings) (k : ℕ) : Type 0 where
@@ -57,7 +57,7 @@ abbrev pub JobRanAs : ℕ → ℕ → Flags → List ℕ → List ℕ → JobRan
 JobRanAs k x failed stores marks r (refused number place) = FaultIs (r .fault) number place
 JobRanAs k x failed stores marks r (passed run) =
     NoFault (r .fault)
-    × (run .steps ≡ marksOf marks x)
+    × (run .steps ≡ stepsMarked marks x)
     × (run .running ≡ runStateIn k stores (flagged (r .failed) x failed) (r .offset))
 
 -- a job's run over lent arrays, from an offset on: `stores` and `marks` before it, `stores′` and `marks′` after it
@@ -66,7 +66,7 @@ pub record JobRanOf (program : List ℕ) (locks : Ceilings) (plan : Plan) (k x s
   pub room : length stores′ ≡ length stores
   pub isMarks : IsMarks marks′
   -- the marks of other jobs are kept
-  pub others : (y : ℕ) → y < 32 → (y ≡ x → ⊥) → marksOf marks′ y ≡ marksOf marks y
+  pub others : (y : ℕ) → y < 32 → (y ≡ x → ⊥) → stepsMarked marks′ y ≡ stepsMarked marks y
   pub near : r .offset ≤ start + 32
   pub ran : (a : Accepted) (times : List ℕ) → Holds a program times locks k → IsJob a (record { 0 = x })
       → (failed : Flags)

@@ -9,19 +9,9 @@ use mathlib.Core.List.{List, [], _∷_, _++_, map}
 use lib.ListN.{length, getD, set, replicate, length-set, length-replicate, getD-replicate}
 use lib.Seq.{getD-set-same, getD-set-other}
 use Rattle.notation.specs.Lists.{from, upTo}
-use Rattle.notation.specs.Laws.ListLaws.{from-snoc, map-snoc}
-use Rattle.notation.specs.Laws.TabulateLaws.{same-values}
+use Rattle.notation.specs.Laws.TabulateLaws.{same-values, values-snoc}
 use Rattle.plan.specs.Runs.{Step}
-use Rattle.marks.specs.Code.Marks.{markAt, countAt, marksOf, withMark, IsMarks}
-
--- one number more at the end
-pub values-snoc : {A : Type 0} (f : ℕ → A) (n : ℕ) → map f (upTo (n + 1)) ≡ map f (upTo n) ++ (f n ∷ [])
-unfolding upTo
-values-snoc {A} f n =
-    ap (λ (k : ℕ). map f (from 0 k)) (add-one n)
-    ∙ ap (map f) (from-snoc 0 n)
-    ∙ map-snoc f (from 0 n) (0 + n)
-    ∙ ap (λ (k : ℕ). map f (from 0 n) ++ (f k ∷ [])) (omega arith)
+use Rattle.marks.specs.Code.Marks.{stepMarked, stepCount, stepsMarked, withMark, IsMarks}
 
 pub mark-length : (marks : List ℕ) (x n : ℕ) (step : Step) → length (withMark marks x n step) ≡ length marks
 unfolding withMark
@@ -78,25 +68,25 @@ module _ (marks : List ℕ) (whole : length marks ≡ 1568) (x n : ℕ) (isX : x
       ∙ getD-set-same after₂ (1024 + (16 * x + n)) (step .priorityAfter) 0 (omega (arith, long₂))
 
   -- the job has n + 1 steps
-  pub count-here : countAt (withMark marks x n step) x ≡ n + 1
-  unfolding countAt withMark
+  pub count-here : stepCount (withMark marks x n step) x ≡ n + 1
+  unfolding stepCount withMark
   count-here = getD-set-same after₃ (1536 + x) (n + 1) 0 (omega (arith, long₃))
 
   -- another job has as many as it had
-  pub count-other : (y : ℕ) → y < 32 → (y ≡ x → ⊥) → countAt (withMark marks x n step) y ≡ countAt marks y
-  unfolding countAt
+  pub count-other : (y : ℕ) → y < 32 → (y ≡ x → ⊥) → stepCount (withMark marks x n step) y ≡ stepCount marks y
+  unfolding stepCount
   count-other y isY apart =
       place-kept (1536 + y) (λ e. omega arith) (λ e. omega arith) (λ e. omega arith) (λ e. apart (omega arith))
 
   -- the step stands in its place
-  pub mark-here : markAt (withMark marks x n step) x n ≡ step
-  unfolding markAt
+  pub mark-here : stepMarked (withMark marks x n step) x n ≡ step
+  unfolding stepMarked
   mark-here = rw (round-here, value-here, priority-here) refl
 
   -- a step in another place is kept
   pub mark-kept : (y m : ℕ) → y < 32 → m < 16 → (16 * y + m ≡ 16 * x + n → ⊥)
-      → markAt (withMark marks x n step) y m ≡ markAt marks y m
-  unfolding markAt
+      → stepMarked (withMark marks x n step) y m ≡ stepMarked marks y m
+  unfolding stepMarked
   mark-kept y m isY isM apart =
       rw (
         place-kept (16 * y + m) apart (λ e. omega arith) (λ e. omega arith) (λ e. omega arith),
@@ -105,22 +95,22 @@ module _ (marks : List ℕ) (whole : length marks ≡ 1568) (x n : ℕ) (isX : x
       ) refl
 
   -- the job has its first n steps and then this one
-  pub mark-added : marksOf (withMark marks x n step) x ≡ map (markAt marks x) (upTo n) ++ (step ∷ [])
-  unfolding marksOf
+  pub mark-added : stepsMarked (withMark marks x n step) x ≡ map (stepMarked marks x) (upTo n) ++ (step ∷ [])
+  unfolding stepsMarked
   mark-added =
-      rw count-here (values-snoc (markAt (withMark marks x n step) x) n
+      rw count-here (values-snoc (stepMarked (withMark marks x n step) x) n
       ∙ rw (
         mark-here,
-        same-values (markAt (withMark marks x n step) x) (markAt marks x) n
+        same-values (stepMarked (withMark marks x n step) x) (stepMarked marks x) n
             (λ m lt. mark-kept x m isX (omega arith) (λ e. omega arith)),
       ) refl)
 
   -- the other jobs have the steps that they had
-  pub mark-others : (y : ℕ) → y < 32 → (y ≡ x → ⊥) → countAt marks y ≤ 16
-      → marksOf (withMark marks x n step) y ≡ marksOf marks y
-  unfolding marksOf
+  pub mark-others : (y : ℕ) → y < 32 → (y ≡ x → ⊥) → stepCount marks y ≤ 16
+      → stepsMarked (withMark marks x n step) y ≡ stepsMarked marks y
+  unfolding stepsMarked
   mark-others y isY apart few =
-      rw (count-other y isY apart) (same-values (markAt (withMark marks x n step) y) (markAt marks y) (countAt marks y)
+      rw (count-other y isY apart) (same-values (stepMarked (withMark marks x n step) y) (stepMarked marks y) (stepCount marks y)
       (λ m lt. mark-kept y m isY (omega arith) (λ e. apart (omega arith))))
 
 -- the array stays whole
@@ -135,8 +125,8 @@ mark-whole {marks} isMarks x n isX isN step = record {
 }
 
 -- an array of zeros has no marks
-none-counted : (x : ℕ) → x < 32 → countAt (replicate 1568 0) x ≡ 0
-unfolding countAt
+none-counted : (x : ℕ) → x < 32 → stepCount (replicate 1568 0) x ≡ 0
+unfolding stepCount
 none-counted x isX = getD-replicate 1568 (1536 + x) 0 0 (omega arith)
 
 pub no-marks : IsMarks (replicate 1568 0)
@@ -145,6 +135,6 @@ no-marks = record {
   few = λ x isX. rw (none-counted x isX) (omega arith);
 }
 
-pub no-marks-of : (x : ℕ) → x < 32 → marksOf (replicate 1568 0) x ≡ []
-unfolding marksOf upTo from
+pub no-marks-of : (x : ℕ) → x < 32 → stepsMarked (replicate 1568 0) x ≡ []
+unfolding stepsMarked upTo from
 no-marks-of x isX = rw (none-counted x isX) refl

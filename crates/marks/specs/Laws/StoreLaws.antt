@@ -8,14 +8,13 @@ use native.Mathlib.Omega.{arith}
 use mathlib.Core.List.{List, _++_, map, append-assoc}
 use lib.ListN.{length, getD, set, take, drop, length-drop, List·getD-append}
 use lib.Seq.{paste, length-paste, length-paste-head, drop-paste, length-take-le, getD-take, getD-drop, drop-at, take-add}
-use Rattle.notation.specs.Lists.{from, upTo, each}
+use Rattle.notation.specs.Lists.{from, upTo, each, bytesAt}
 use Rattle.notation.specs.Laws.ElementLaws.{each-snoc}
 use Rattle.notation.specs.Laws.ListLaws.{each-map}
 use Rattle.notation.specs.Laws.TabulateLaws.{values-length, values-at, values-are, values-of, same-values, set-values}
 use Rattle.machine.specs.Ends.{noStore}
 use Rattle.machine.specs.Instructions.{Store}
 use Rattle.plan.specs.Runs.{Plan, guess}
-use Rattle.states.specs.Code.StateBytes.{bytesAt}
 use Rattle.marks.specs.Code.Marks.{storeAt, storesIn, withStore}
 
 -- bytes of a list are a part of it

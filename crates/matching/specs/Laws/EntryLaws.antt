@@ -23,7 +23,9 @@ use Rattle.plan.specs.Runs.{Plan}
 use Rattle.matching.specs.ConversionEntries.{plannedOrder, orderToPlanAnswer, orderedPlan, planToOrderAnswer, AnswersEnd, planLeft, orderLeft}
 use Rattle.matching.specs.Conversions.{orderToPlan, planToOrder}
 use Rattle.matching.specs.Demand3.{OrderGives, PlanGives, Demand3, demand3}
-use Rattle.matching.specs.Laws.NumberedLaws.{Numbered, by-number, replay-numbered, order-numbered, check-numbered, plan-numbered}
+use Rattle.notation.specs.Laws.NumberedLaws.{Numbered, by-number}
+use Rattle.matching.specs.Laws.RefusalLaws.{replay-numbered, order-numbered, plan-numbered}
+use Rattle.plan.specs.Laws.PlanRefusals.{check-numbered}
 use Rattle.matching.specs.Laws.WrittenLaws.{plan-stands, order-stands}
 
 -- ---- an answer with number 0
@@ -67,7 +69,7 @@ module _ (f : File) {a : Accepted} (isAccepted : accept f ≡ passed a) where
   replay-answers order e = (
     λ x.
         let full = replay-complete (file-accepted f isAccepted) order
-            (answers-ended (replay a order) (replay-numbered a order) (rw (replay-is order) at x)) in
+        (answers-ended (replay a order) (replay-numbered a order) (rw (replay-is order) at x)) in
         record { after = full .0; complete = full .1; ends = full .2 },
     λ full. ended-answers (replayed f order)
         (replay-is order ∙ complete-ends (file-accepted f isAccepted) (full .complete) ∙ ap passed (full .ends)),

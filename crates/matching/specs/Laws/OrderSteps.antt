@@ -27,6 +27,7 @@ use Rattle.order.specs.Laws.StepLaws.{GoodTurn, good-turn, afterEffect, Allowed
 use Rattle.plan.specs.Runs.{jobTotal}
 use Rattle.matching.specs.Laws.AdvanceLaws.{turnStep, roundAdvanced, madeAfter}
 use Rattle.matching.specs.Laws.ColumnLaws.{round-elsewhere, run-snoc, columns-frame}
+use Rattle.machine.specs.Laws.InstructionLaws.{perform-length}
 use Rattle.matching.specs.Laws.Histories.{Mark, Marks, job, marked, inRound, JobColumn, unbegun, ColumnRun, stepped, markStep, runMarks, Columns, columns}
 use Rattle.matching.specs.Laws.MadeLaws.{made-here, made-other}
 use Rattle.matching.specs.Laws.MovedLaws.{markAt, round-open, moved-listed, has-column, moved-above, agree-turn, ownColumn, columns-moved}
@@ -43,28 +44,6 @@ use Rattle.matching.specs.Laws.TraceSteps.{Trace, traced}
 use Rattle.matching.specs.Laws.TurnTraceLaws.{GoesOn, Starts, turn-kind, step-after, step-failed}
 
 -- ---- one instruction, one job's rounds
-
--- each operation by its number leaves as many variables as it found
-stored-length : (o : ℕ) (i : Instruction) (v : ℕ) (l : Local) (s : Store)
-    → length (getD operationEffects o endJob i v l s .store) ≡ length s
-unfolding operationEffects endJob loadVariable store setNumber add subtract skipLess skipEqual pick acquireLock releaseLock assert
-stored-length zero i v l s = refl
-stored-length (suc zero) i v l s = refl
-stored-length (suc (suc zero)) i v l s = length-set s _ _
-stored-length (suc (suc (suc zero))) i v l s = refl
-stored-length (suc (suc (suc (suc zero)))) i v l s = refl
-stored-length (suc (suc (suc (suc (suc zero))))) i v l s = refl
-stored-length (suc (suc (suc (suc (suc (suc zero)))))) i v l s = refl
-stored-length (suc (suc (suc (suc (suc (suc (suc zero))))))) i v l s = refl
-stored-length (suc (suc (suc (suc (suc (suc (suc (suc zero)))))))) i v l s = refl
-stored-length (suc (suc (suc (suc (suc (suc (suc (suc (suc zero))))))))) i v l s = refl
-stored-length (suc (suc (suc (suc (suc (suc (suc (suc (suc (suc zero)))))))))) i v l s = refl
-stored-length (suc (suc (suc (suc (suc (suc (suc (suc (suc (suc (suc zero))))))))))) i v l s = refl
-stored-length (suc (suc (suc (suc (suc (suc (suc (suc (suc (suc (suc (suc o)))))))))))) i v l s = refl
-
-pub perform-length : (i : Instruction) (v : ℕ) (l : Local) (s : Store) → length (perform i v l s .store) ≡ length s
-unfolding perform
-perform-length i v l s = stored-length (i .operation) i v l s
 
 -- a step is in a round up to r where none is in a later one
 round-within : (r : ℕ) (m : Mark) (ms : List Mark) → ((q : ℕ) → r < q → inRound q (m ∷ ms) ≡ []) → m .round ≤ r

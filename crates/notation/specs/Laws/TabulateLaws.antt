@@ -1,14 +1,15 @@
 -- The list of a function's values at 0 to n - 1.
 -- Assumes nothing.
 use mathlib.Core.Path.{_≡_, refl, sym, ap, _∙_}
-use Prim.Native.Nat.{ℕ, _<_}
+use Prim.Native.Nat.{ℕ, _+_, _<_}
 use native.Mathlib.Decide.{ℕ-discrete}
 use native.Mathlib.Omega.{arith}
-use mathlib.Core.List.{List, [], _∷_, map}
+use native.Mathlib.Numerals.{add-one}
+use mathlib.Core.List.{List, [], _∷_, _++_, map}
 use lib.ListN.{length, getD, set, length-set}
 use lib.Seq.{ext-getD, getD-set-same, getD-set-other}
-use Rattle.notation.specs.Laws.ListLaws.{upTo-length, getD-upTo}
-use Rattle.notation.specs.Lists.{from, upTo}
+use Rattle.notation.specs.Laws.ListLaws.{upTo-length, getD-upTo, from-snoc, map-snoc}
+use Rattle.notation.specs.Lists.{from, upTo, bytesAt}
 use Rattle.notation.specs.Laws.QuantifierLaws.{map-length, map-at}
 
 pub values-length : {A : Type 0} (f : ℕ → A) (n : ℕ) → length (map f (upTo n)) ≡ n
@@ -62,3 +63,23 @@ set-values f g n i v here agree =
               ∙ ap (λ (j : ℕ). getD (set (map g (upTo n)) i v) j v) (sym same)
           | no apart ↦ agree k small apart ∙ sym (getD-set-other (map g (upTo n)) i k v v apart ∙ values-at g n k v small)
         ]
+
+-- one number more at the end
+pub values-snoc : {A : Type 0} (f : ℕ → A) (n : ℕ) → map f (upTo (n + 1)) ≡ map f (upTo n) ++ (f n ∷ [])
+unfolding upTo
+values-snoc {A} f n =
+    ap (λ (k : ℕ). map f (from 0 k)) (add-one n)
+    ∙ ap (map f) (from-snoc 0 n)
+    ∙ map-snoc f (from 0 n) (0 + n)
+    ∙ ap (λ (k : ℕ). map f (from 0 n) ++ (f k ∷ [])) (omega arith)
+
+-- ---- the numbers of a list from a place on
+
+module _ (bytes : List ℕ) where
+  pub bytesAt-length : (a n : ℕ) → length (bytesAt bytes a n) ≡ n
+  unfolding bytesAt
+  bytesAt-length a n = values-length (λ k. getD bytes (a + k) 0) n
+
+  pub bytesAt-at : (a n k d : ℕ) → k < n → getD (bytesAt bytes a n) k d ≡ getD bytes (a + k) 0
+  unfolding bytesAt
+  bytesAt-at a n k d lt = values-at (λ k. getD bytes (a + k) 0) n k d lt

@@ -14,11 +14,11 @@ use Rattle.machine.specs.Buffers.{planRoom, filled}
 use Rattle.order.specs.Orders.{Complete}
 use Rattle.order.specs.States.{State}
 use Rattle.matching.specs.Conversions.{planOf}
-use Rattle.marks.specs.Code.Marks.{marksOf}
+use Rattle.marks.specs.Code.Marks.{stepsMarked}
 
 -- the bytes of job x: for each of its steps its round and its value
 unfoldable pub jobColumn : List ℕ → ℕ → List ℕ
-jobColumn marks x = each (marksOf marks x) (λ step. step .round .0 ∷ step .value ∷ [])
+jobColumn marks x = each (stepsMarked marks x) (λ step. step .round .0 ∷ step .value ∷ [])
 
 -- those of k jobs
 unfoldable pub columnsIn : List ℕ → ℕ → List ℕ

@@ -15,7 +15,7 @@ use Rattle.snapshots.specs.declared.Due.{Due}
 use Rattle.snapshots.specs.Code.Snapshots.{Snapshot}
 use Rattle.snapshots.specs.Code.SnapshotSteps.{Program, LentTimes, turnIn, madeIn}
 use Rattle.states.specs.Code.StateBytes.{snapshotIn, IsState}
-use Rattle.marks.specs.Code.Marks.{countAt, withMark, withStore, IsMarks}
+use Rattle.marks.specs.Code.Marks.{stepCount, withMark, withStore, IsMarks}
 
 -- where a traced order stands: its state, its round, the marks of its steps and the guesses so far
 pub record TraceState : Type 0 where
@@ -27,8 +27,8 @@ pub record TraceState : Type 0 where
 -- the marks with one step more of job x, if it has room for one
 unfoldable pub noteIn : List ℕ → ℕ → Round → ℕ → List ℕ
 noteIn marks x r value =
-    if ltb (countAt marks x) 16
-    then withMark marks x (countAt marks x) (record { round = r; value = value; priorityAfter = 0 })
+    if ltb (stepCount marks x) 16
+    then withMark marks x (stepCount marks x) (record { round = r; value = value; priorityAfter = 0 })
     else marks
 
 -- the guesses with the store where the round after r begins, and that round, of 32
@@ -79,13 +79,13 @@ pub record AreNoted (s marks guesses : List ℕ) : Type 0 where
   pub room : length guesses ≡ 256
 
 -- what a byte's step leaves
-pub record StepNoted (program times : List ℕ) (locks : Ceilings) (n : TraceState) (byte : ℕ) (s marks guesses : List ℕ)
+pub record NotedStep (program times : List ℕ) (locks : Ceilings) (n : TraceState) (byte : ℕ) (s marks guesses : List ℕ)
     (r : Round) : Type 0 where
   pub whole : AreNoted s marks guesses
   pub is : notedOf s r marks guesses ≡ stepNoted program times locks n byte
 
 -- what an order leaves
-pub record OrderNoted (program times : List ℕ) (locks : Ceilings) (n : TraceState) (order marks guesses : List ℕ)
+pub record NotedOrder (program times : List ℕ) (locks : Ceilings) (n : TraceState) (order marks guesses : List ℕ)
     : Type 0 where
   pub isMarks : IsMarks marks
   pub room : length guesses ≡ 256

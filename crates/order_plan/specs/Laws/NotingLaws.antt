@@ -10,7 +10,7 @@ use mathlib.Core.List.{List}
 use lib.ListN.{length, getD, drop, drop-of-length-le}
 use lib.Seq.{drop-cons}
 use borrow.Author.Tests.{lt-ltb, le-ltb, eq-eqb, ne-eqb, not-true, not-false}
-use Rattle.notation.specs.Lists.{if_then_else_}
+use Rattle.notation.specs.Lists.{if_then_else_, bytesAt}
 use Rattle.notation.specs.Laws.TabulateLaws.{values-length}
 use Rattle.taskfile.specs.declared.Ceilings.{Ceilings}
 use Rattle.machine.specs.Instructions.{Store}
@@ -18,34 +18,34 @@ use Rattle.plan.specs.declared.Round.{Round}
 use Rattle.snapshots.specs.declared.Due.{Due}
 use Rattle.snapshots.specs.Code.Snapshots.{Snapshot}
 use Rattle.snapshots.specs.Code.SnapshotSteps.{turnIn, madeIn}
-use Rattle.states.specs.Code.StateBytes.{bytesAt, snapshotIn, IsState}
-use Rattle.marks.specs.Code.Marks.{countAt, withMark, withStore, IsMarks}
+use Rattle.states.specs.Code.StateBytes.{snapshotIn, IsState}
+use Rattle.marks.specs.Code.Marks.{stepCount, withMark, withStore, IsMarks}
 use Rattle.marks.specs.Laws.MarkLaws.{mark-whole}
 use Rattle.marks.specs.Laws.StoreLaws.{put-length}
 use Rattle.order_plan.specs.Code.Tracing.{TraceState, noteIn, guessIn, roundIn, notedIn, dueNoted, stepNoted, orderNoted, notedOf, AreNoted}
 
 -- ---- a mark
 
-module _ (marks : List ℕ) (x : ℕ) (r : Round) (value : ℕ) {n : ℕ} (counted : n ≡ countAt marks x) where
+module _ (marks : List ℕ) (x : ℕ) (r : Round) (value : ℕ) {n : ℕ} (counted : n ≡ stepCount marks x) where
   pub note-room : n < 16 → {after : List ℕ}
       → after ≡ withMark marks x n (record { round = r; value = value; priorityAfter = 0 })
       → after ≡ noteIn marks x r value
   unfolding noteIn if_then_else_
   note-room lt is =
       is ∙ ap (λ (k : ℕ). withMark marks x k (record { round = r; value = value; priorityAfter = 0 })) counted
-      ∙ rw (lt-ltb (countAt marks x) 16 (omega (arith, counted))) refl
+      ∙ rw (lt-ltb (stepCount marks x) 16 (omega (arith, counted))) refl
 
   pub note-full : 16 ≤ n → marks ≡ noteIn marks x r value
   unfolding noteIn if_then_else_
-  note-full le = rw (le-ltb (countAt marks x) 16 (omega (arith, counted))) refl
+  note-full le = rw (le-ltb (stepCount marks x) 16 (omega (arith, counted))) refl
 
 pub note-whole : {marks : List ℕ} → IsMarks marks → (x : ℕ) (r : Round) (value : ℕ) → x < 32
     → IsMarks (noteIn marks x r value)
 unfolding noteIn if_then_else_
 note-whole {marks} isMarks x r value lt =
-    elim (decLt (countAt marks x) 16) [
-      | yes room ↦ rw (lt-ltb (countAt marks x) 16 room) (mark-whole isMarks x (countAt marks x) lt room _)
-      | no full ↦ rw (le-ltb (countAt marks x) 16 (omega arith)) isMarks
+    elim (decLt (stepCount marks x) 16) [
+      | yes room ↦ rw (lt-ltb (stepCount marks x) 16 room) (mark-whole isMarks x (stepCount marks x) lt room _)
+      | no full ↦ rw (le-ltb (stepCount marks x) 16 (omega arith)) isMarks
     ]
 
 -- ---- the next round
@@ -97,8 +97,8 @@ module _ (program times : List ℕ) (locks : Ceilings) (s : List ℕ) (r : Round
 
     -- a step is made
     module _ (lt : d .frame .local .next < 16) (s′ : List ℕ)
-        (made : snapshotIn s′ ≡ madeIn program (snapshotIn s) (d .frame) (d .under) (byte / 16) (byte % 16)) {marks′ : List ℕ}
-        (marked : marks′ ≡ noteIn marks (d .frame .job .0) r (byte % 16)) where
+        (made : snapshotIn s′ ≡ madeIn program (snapshotIn s) (d .frame) (d .under) (byte / 16) (byte % 16))
+        {marks′ : List ℕ} (marked : marks′ ≡ noteIn marks (d .frame .job .0) r (byte % 16)) where
       step-is : stepNoted program times locks n byte ≡ notedIn (snapshotIn s′) (d .under) (d .frame .job) (byte % 16) n
       unfolding dueNoted if_then_else_
       step-is =
@@ -114,7 +114,8 @@ module _ (program times : List ℕ) (locks : Ceilings) (s : List ℕ) (r : Round
       noting-ends ends next = sym (step-is ∙ rw (eq-eqb _ _ ends, sym marked, sym (next .0), sym (next .1)) refl)
 
       -- or does not
-      pub noting-goes : (getD s′ 48 0 ≡ d .under → ⊥) → notedOf s′ r marks′ guesses ≡ stepNoted program times locks n byte
+      pub noting-goes : (getD s′ 48 0 ≡ d .under → ⊥)
+          → notedOf s′ r marks′ guesses ≡ stepNoted program times locks n byte
       unfolding notedIn if_then_else_ snapshotIn
       noting-goes goes = sym (step-is ∙ rw (ne-eqb _ _ goes, sym marked) refl)
 
@@ -132,7 +133,8 @@ Reaches program times locks start order n index =
 
 module _ (program times : List ℕ) (locks : Ceilings) (start : TraceState) (order : List ℕ) (n : TraceState) (index : ℕ)
     (reached : Reaches program times locks start order n index) where
-  pub reaches-next : index < length order → {after : TraceState} → after ≡ stepNoted program times locks n (getD order index 0)
+  pub reaches-next : index < length order → {after : TraceState}
+      → after ≡ stepNoted program times locks n (getD order index 0)
       → Reaches program times locks start order after (index + 1)
   unfolding orderNoted
   reaches-next lt {after} e =

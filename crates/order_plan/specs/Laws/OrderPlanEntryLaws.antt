@@ -43,7 +43,7 @@ use Rattle.writing.specs.Laws.WritingLaws.{appends-within, appends-count, appen
 use Rattle.marks.specs.Code.Marks.{withStore}
 use Rattle.marks.specs.Laws.StoreLaws.{put-length}
 use Rattle.order_plan.specs.Code.Columns.{planIn, PlanWritten}
-use Rattle.order_plan.specs.Code.Tracing.{notedOf, OrderNoted}
+use Rattle.order_plan.specs.Code.Tracing.{notedOf, NotedOrder}
 use Rattle.order_plan.specs.Laws.PutLaws.{Puts}
 use Rattle.order_plan.specs.Laws.PlanAgreed.{noMarks, firstGuesses, plan-noted, plan-short}
 
@@ -58,7 +58,7 @@ guesses-begin store eight begins =
 
 module _ {t : Table} {list : JobList} {l : Lent} (order before : List ℕ) (lent : LentOf t list l) (enough : 1281 ≤ length before)
     {first : List ℕ} (begins : first ≡ withStore (replicate 256 0) 0 (t .store)) {marks guesses : List ℕ}
-    (noted : OrderNoted (l .program) (l .times) (l .locks) (notedOf (l .start) (record { 0 = 0 }) noMarks first) order marks guesses)
+    (noted : NotedOrder (l .program) (l .times) (l .locks) (notedOf (l .start) (record { 0 = 0 }) noMarks first) order marks guesses)
     {mid : List ℕ} {n : ℕ} (puts : Puts before 0 (planIn guesses marks (list .count)) mid n) where
   -- the bytes end within the room
   pub plan-within : n ≤ 1281
@@ -71,7 +71,7 @@ module _ {t : Table} {list : JobList} {l : Lent} (order before : List ℕ) (lent
     written = λ a ok table listed s complete.
         (let starts : first ≡ firstGuesses (a .table .store) = begins ∙ ap (λ (u : Table). firstGuesses (u .store)) table in
         let traced = subst
-        (λ (g : List ℕ). OrderNoted (l .program) (l .times) (l .locks) (notedOf (l .start) (record { 0 = 0 }) noMarks g) order marks guesses)
+        (λ (g : List ℕ). NotedOrder (l .program) (l .times) (l .locks) (notedOf (l .start) (record { 0 = 0 }) noMarks g) order marks guesses)
         starts noted in
         let count : list .count ≡ jobTotal a = ap (λ (u : JobList). u .count) listed in
         let bytes : planIn guesses marks (list .count) ≡ planOf a order =

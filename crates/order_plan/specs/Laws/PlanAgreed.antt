@@ -35,11 +35,11 @@ use Rattle.matching.specs.Laws.Parts.{Part, beginning}
 use Rattle.matching.specs.Laws.PlanReading.{Whole, marksBytes, written, markOf}
 use Rattle.matching.specs.Laws.TraceStepLaws.{first-guess, guesses-whole, marks-whole}
 use Rattle.matching.specs.Laws.TraceSteps.{Trace, startTrace, traceOf}
-use Rattle.marks.specs.Code.Marks.{storeAt, storesIn, withStore, marksOf}
+use Rattle.marks.specs.Code.Marks.{storeAt, storesIn, withStore, stepsMarked}
 use Rattle.marks.specs.Laws.MarkLaws.{no-marks, no-marks-of}
 use Rattle.marks.specs.Laws.StoreLaws.{put-length, put-here, stores-joined}
 use Rattle.order_plan.specs.Code.Columns.{jobColumn, columnsIn, planIn}
-use Rattle.order_plan.specs.Code.Tracing.{TraceState, orderNoted, notedOf, OrderNoted}
+use Rattle.order_plan.specs.Code.Tracing.{TraceState, orderNoted, notedOf, NotedOrder}
 use Rattle.order_plan.specs.Laws.TraceAgreed.{order-held}
 use Rattle.order_plan.specs.Laws.TraceHeld.{marksRead, HeldTrace}
 
@@ -48,7 +48,7 @@ use Rattle.order_plan.specs.Laws.TraceHeld.{marksRead, HeldTrace}
 -- a job's bytes are those of its marks
 column-read : (marks : List ℕ) (x : ℕ) → jobColumn marks x ≡ marksBytes (marksRead marks x)
 unfolding jobColumn marksBytes marksRead markOf
-column-read marks x = sym (each-map markOf (marksOf marks x) (λ m. m .round ∷ m .value ∷ []))
+column-read marks x = sym (each-map markOf (stepsMarked marks x) (λ m. m .round ∷ m .value ∷ []))
 
 module _ (guesses marks : List ℕ) (k : ℕ) (t : Trace) where
   columns-read : length (t .marks) ≡ k → ((x : ℕ) → x < k → marksRead marks x ≡ getD (t .marks) x [])
@@ -124,7 +124,7 @@ module _ {a : Accepted} (ok : IsAccepted a) {program times : List ℕ} {locks : 
         (order-held ok lends order (initial-invariant a) (kept-initial ok) held-start (complete .allowed) short)
 
     -- they are written as the order's plan
-    pub plan-noted : {marks guesses : List ℕ} → OrderNoted program times locks first order marks guesses
+    pub plan-noted : {marks guesses : List ℕ} → NotedOrder program times locks first order marks guesses
         → planIn guesses marks (jobTotal a) ≡ planOf a order
     unfolding planIn written jobTotal
     plan-noted {marks} {guesses} noted =

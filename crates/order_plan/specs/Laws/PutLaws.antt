@@ -11,8 +11,8 @@ use Rattle.notation.specs.Lists.{from, upTo, each}
 use Rattle.notation.specs.Laws.ListLaws.{from-snoc, each-append}
 use Rattle.plan.specs.declared.Round.{Round}
 use Rattle.plan.specs.Runs.{Step}
-use Rattle.marks.specs.Code.Marks.{markAt, countAt, marksOf}
-use Rattle.marks.specs.Laws.MarkLaws.{values-snoc}
+use Rattle.marks.specs.Code.Marks.{stepMarked, stepCount, stepsMarked}
+use Rattle.notation.specs.Laws.TabulateLaws.{values-snoc}
 use Rattle.writing.specs.Code.Writing.{Appends}
 use Rattle.writing.specs.Laws.WritingLaws.{appends-none, appends-more}
 use Rattle.order_plan.specs.Code.Columns.{jobColumn, columnsIn, planIn}
@@ -56,23 +56,24 @@ two step = step .round .0 ∷ step .value ∷ []
 
 -- those of the first n steps of job x
 unfoldable pub stepsTo : List ℕ → ℕ → ℕ → List ℕ
-stepsTo marks x n = each (map (markAt marks x) (upTo n)) two
+stepsTo marks x n = each (map (stepMarked marks x) (upTo n)) two
 
 module _ (before : List ℕ) (at : ℕ) (marks : List ℕ) (x : ℕ) where
   pub steps-none : Puts before at (stepsTo marks x 0) before at
   unfolding stepsTo upTo from each
   steps-none = appends-none 1281 before at
 
-  one-more : (n : ℕ) → (stepsTo marks x n ++ (markAt marks x n .round .0 ∷ [])) ++ (markAt marks x n .value ∷ [])
+  one-more : (n : ℕ)
+      → (stepsTo marks x n ++ (stepMarked marks x n .round .0 ∷ [])) ++ (stepMarked marks x n .value ∷ [])
       ≡ stepsTo marks x (n + 1)
   unfolding stepsTo each
   one-more n =
-      append-assoc (stepsTo marks x n) (markAt marks x n .round .0 ∷ []) (markAt marks x n .value ∷ [])
-      ∙ sym (each-append two (map (markAt marks x) (upTo n)) (markAt marks x n ∷ []))
-      ∙ ap (λ (l : List Step). each l two) (sym (values-snoc (markAt marks x) n))
+      append-assoc (stepsTo marks x n) (stepMarked marks x n .round .0 ∷ []) (stepMarked marks x n .value ∷ [])
+      ∙ sym (each-append two (map (stepMarked marks x) (upTo n)) (stepMarked marks x n ∷ []))
+      ∙ ap (λ (l : List Step). each l two) (sym (values-snoc (stepMarked marks x) n))
 
-  pub steps-more : 1281 ≤ length before → (n : ℕ) {mid : List ℕ} {m : ℕ} {late : List ℕ} {l : ℕ} {after : List ℕ} {k : ℕ}
-      {r : Round} {v : ℕ} → r ≡ markAt marks x n .round → v ≡ markAt marks x n .value
+  pub steps-more : 1281 ≤ length before → (n : ℕ) {mid : List ℕ} {m : ℕ} {late : List ℕ} {l : ℕ} {after : List ℕ}
+      {k : ℕ} {r : Round} {v : ℕ} → r ≡ stepMarked marks x n .round → v ≡ stepMarked marks x n .value
       → Puts before at (stepsTo marks x n) mid m → Puts mid m (r .0 ∷ []) late l → Puts late l (v ∷ []) after k
       → Puts before at (stepsTo marks x (n + 1)) after k
   steps-more enough n {mid} {m} {late} {l} {after} {k} round value first second third =
@@ -81,11 +82,11 @@ module _ (before : List ℕ) (at : ℕ) (marks : List ℕ) (x : ℕ) where
       (appends-more enough first (subst (λ (q : Round). Puts mid m (q .0 ∷ []) late l) round second))
       (subst (λ (w : ℕ). Puts late l (w ∷ []) after k) value third))
 
-  pub steps-put : (count n : ℕ) {after : List ℕ} {k : ℕ} → count ≡ countAt marks x → n ≤ count → count ≤ n
+  pub steps-put : (count n : ℕ) {after : List ℕ} {k : ℕ} → count ≡ stepCount marks x → n ≤ count → count ≤ n
       → Puts before at (stepsTo marks x n) after k → Puts before at (jobColumn marks x) after k
-  unfolding stepsTo jobColumn marksOf
+  unfolding stepsTo jobColumn stepsMarked
   steps-put count n counted le ge puts =
-      let same : n ≡ countAt marks x = omega (arith, counted) in puts-same (ap (stepsTo marks x) same) puts
+      let same : n ≡ stepCount marks x = omega (arith, counted) in puts-same (ap (stepsTo marks x) same) puts
 
 -- ---- the jobs
 

@@ -196,8 +196,8 @@ module _ {a : Accepted} (ok : IsAccepted a) {program times : List ℕ} {locks : 
       (later (first .0) (step-keeps ok inv byte (first .1)) _ _ _ keeps _ (held-next inv kept held said room) (first .2)
       (λ y isY. subst (λ (u : Trace). length (getD (u .marks) y []) ≤ 16) on (short y isY)))
 
-  pub order-held : (bytes : List ℕ) {s : State} → Invariant a s → {r : ℕ} {t : Trace} {done : List ℕ} → OrderKept a s r t done
-      → {n : TraceState} → HeldTrace a s r t n → {end : State} → run a s bytes ≡ some end → Short bytes s r t
+  pub order-held : (bytes : List ℕ) {s : State} → Invariant a s → {r : ℕ} {t : Trace} {done : List ℕ}
+      → OrderKept a s r t done → {n : TraceState} → HeldTrace a s r t n → {end : State} → run a s bytes ≡ some end → Short bytes s r t
       → Ends end (traceFrom a s r t bytes) (orderNoted program times locks n bytes)
   unfolding run traceFrom orderNoted
   order-held [] {s} inv {r} {t} kept {n} held {end} ran short =

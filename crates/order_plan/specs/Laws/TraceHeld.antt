@@ -24,7 +24,7 @@ use Rattle.snapshots.specs.Code.Snapshots.{Snapshot}
 use Rattle.matching.specs.Laws.Histories.{Mark, marked}
 use Rattle.matching.specs.Laws.PlanReading.{markOf}
 use Rattle.matching.specs.Laws.TraceSteps.{Trace, traced}
-use Rattle.marks.specs.Code.Marks.{storeAt, withStore, countAt, marksOf, IsMarks}
+use Rattle.marks.specs.Code.Marks.{storeAt, withStore, stepCount, stepsMarked, IsMarks}
 use Rattle.marks.specs.Laws.MarkLaws.{mark-added, mark-others}
 use Rattle.marks.specs.Laws.StoreLaws.{put-here, put-other}
 use Rattle.order_plan.specs.Code.Tracing.{TraceState, noteIn, guessIn, roundIn}
@@ -32,7 +32,7 @@ use Rattle.order_plan.specs.Laws.NotingLaws.{note-whole, guess-room}
 
 -- the marks of job x as a trace has them
 unfoldable pub marksRead : List ℕ → ℕ → List Mark
-marksRead marks x = map markOf (marksOf marks x)
+marksRead marks x = map markOf (stepsMarked marks x)
 
 -- at a state, in round r
 pub record HeldTrace (a : Accepted) (s : State) (r : ℕ) (t : Trace) (n : TraceState) : Type 0 where
@@ -46,23 +46,24 @@ pub record HeldTrace (a : Accepted) (s : State) (r : ℕ) (t : Trace) (n : Trace
 -- ---- the marks
 
 -- as many as are counted
-marks-counted : (marks : List ℕ) (x : ℕ) → length (marksRead marks x) ≡ countAt marks x
-unfolding marksRead marksOf
-marks-counted marks x = map-length markOf (marksOf marks x) ∙ values-length _ (countAt marks x)
+marks-counted : (marks : List ℕ) (x : ℕ) → length (marksRead marks x) ≡ stepCount marks x
+unfolding marksRead stepsMarked
+marks-counted marks x = map-length markOf (stepsMarked marks x) ∙ values-length _ (stepCount marks x)
 
-module _ {marks : List ℕ} (isMarks : IsMarks marks) (x : ℕ) (isX : x < 32) (room : countAt marks x < 16) (r v : ℕ) where
+module _ {marks : List ℕ} (isMarks : IsMarks marks) (x : ℕ) (isX : x < 32) (room : stepCount marks x < 16) (r v : ℕ) where
   -- one more of job x, and those of another
-  note-here : marksRead (noteIn marks x (record { 0 = r }) v) x ≡ marksRead marks x ++ (record { round = r; value = v } ∷ [])
-  unfolding marksRead noteIn if_then_else_ marksOf markOf
+  note-here : marksRead (noteIn marks x (record { 0 = r }) v) x
+      ≡ marksRead marks x ++ (record { round = r; value = v } ∷ [])
+  unfolding marksRead noteIn if_then_else_ stepsMarked markOf
   note-here =
-      rw (lt-ltb (countAt marks x) 16 room)
-      (ap (map markOf) (mark-added marks (isMarks .whole) x (countAt marks x) isX room _) ∙ map-snoc markOf (marksOf marks x) _)
+      rw (lt-ltb (stepCount marks x) 16 room)
+      (ap (map markOf) (mark-added marks (isMarks .whole) x (stepCount marks x) isX room _) ∙ map-snoc markOf (stepsMarked marks x) _)
 
   note-other : (y : ℕ) → y < 32 → (y ≡ x → ⊥) → marksRead (noteIn marks x (record { 0 = r }) v) y ≡ marksRead marks y
   unfolding marksRead noteIn if_then_else_
   note-other y isY apart =
-      rw (lt-ltb (countAt marks x) 16 room)
-      (ap (map markOf) (mark-others marks (isMarks .whole) x (countAt marks x) isX room _ y isY apart (isMarks .few y isY)))
+      rw (lt-ltb (stepCount marks x) 16 room)
+      (ap (map markOf) (mark-others marks (isMarks .whole) x (stepCount marks x) isX room _ y isY apart (isMarks .few y isY)))
 
 -- ---- the guesses
 
@@ -103,7 +104,7 @@ module _ {a : Accepted} (few : jobTotal a ≤ 32) {s : State} {r : ℕ} {t : Tra
   mark : Mark
   mark = record { round = r; value = v }
 
-  counted : countAt (n .marks) x < 16
+  counted : stepCount (n .marks) x < 16
   counted = omega (arith, marks-counted (n .marks) x, ap length (held .marks x isX))
 
   abbrev noted : List ℕ
@@ -112,7 +113,8 @@ module _ {a : Accepted} (few : jobTotal a ≤ 32) {s : State} {r : ℕ} {t : Tra
   noted-is : noted ≡ noteIn (n .marks) x (record { 0 = r }) v
   noted-is = ap (λ (k : ℕ). noteIn (n .marks) x (record { 0 = k }) v) round-is
 
-  marks-after : (y : ℕ) → y < jobTotal a → marksRead noted y ≡ getD (marked (t .marks) x (record { round = r; value = v })) y []
+  marks-after : (y : ℕ) → y < jobTotal a
+      → marksRead noted y ≡ getD (marked (t .marks) x (record { round = r; value = v })) y []
   unfolding marked
   marks-after y isY =
       elim (ℕ-discrete y x) [

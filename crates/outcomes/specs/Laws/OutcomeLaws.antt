@@ -9,8 +9,8 @@ use Rattle.walk.specs.declared.Verdict.the-variants.{Holds, Fails}
 use Rattle.walk.specs.WalkEntry.{refusal}
 use lib.ListN.{length, replicate}
 use borrow.Author.Tests.{not-true, not-false}
-use Rattle.notation.specs.Lists.{any, if_then_else_}
-use Rattle.states.specs.Code.StateBytes.{bytesAt, snapshotIn}
+use Rattle.notation.specs.Lists.{any, if_then_else_, bytesAt}
+use Rattle.states.specs.Code.StateBytes.{snapshotIn}
 use Rattle.outcomes.specs.Code.Outcomes.{endedAt, heldAt, answerOf, shownLength}
 use Rattle.snapshots.specs.Code.Snapshots.{Snapshot}
 use Rattle.outcomes.specs.declared.Outcome.{Outcome}

@@ -11,8 +11,8 @@ use Rattle.notation.specs.Laws.TestLaws.{and-first, and-second, and-last, and-h
 use Rattle.plan.specs.declared.Round.{Round}
 use Rattle.plan.specs.Runs.{earlier, notLater}
 use Rattle.snapshots.specs.Code.SnapshotSteps.{Program, LentTimes, ownerIn, beforeIn, preemptsIn}
-use Rattle.marks.specs.Code.PairParts.{startRound, endRound, beforeKept, roundsApart, roundsNested, noneWithin}
-use Rattle.marks.specs.Code.PairParts.{preemptKept, priorityUpTo, lockKept, orderFaulty, lockFaulty}
+use Rattle.marks.specs.Code.PairParts.{roundOfStart, roundOfEnd, beforeKept, roundsApart, roundsNested, noneWithin}
+use Rattle.marks.specs.Code.PairParts.{preemptKept, priorityReached, lockKept, orderFaulty, lockFaulty}
 
 -- ---- over plain tests
 
@@ -34,35 +34,35 @@ notLater-read p q = λ j. notLater (p j) (q j)
 -- ---- rounds
 
 module _ (marks : List ℕ) (x y : ℕ) where
-  pub apart-first : {e s : Round} → e ≡ endRound marks x → s ≡ startRound marks y → e .0 < s .0
+  pub apart-first : {e s : Round} → e ≡ roundOfEnd marks x → s ≡ roundOfStart marks y → e .0 < s .0
       → true ≡ roundsApart marks x y
   unfolding roundsApart
   apart-first {e} {s} ends starts h =
-      sym (or-left (earlier (endRound marks x) (startRound marks y)) _
+      sym (or-left (earlier (roundOfEnd marks x) (roundOfStart marks y)) _
       (sym (earlier-read ends starts) ∙ lt-ltb (e .0) (s .0) h))
 
-  pub apart-second : {e s f t : Round} → e ≡ endRound marks x → s ≡ startRound marks y → s .0 ≤ e .0
-      → f ≡ endRound marks y → t ≡ startRound marks x → earlier f t ≡ roundsApart marks x y
+  pub apart-second : {e s f t : Round} → e ≡ roundOfEnd marks x → s ≡ roundOfStart marks y → s .0 ≤ e .0
+      → f ≡ roundOfEnd marks y → t ≡ roundOfStart marks x → earlier f t ≡ roundsApart marks x y
   unfolding roundsApart
   apart-second {e} {s} ends starts h ends′ starts′ =
       earlier-read ends′ starts′
-      ∙ sym (or-second (earlier (endRound marks x) (startRound marks y)) _
+      ∙ sym (or-second (earlier (roundOfEnd marks x) (roundOfStart marks y)) _
       (sym (earlier-read ends starts) ∙ le-ltb (e .0) (s .0) h))
 
   -- y starts before x: it is not nested in it
-  pub nested-early : {s t : Round} → s ≡ startRound marks y → t ≡ startRound marks x → s .0 < t .0
+  pub nested-early : {s t : Round} → s ≡ roundOfStart marks y → t ≡ roundOfStart marks x → s .0 < t .0
       → false ≡ roundsNested marks y x
   unfolding roundsNested
   nested-early {s} {t} starts starts′ h =
-      sym (and-first (notLater (startRound marks x) (startRound marks y)) _
+      sym (and-first (notLater (roundOfStart marks x) (roundOfStart marks y)) _
       (sym (notLater-read starts′ starts) ∙ lt-leb (t .0) (s .0) h))
 
-  pub nested-ends : {s t e f : Round} → s ≡ startRound marks y → t ≡ startRound marks x → t .0 ≤ s .0
-      → e ≡ endRound marks y → f ≡ endRound marks x → earlier e f ≡ roundsNested marks y x
+  pub nested-ends : {s t e f : Round} → s ≡ roundOfStart marks y → t ≡ roundOfStart marks x → t .0 ≤ s .0
+      → e ≡ roundOfEnd marks y → f ≡ roundOfEnd marks x → earlier e f ≡ roundsNested marks y x
   unfolding roundsNested
   nested-ends {s} {t} starts starts′ h ends ends′ =
       earlier-read ends ends′
-      ∙ sym (and-second (notLater (startRound marks x) (startRound marks y)) _
+      ∙ sym (and-second (notLater (roundOfStart marks x) (roundOfStart marks y)) _
       (sym (notLater-read starts′ starts) ∙ le-leb (t .0) (s .0) h))
 
 -- ---- rules
@@ -74,7 +74,7 @@ module _ (program : Program) (times : LentTimes) (marks : List ℕ) (x y : ℕ) 
   before-free same h = sym (unasked (beforeIn program times x y) _ same h)
 
   pub before-rounds : {b : Bool} → b ≡ beforeIn program times x y → not b ≡ false
-      → {e s : Round} → e ≡ endRound marks x → s ≡ startRound marks y → earlier e s ≡ beforeKept program times marks x y
+      → {e s : Round} → e ≡ roundOfEnd marks x → s ≡ roundOfStart marks y → earlier e s ≡ beforeKept program times marks x y
   unfolding beforeKept
   before-rounds same h ends starts = earlier-read ends starts ∙ sym (asked (beforeIn program times x y) _ same h)
 
@@ -101,7 +101,7 @@ module _ (program : Program) (times : LentTimes) (marks : List ℕ) (y x : ℕ) 
     module _ {c : Bool} (apart : c ≡ roundsApart marks x y) (meet : c ≡ false) where
       -- the two meet: the nested job's rounds decide
       preempt-meets : preemptKept program times marks y x
-          ≡ (roundsNested marks y x && noneWithin marks x (startRound marks y) (endRound marks y))
+          ≡ (roundsNested marks y x && noneWithin marks x (roundOfStart marks y) (roundOfEnd marks y))
       unfolding preemptKept
       preempt-meets = or-second (not preempts || isApart) _ (asked preempts isApart may asks ∙ sym apart ∙ meet)
 
@@ -110,7 +110,7 @@ module _ (program : Program) (times : LentTimes) (marks : List ℕ) (y x : ℕ) 
       preempt-crossed {d} same h = sym (preempt-meets ∙ and-first nested _ (sym same ∙ not-true d h))
 
       pub preempt-within : {d : Bool} → d ≡ roundsNested marks y x → not d ≡ false
-          → {s e : Round} → s ≡ startRound marks y → e ≡ endRound marks y
+          → {s e : Round} → s ≡ roundOfStart marks y → e ≡ roundOfEnd marks y
           → {r : Bool} → r ≡ noneWithin marks x s e → r ≡ preemptKept program times marks y x
       preempt-within {d} same h starts ends kept =
           kept ∙ (λ j. noneWithin marks x (starts j) (ends j))
@@ -123,12 +123,12 @@ module _ (program : Program) (times : LentTimes) (marks : List ℕ) (y x : ℕ) 
 
     -- x's priority up to y's start decides
     pub lock-priority : {d : Bool} → d ≡ roundsNested marks y x → not d ≡ false
-        → {s : Round} → s ≡ startRound marks y → {p : ℕ} → p ≡ priorityUpTo marks (ownerIn program x) x s
+        → {s : Round} → s ≡ roundOfStart marks y → {p : ℕ} → p ≡ priorityReached marks (ownerIn program x) x s
         → ltb p (ownerIn program y) ≡ lockKept program times marks y x
     unfolding lockKept
     lock-priority {d} same h starts held =
         ap (λ (p : ℕ). ltb p (ownerIn program y))
-        (held ∙ ap (priorityUpTo marks (ownerIn program x) x) starts)
+        (held ∙ ap (priorityReached marks (ownerIn program x) x) starts)
         ∙ sym (or-second (not (preempts && nested)) _
         (ap not (and-holds preempts nested (sym may ∙ not-false _ asks) (sym same ∙ not-false d h))))
 

@@ -24,9 +24,9 @@ use Rattle.plan.specs.Legality.{Pair, pairs, stepsOf, roundsOf, start, end, bef
 use Rattle.plan.specs.Legality.{preemptRule, priorityAt, lockRule, orderFault, lockFault}
 use Rattle.snapshots.specs.Code.SnapshotSteps.{ownerIn}
 use Rattle.snapshots.specs.Laws.ShowLaws.{before-lent, preempts-lent}
-use Rattle.marks.specs.Code.Marks.{marksOf, roundsIn, stepsIn}
-use Rattle.marks.specs.Code.PairParts.{startRound, endRound, beforeKept, roundsApart, roundsNested, noneWithin}
-use Rattle.marks.specs.Code.PairParts.{preemptKept, priorityUpTo, lockKept, orderFaulty, lockFaulty, pairFaulty}
+use Rattle.marks.specs.Code.Marks.{stepsMarked, roundsIn, stepsIn}
+use Rattle.marks.specs.Code.PairParts.{roundOfStart, roundOfEnd, beforeKept, roundsApart, roundsNested, noneWithin}
+use Rattle.marks.specs.Code.PairParts.{preemptKept, priorityReached, lockKept, orderFaulty, lockFaulty, pairFaulty}
 use Rattle.marks.specs.Code.PairParts.{pairsWith, pairFaultAmong, pairFaultIn}
 use Rattle.marks.specs.Code.RunParts.{Holds}
 
@@ -117,21 +117,21 @@ every-pair P k h =
 
 module _ {a : Accepted} {program times : List ℕ} {locks : Ceilings} {k : ℕ} (holds : Holds a program times locks k)
     (marks : List ℕ) (runs : JobRuns) (same : runs .steps ≡ stepsIn marks k) where
-  steps-agreed : (x : ℕ) → x < k → marksOf marks x ≡ stepsOf runs (job x)
+  steps-agreed : (x : ℕ) → x < k → stepsMarked marks x ≡ stepsOf runs (job x)
   unfolding stepsOf stepsIn
   steps-agreed x lt =
-      sym (ap (λ (l : List (List Step)). getD l x []) same ∙ values-at (marksOf marks) k x [] lt)
+      sym (ap (λ (l : List (List Step)). getD l x []) same ∙ values-at (stepsMarked marks) k x [] lt)
 
   rounds-agreed : (x : ℕ) → x < k → roundsIn marks x ≡ roundsOf runs (job x)
   unfolding roundsIn roundsOf
   rounds-agreed x lt = ap (map (λ step. step .round)) (steps-agreed x lt)
 
-  start-agreed : (x : ℕ) → x < k → startRound marks x ≡ start runs (job x)
-  unfolding startRound start
+  start-agreed : (x : ℕ) → x < k → roundOfStart marks x ≡ start runs (job x)
+  unfolding roundOfStart start
   start-agreed x lt = ap (firstOr firstRound) (rounds-agreed x lt)
 
-  end-agreed : (x : ℕ) → x < k → endRound marks x ≡ end runs (job x)
-  unfolding endRound end
+  end-agreed : (x : ℕ) → x < k → roundOfEnd marks x ≡ end runs (job x)
+  unfolding roundOfEnd end
   end-agreed x lt = ap (lastOr firstRound) (rounds-agreed x lt)
 
   is-job : (x : ℕ) → x < k → IsJob a (job x)
@@ -165,7 +165,7 @@ module _ {a : Accepted} {program times : List ℕ} {locks : Ceilings} {k : ℕ} 
       λ j. notLater (starts j) (starts′ j) && earlier (ends j) (ends′ j)
 
   within-agreed : (x y : ℕ) → x < k → y < k
-      → noneWithin marks x (startRound marks y) (endRound marks y) ≡ noStepWithin runs (job x) (job y)
+      → noneWithin marks x (roundOfStart marks y) (roundOfEnd marks y) ≡ noStepWithin runs (job x) (job y)
   unfolding noneWithin noStepWithin
   within-agreed x y isX isY =
       let starts = start-agreed y isY in
@@ -184,8 +184,8 @@ module _ {a : Accepted} {program times : List ℕ} {locks : Ceilings} {k : ℕ} 
       λ j. not (may j) || off j || inside j && free j
 
   priority-agreed : (x y : ℕ) → x < k → y < k
-      → priorityUpTo marks (ownerIn program x) x (startRound marks y) ≡ priorityAt a runs (job x) (start runs (job y))
-  unfolding priorityUpTo priorityAt
+      → priorityReached marks (ownerIn program x) x (roundOfStart marks y) ≡ priorityAt a runs (job x) (start runs (job y))
+  unfolding priorityReached priorityAt
   priority-agreed x y isX isY =
       let owner = holds .lends .owner (job x) (is-job x isX) in
       let starts = start-agreed y isY in

@@ -25,8 +25,9 @@ use Rattle.marks.specs.Code.Marks.{faultOf, storesIn, stepsIn}
 use Rattle.marks.specs.Code.PairParts.{legalityIn}
 use Rattle.marks.specs.Code.RunParts.{Holds, PlanRanAs, PlanRanOf}
 use Rattle.marks.specs.Code.TableParts.{PlanCheckedAs, PlanCheckedOf}
-use Rattle.plan_check.specs.Laws.FaultLaws.{Numbered}
-use Rattle.plan_check.specs.Laws.LegalityLaws.{legality-agreed, legality-numbered}
+use Rattle.notation.specs.Laws.NumberedLaws.{Numbered, by-number}
+use Rattle.plan.specs.Laws.PlanRefusals.{legality-numbered}
+use Rattle.plan_check.specs.Laws.LegalityLaws.{legality-agreed}
 
 -- what a plan's check leaves as its fault: that of the run, or else what the rules come to
 abbrev pub FaultLeft : Fault → Fault → Fault → Type 0
@@ -43,11 +44,11 @@ rules-decide : (a : Accepted) (r : PlanChecked) (runs : JobRuns) (c : Checked �
     → r .fault ≡ faultOf c → planEnd a runs ≡ record { store = r .store; failed = r .failed }
     → runs .steps ≡ stepsIn (r .marks) (jobTotal a) → PlanCheckedAs a r (_>>_ c (passed runs))
 unfolding faultOf _>>_
-rules-decide a r runs (refused number place) some is ends stepped =
+rules-decide a r runs (refused number place) (by-number least) is ends stepped =
     record {
       number-is = ap (λ (f : Fault). f .number) is;
       place-is = ap (λ (f : Fault). f .place) is;
-      numbered = some;
+      numbered = least;
     }
 rules-decide a r runs (passed value) some is ends stepped = (ap (λ (f : Fault). f .number) is, ends, stepped)
 

@@ -10,12 +10,11 @@ use Rattle.notation.specs.Checked.{refused, noneOf}
 use Rattle.notation.specs.Laws.ElementLaws.{last-at, last-none}
 use Rattle.notation.specs.Laws.SearchLaws.{from-first, from-none}
 use Rattle.notation.specs.Laws.TabulateLaws.{eight-values}
-use Rattle.notation.specs.Lists.{if_then_else_, from, upTo, same, lastOr}
+use Rattle.notation.specs.Lists.{if_then_else_, from, upTo, same, lastOr, bytesAt}
 use Rattle.machine.specs.Ends.{noStore}
 use Rattle.machine.specs.Instructions.{Store}
 use Rattle.plan.specs.declared.Round.{Round}
 use Rattle.plan.specs.Runs.{Plan, guess}
-use Rattle.states.specs.Code.StateBytes.{bytesAt}
 use Rattle.marks.specs.Code.Marks.{faultOf, storeAt, storesIn}
 use Rattle.marks.specs.Code.PairParts.{dueStoreIn, guessFaultFrom, guessFaultIn}
 use Rattle.marks.specs.Laws.StoreLaws.{bytesAt-part, stores-at, stores-length}

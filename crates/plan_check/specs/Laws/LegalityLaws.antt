@@ -21,7 +21,7 @@ use Rattle.marks.specs.Code.PairParts.{dueStoreIn, pairFaultAmong, pairFaultIn,
 use Rattle.marks.specs.Code.PairParts.{legalityIn}
 use Rattle.marks.specs.Code.RunParts.{Holds}
 use Rattle.pairs.specs.Laws.PairAgreed.{pairs-agreed}
-use Rattle.plan_check.specs.Laws.FaultLaws.{Numbered, none-numbered, placed-numbered, then-numbered}
+use Rattle.notation.specs.Laws.NumberedLaws.{Numbered, noneOf-numbered, placed-numbered}
 use Rattle.plan_check.specs.Laws.FaultLaws.{fault-decides, rest-decides}
 
 -- ---- the agreement
@@ -63,20 +63,12 @@ legality-agreed {a} {k = k} holds plan stores marks runs stepped left =
     let guessed = guesses-agreed a plan runs stores k (holds .total) left in
     λ i. _>>_ (paired .0 i) (_>>_ (paired .1 i) (guessed i))
 
--- all numbers are positive
-pub legality-numbered : (a : Accepted) (plan : Plan) (runs : JobRuns) → Numbered (legality a plan runs)
-unfolding legality
-legality-numbered a plan runs =
-    then-numbered _ _ (placed-numbered _ _ (none-numbered 43 (orderFault a runs) (pairs a) (omega arith)))
-    (then-numbered _ _ (placed-numbered _ _ (none-numbered 44 (lockFault a runs) (pairs a) (omega arith)))
-    (placed-numbered _ _ (none-numbered 45 (guessFault a plan runs) (roundNumbers a) (omega arith))))
-
 -- ---- the first fault of the three
 
 pair-numbered : (number : ℕ) (program times marks : List ℕ) (k : ℕ) → 1 ≤ number
     → Numbered (pairFaultIn number program times marks k)
 unfolding pairFaultIn pairFaultAmong
-pair-numbered number program times marks k some = placed-numbered _ _ (none-numbered number _ _ some)
+pair-numbered number program times marks k some = placed-numbered _ _ (noneOf-numbered number _ _ some)
 
 module _ (program times : List ℕ) (plan : Plan) (store : Store) (stores marks : List ℕ) (k : ℕ)
     {order : Fault} (is43 : order ≡ faultOf (pairFaultIn 43 program times marks k)) where

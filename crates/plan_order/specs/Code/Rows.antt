@@ -17,7 +17,7 @@ use Rattle.plan.specs.Plans.{Legal}
 use Rattle.plan.specs.Runs.{Plan, JobRuns, jobTotal}
 use Rattle.matching.specs.Conversions.{orderOf}
 use Rattle.snapshots.specs.Code.SnapshotSteps.{Program, ownerIn}
-use Rattle.marks.specs.Code.Marks.{marksOf, stepsIn}
+use Rattle.marks.specs.Code.Marks.{stepsMarked, stepsIn}
 
 -- the byte of a task and a value, where both are below 16
 unfoldable pub orderByte : ℕ → ℕ → ℕ
@@ -26,7 +26,7 @@ orderByte task value = if ltb task 16 && ltb value 16 then 16 * task + value els
 -- the bytes of job x in round r
 unfoldable pub jobRow : Program → List ℕ → ℕ → ℕ → List ℕ
 jobRow program marks r x =
-    map (λ step. orderByte (ownerIn program x) (step .value)) (only (λ step. eqb (step .round .0) r) (marksOf marks x))
+    map (λ step. orderByte (ownerIn program x) (step .value)) (only (λ step. eqb (step .round .0) r) (stepsMarked marks x))
 
 -- the bytes of round r, of k jobs
 unfoldable pub roundRow : Program → List ℕ → ℕ → ℕ → List ℕ

@@ -15,8 +15,8 @@ use Rattle.notation.specs.Laws.ListLaws.{map-snoc}
 use Rattle.plan.specs.declared.Round.{Round}
 use Rattle.plan.specs.Runs.{Step}
 use Rattle.snapshots.specs.Code.SnapshotSteps.{Program, ownerIn}
-use Rattle.marks.specs.Code.Marks.{markAt, countAt, marksOf}
-use Rattle.marks.specs.Laws.MarkLaws.{values-snoc}
+use Rattle.marks.specs.Code.Marks.{stepMarked, stepCount, stepsMarked}
+use Rattle.notation.specs.Laws.TabulateLaws.{values-snoc}
 use Rattle.writing.specs.Code.Writing.{Appends}
 use Rattle.writing.specs.Laws.WritingLaws.{appends-none, appends-more, appends-length}
 use Rattle.plan_order.specs.Code.Rows.{orderByte, jobRow}
@@ -45,19 +45,19 @@ byte-small task value low few = rw (lt-ltb task 16 low, lt-ltb value 16 few) ref
 unfoldable pub rowTo : Program → List ℕ → ℕ → ℕ → ℕ → List ℕ
 rowTo program marks r x n =
     map (λ step. orderByte (ownerIn program x) (step .value))
-    (only (λ step. eqb (step .round .0) r) (map (markAt marks x) (upTo n)))
+    (only (λ step. eqb (step .round .0) r) (map (stepMarked marks x) (upTo n)))
 
 -- those of the first n of a job's `count` steps were written
 pub record RowTo (program : Program) (marks : List ℕ) (r x at : ℕ) (before : List ℕ) (task count : ℕ)
     (now : List ℕ) (next n : ℕ) : Type 0 where
   pub is : Appends 512 before at (rowTo program marks r x n) now next
   pub owner : task ≡ ownerIn program x
-  pub counted : count ≡ countAt marks x
+  pub counted : count ≡ stepCount marks x
   pub few : count ≤ 16
   pub most : n ≤ count
 
 pub row-none : (program : Program) (marks : List ℕ) (r x at : ℕ) (before : List ℕ) {task count : ℕ}
-    → task ≡ ownerIn program x → count ≡ countAt marks x → countAt marks x ≤ 16
+    → task ≡ ownerIn program x → count ≡ stepCount marks x → stepCount marks x ≤ 16
     → RowTo program marks r x at before task count before at 0
 unfolding rowTo upTo from only
 row-none program marks r x at before owner counted few =
@@ -71,17 +71,17 @@ row-none program marks r x at before owner counted few =
 
 module _ {program : Program} {marks : List ℕ} {r x at : ℕ} {before : List ℕ} {task count : ℕ} {now : List ℕ} {next n : ℕ}
     (row : RowTo program marks r x at before task count now next n) (inside : n < count) {round : Round}
-    (read : round ≡ markAt marks x n .round) where
+    (read : round ≡ stepMarked marks x n .round) where
   -- a step of another round is passed over
   row-same : (round .0 ≡ r → ⊥) → rowTo program marks r x (n + 1) ≡ rowTo program marks r x n
   unfolding rowTo
   row-same other =
       let test : Step → Bool = λ step. eqb (step .round .0) r in
-      let fails : test (markAt marks x n) ≡ false =
-      ne-eqb (markAt marks x n .round .0) r (λ e. other (ap (λ (q : Round). q .0) read ∙ e)) in
+      let fails : test (stepMarked marks x n) ≡ false =
+      ne-eqb (stepMarked marks x n .round .0) r (λ e. other (ap (λ (q : Round). q .0) read ∙ e)) in
       ap (map (λ step. orderByte (ownerIn program x) (step .value)))
-      (ap (only test) (values-snoc (markAt marks x) n)
-      ∙ only-drops test (map (markAt marks x) (upTo n)) (markAt marks x n) fails)
+      (ap (only test) (values-snoc (stepMarked marks x) n)
+      ∙ only-drops test (map (stepMarked marks x) (upTo n)) (stepMarked marks x n) fails)
 
   passed-over : (round .0 ≡ r → ⊥) → RowTo program marks r x at before task count now next (n + 1)
   passed-over other =
@@ -100,24 +100,24 @@ module _ {program : Program} {marks : List ℕ} {r x at : ℕ} {before : List �
   -- and one of the round adds its byte
   row-byte : round .0 ≡ r
       → rowTo program marks r x (n + 1)
-      ≡ rowTo program marks r x n ++ (orderByte (ownerIn program x) (markAt marks x n .value) ∷ [])
+      ≡ rowTo program marks r x n ++ (orderByte (ownerIn program x) (stepMarked marks x n .value) ∷ [])
   unfolding rowTo only
   row-byte here =
       let test : Step → Bool = λ step. eqb (step .round .0) r in
       let byte : Step → ℕ = λ step. orderByte (ownerIn program x) (step .value) in
-      let earlier = map (markAt marks x) (upTo n) in
-      let holds : test (markAt marks x n) ≡ true =
-      eq-eqb (markAt marks x n .round .0) r (sym (ap (λ (q : Round). q .0) read) ∙ here) in
-      ap (λ (steps : List Step). map byte (only test steps)) (values-snoc (markAt marks x) n)
-      ∙ ap (map byte) (only-append test earlier (markAt marks x n ∷ [])
-      ∙ ap (λ (steps : List Step). only test earlier ++ steps) (only-in test (markAt marks x n) [] holds))
-      ∙ map-snoc byte (only test earlier) (markAt marks x n)
+      let earlier = map (stepMarked marks x) (upTo n) in
+      let holds : test (stepMarked marks x n) ≡ true =
+      eq-eqb (stepMarked marks x n .round .0) r (sym (ap (λ (q : Round). q .0) read) ∙ here) in
+      ap (λ (steps : List Step). map byte (only test steps)) (values-snoc (stepMarked marks x) n)
+      ∙ ap (map byte) (only-append test earlier (stepMarked marks x n ∷ [])
+      ∙ ap (λ (steps : List Step). only test earlier ++ steps) (only-in test (stepMarked marks x n) [] holds))
+      ∙ map-snoc byte (only test earlier) (stepMarked marks x n)
 
   written-too : {value byte : ℕ} {after : List ℕ} {m : ℕ} → 512 ≤ length before → round .0 ≡ r
-      → value ≡ markAt marks x n .value → byte ≡ orderByte task value → Appends 512 now next (byte ∷ []) after m
+      → value ≡ stepMarked marks x n .value → byte ≡ orderByte task value → Appends 512 now next (byte ∷ []) after m
       → RowTo program marks r x at before task count after m (n + 1)
   written-too {value} {byte} {after} {m} room here taken made appends =
-      let same : byte ≡ orderByte (ownerIn program x) (markAt marks x n .value) =
+      let same : byte ≡ orderByte (ownerIn program x) (stepMarked marks x n .value) =
       made ∙ ap (λ (t : ℕ). orderByte t value) (row .owner) ∙ ap (orderByte (ownerIn program x)) taken in
       let bytes : rowTo program marks r x n ++ (byte ∷ []) ≡ rowTo program marks r x (n + 1) =
       ap (λ (b : ℕ). rowTo program marks r x n ++ (b ∷ [])) same ∙ sym (row-byte here) in
@@ -130,16 +130,16 @@ module _ {program : Program} {marks : List ℕ} {r x at : ℕ} {before : List �
       }
 
   pub row-more : {value byte : ℕ} {after : List ℕ} {m : ℕ} {out : List ℕ} {to : ℕ} → 512 ≤ length before → round .0 ≡ r
-      → value ≡ markAt marks x n .value → byte ≡ orderByte task value → Appends 512 now next (byte ∷ []) after m
+      → value ≡ stepMarked marks x n .value → byte ≡ orderByte task value → Appends 512 now next (byte ∷ []) after m
       → out ≡ after → to ≡ m → RowTo program marks r x at before task count out to (n + 1)
   row-more room here taken made appends same goes = rw (same, goes) (written-too room here taken made appends)
 
 pub row-all : {program : Program} {marks : List ℕ} {r x at : ℕ} {before : List ℕ} {task count : ℕ} {now : List ℕ} {next n : ℕ}
     → RowTo program marks r x at before task count now next n → count ≤ n
     → Appends 512 before at (jobRow program marks r x) now next
-unfolding jobRow rowTo marksOf
+unfolding jobRow rowTo stepsMarked
 row-all {program} {marks} {r} {x} {at} {before} {now = now} {next} {n} row enough =
-    let all : n ≡ countAt marks x = omega (arith, row .counted, row .most) in
+    let all : n ≡ stepCount marks x = omega (arith, row .counted, row .most) in
     subst (λ (k : ℕ). Appends 512 before at (rowTo program marks r x k) now next) all (row .is)
 
 -- ---- the jobs of a round, and the rounds
@@ -149,9 +149,9 @@ pub record PartsTo (part : ℕ → List ℕ) (k at : ℕ) (before now : List ℕ
   pub is : Appends 512 before at (each (upTo n) part) now next
   pub most : n ≤ k
 
-pub parts-none : (part : ℕ → List ℕ) (k at : ℕ) (before : List ℕ) → PartsTo part k at before before at 0
+pub row-parts-none : (part : ℕ → List ℕ) (k at : ℕ) (before : List ℕ) → PartsTo part k at before before at 0
 unfolding each upTo from
-parts-none part k at before = record { is = appends-none 512 before at; most = omega arith }
+row-parts-none part k at before = record { is = appends-none 512 before at; most = omega arith }
 
 pub parts-more : {part : ℕ → List ℕ} {k at : ℕ} {before now : List ℕ} {next n : ℕ} {after : List ℕ} {m : ℕ}
     → PartsTo part k at before now next n → 512 ≤ length before → n < k → Appends 512 now next (part n) after m
@@ -164,9 +164,9 @@ parts-more {part} {k} {at} {before} {now} {next} {n} {after} {m} parts room insi
       most = omega arith;
     }
 
-pub parts-all : {part : ℕ → List ℕ} {k at : ℕ} {before now : List ℕ} {next n : ℕ} → PartsTo part k at before now next n
+pub row-parts-all : {part : ℕ → List ℕ} {k at : ℕ} {before now : List ℕ} {next n : ℕ} → PartsTo part k at before now next n
     → k ≤ n → Appends 512 before at (each (upTo k) part) now next
-parts-all {part} {k} {at} {before} {now} {next} {n} parts enough =
+row-parts-all {part} {k} {at} {before} {now} {next} {n} parts enough =
     let all : n ≡ k = omega (arith, parts .most) in
     subst (λ (j : ℕ). Appends 512 before at (each (upTo j) part) now next) all (parts .is)
 

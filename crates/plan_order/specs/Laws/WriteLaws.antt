@@ -32,7 +32,7 @@ use Rattle.plan.specs.Plans.{Legal, planEnd}
 use Rattle.plan.specs.Runs.{Plan, Step, JobRuns, jobTotal}
 use Rattle.matching.specs.Conversions.{stepBytesIn, orderOf}
 use Rattle.matching.specs.Laws.ConversionLaws.{plan-complete}
-use Rattle.marks.specs.Code.Marks.{marksOf, stepsIn}
+use Rattle.marks.specs.Code.Marks.{stepsMarked, stepsIn}
 use Rattle.writing.specs.Code.Writing.{Appends, clearedFrom}
 use Rattle.writing.specs.Laws.WritingLaws.{appends-within, appends-count, appends-filled}
 use Rattle.plan_order.specs.Code.Rows.{orderByte, jobRow, roundRow, rowsIn, OrderWritten}
@@ -67,16 +67,16 @@ module _ {a : Accepted} (ok : IsAccepted a) (program : Program)
     (owner : (x : Job) → IsJob a x → ownerIn program (x .0) ≡ base a x) (marks : List ℕ) (plan : Plan) {runs : JobRuns}
     (legal : Legal a plan runs) (marked : runs .steps ≡ stepsIn marks (jobTotal a)) where
   -- a job's steps are its marks
-  marks-are : (x : ℕ) → x < jobTotal a → getD (runs .steps) x [] ≡ marksOf marks x
+  marks-are : (x : ℕ) → x < jobTotal a → getD (runs .steps) x [] ≡ stepsMarked marks x
   unfolding stepsIn
   marks-are x isX =
-      ap (λ (l : List (List Step)). getD l x []) marked ∙ values-at (marksOf marks) (jobTotal a) x [] isX
+      ap (λ (l : List (List Step)). getD l x []) marked ∙ values-at (stepsMarked marks) (jobTotal a) x [] isX
 
-  marks-small : (x : ℕ) → x < jobTotal a → Every Small (marksOf marks x)
+  marks-small : (x : ℕ) → x < jobTotal a → Every Small (stepsMarked marks x)
   unfolding stepsIn
   marks-small x isX =
       let long : length (runs .steps) ≡ jobTotal a =
-      ap (λ (l : List (List Step)). length l) marked ∙ values-length (marksOf marks) (jobTotal a) in
+      ap (λ (l : List (List Step)). length l) marked ∙ values-length (stepsMarked marks) (jobTotal a) in
       subst (Every Small) (marks-are x isX)
       (every-at (Every Small) (runs .steps) x [] (steps-small ok plan legal) (omega (arith, long)))
 
@@ -89,9 +89,9 @@ module _ {a : Accepted} (ok : IsAccepted a) (program : Program)
       λ step small. byte-small (ownerIn program x) (step .value) (omega (arith, owner job isX, base-small ok job isX)) small
       ∙ ap (λ (b : ℕ). 16 * b + step .value) (owner job isX) in
       map-alike (λ step. orderByte (ownerIn program x) (step .value)) (λ step. 16 * base a job + step .value)
-      (only test (marksOf marks x))
+      (only test (stepsMarked marks x))
       (every-imp Small (λ step. orderByte (ownerIn program x) (step .value) ≡ 16 * base a job + step .value) byte
-      (only test (marksOf marks x)) (every-only Small test (marksOf marks x) (marks-small x isX)))
+      (only test (stepsMarked marks x)) (every-only Small test (stepsMarked marks x) (marks-small x isX)))
       ∙ ap (λ (l : List Step). map (λ step. 16 * base a job + step .value) (only test l)) (sym (marks-are x isX))
 
   -- one round
@@ -109,8 +109,8 @@ module _ {a : Accepted} (ok : IsAccepted a) (program : Program)
       (λ r lt. round-is r)
 
   -- an order of a legal plan fits the room
-  pub order-short : length (orderOf a runs) ≤ orderRoom
-  order-short = plan-complete ok plan {e = planEnd a runs} (record { runs = runs; legal = legal; ends = refl }) .complete .short
+  pub written-short : length (orderOf a runs) ≤ orderRoom
+  written-short = plan-complete ok plan {e = planEnd a runs} (record { runs = runs; legal = legal; ends = refl }) .complete .short
 
 -- what is written of a table's marks, with zeros after it
 pub order-written : {t : Table} {list : JobList} {program marks before mid after : List ℕ} {n : ℕ}
@@ -127,6 +127,6 @@ order-written {t} {list} {program} {marks} {before} {mid} {after} {n} owners roo
           ap (rowsIn program marks) counted ∙ rows-are ok program (owner-base owners ok listed) marks plan legal marked in
           let made : Appends 512 before 0 (orderOf a runs) mid n =
           subst (λ (bytes : List ℕ). Appends 512 before 0 bytes mid n) rows does in
-          let short = order-short ok program (owner-base owners ok listed) marks plan legal marked in
+          let short = written-short ok program (owner-base owners ok listed) marks plan legal marked in
           (appends-count made short, cleared ∙ appends-filled room made);
     }

@@ -132,11 +132,11 @@ module _ (program : List ℕ) (locks : Ceilings) (plan : Plan) (k : ℕ) {r : Pl
 -- ---- the run of a plan whose first byte is k and whose guesses are there
 
 -- the run starts from the guesses
-pub start-is : (a : Accepted) (plan : Plan) (k : ℕ) (stores : List ℕ) → jobTotal a ≡ k → length stores ≡ 256 → k ≤ 32
+pub run-start-is : (a : Accepted) (plan : Plan) (k : ℕ) (stores : List ℕ) → jobTotal a ≡ k → length stores ≡ 256 → k ≤ 32
     → 1 + 8 * k ≤ length plan
     → runStart a plan ≡ runStateIn k (paste stores 0 (drop 1 plan) (8 * k)) noFlags (1 + 8 * k)
 unfolding runStart runStateIn roundNumbers
-start-is a plan k stores total whole few long =
+run-start-is a plan k stores total whole few long =
     ap started total ∙ ap (λ (l : List Store). record { offset = 1 + 8 * k; stores = l; failed = noFlags }) same
   where
     started : ℕ → RunState
@@ -226,7 +226,7 @@ plan-ran program locks plan k {stores} {stores′} {marks′} {r} few some first
   long = λ none. long;
   ran = λ a times holds.
       (let started : runStart a plan ≡ runStateIn k stores noFlags (1 + 8 * k) =
-      start-is a plan k (replicate 256 0) (holds .total) (length-replicate {A = ℕ} 256 0) few long
+      run-start-is a plan k (replicate 256 0) (holds .total) (length-replicate {A = ℕ} 256 0) few long
       ∙ ap (λ (l : List ℕ). runStateIn k l noFlags (1 + 8 * k)) (sym copied) in
       subst (PlanRanAs k (made plan k stores′ marks′ r left)) (sym (run-is a plan k (holds .total) some first long
       ∙ ap (λ (s : RunState). _>>=_ (runJobs a plan (jobNumbers a) s) (ending plan)) started))

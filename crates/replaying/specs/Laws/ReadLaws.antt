@@ -4,7 +4,8 @@ use mathlib.Core.Path.{_≡_, refl}
 use Prim.Native.Nat.{ℕ}
 use mathlib.Core.Bool.{Bool}
 use mathlib.Core.List.{List}
-use Rattle.states.specs.Code.StateBytes.{bytesAt, snapshotIn}
+use Rattle.states.specs.Code.StateBytes.{snapshotIn}
+use Rattle.notation.specs.Lists.{bytesAt}
 use Rattle.snapshots.specs.declared.Replayed.{Replayed}
 use Rattle.snapshots.specs.Code.ReplayParts.{replayEndAt, replayedOf}
 

@@ -1,7 +1,7 @@
 -- `rounds::count_at` meets its contract.
 -- Assumes nothing.
 use mathlib.Core.Path.{refl}
-use Rattle.marks.specs.Code.Marks.{countAt}
+use Rattle.marks.specs.Code.Marks.{stepCount}
 use borrow.Author.Needs.{needs}
 use Rattle.rounds.proofs.count_at.Statement.{statement}
 use Rattle.rounds.proofs.count_at.Tie as tie
@@ -16,7 +16,7 @@ element-copy-out-result : tie.Need-element-copy-out-result
 element-copy-out-result c = search needs
 
 returns : tie.Need-returns
-unfolding countAt
+unfolding stepCount
 returns c = refl
 
 pub count-at-spec : {M : Type 1} → statement M

@@ -2,7 +2,7 @@
 -- Assumes nothing.
 use mathlib.Core.Path.{refl}
 use native.Mathlib.Nat.{zero-add}
-use Rattle.marks.specs.Code.Marks.{markAt}
+use Rattle.marks.specs.Code.Marks.{stepMarked}
 use borrow.Author.Needs.{needs}
 use Rattle.rounds.proofs.round_at.Statement.{statement}
 use Rattle.rounds.proofs.round_at.Tie as tie
@@ -23,7 +23,7 @@ element-copy-out-t11 : tie.Need-element-copy-out-t11
 element-copy-out-t11 c = search needs
 
 returns : tie.Need-returns
-unfolding markAt
+unfolding stepMarked
 returns c = rw zero-add refl
 
 pub round-at-spec : {M : Type 1} → statement M

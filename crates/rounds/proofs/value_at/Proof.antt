@@ -1,7 +1,7 @@
 -- `rounds::value_at` meets its contract.
 -- Assumes nothing.
 use mathlib.Core.Path.{refl}
-use Rattle.marks.specs.Code.Marks.{markAt}
+use Rattle.marks.specs.Code.Marks.{stepMarked}
 use borrow.Author.Needs.{needs}
 use Rattle.rounds.proofs.value_at.Statement.{statement}
 use Rattle.rounds.proofs.value_at.Tie as tie
@@ -22,7 +22,7 @@ element-copy-out-result : tie.Need-element-copy-out-result
 element-copy-out-result c = search needs
 
 returns : tie.Need-returns
-unfolding markAt
+unfolding stepMarked
 returns c = refl
 
 pub value-at-spec : {M : Type 1} → statement M

@@ -11,11 +11,10 @@ use lib.Dec.{eqb}
 use lib.ListN.{length, getD, set, drop, drop-of-length-le}
 use lib.Seq.{paste, paste-zero, paste-suc, drop-cons}
 use borrow.Author.Tests.{eq-eqb, ne-eqb}
-use Rattle.notation.specs.Lists.{same}
+use Rattle.notation.specs.Lists.{same, bytesAt}
 use Rattle.notation.specs.Laws.TabulateLaws.{eight-values}
 use Rattle.notation.specs.Laws.TestLaws.{and-first, and-second}
 use Rattle.machine.specs.Instructions.{Store}
-use Rattle.states.specs.Code.StateBytes.{bytesAt}
 use Rattle.marks.specs.Code.Marks.{storeAt, withStore}
 
 -- eight bytes written out are the store of a round

@@ -147,7 +147,8 @@ instruction-read {t} shaped n few d e =
     ∙ getD-any (getD (t .entries) (n / 16) noTask .body) (n % 16) e endInstruction (omega arith)
 
 -- after the last instruction all are stored
-pub bodies-all : {t : Table} {n : ℕ} {program : List ℕ} → BodiesTo t n program → 128 ≤ n → BodiesTo t 128 program
+pub bodies-all : {t : Table} {n : ℕ} {program : List ℕ} → BodiesTo t n program → 16 * t .tasks ≤ n
+    → BodiesTo t (16 * t .tasks) program
 bodies-all bodies enough = record { held = λ i p low lt. bodies .held i p low (omega arith); unowned = bodies .unowned; room = bodies .room }
 
 -- ---- the owners and the times
@@ -164,16 +165,17 @@ past-bodies program x v i p low lt =
     let fourth = off (64 * i + 4 * p + 3) (omega arith) in
     λ j. record { operation = first j; a = second j; b = third j; c = fourth j }
 
-pub owners-none : {t : Table} {program : List ℕ} (list : JobList) → BodiesTo t 128 program → OwnersTo t list 0 program
+pub owners-none : {t : Table} {program : List ℕ} (list : JobList) → BodiesTo t (16 * t .tasks) program
+    → OwnersTo t list 0 program
 owners-none list bodies =
     record { held = bodies .held; owned = λ x lt. absurd (omega arith); unowned = λ x le lt. bodies .unowned x lt; room = bodies .room }
 
-pub owners-more : {t : Table} {list : JobList} {n : ℕ} {program : List ℕ} → OwnersTo t list n program → n < 32 → {v : ℕ}
-    → v ≡ getD (list .jobs) n noJob .task .0 → OwnersTo t list (n + 1) (set program (512 + n) v)
+pub owners-more : {t : Table} {list : JobList} {n : ℕ} {program : List ℕ} → OwnersTo t list n program
+    → t .tasks ≤ 8 → n < 32 → {v : ℕ} → v ≡ getD (list .jobs) n noJob .task .0 → OwnersTo t list (n + 1) (set program (512 + n) v)
 unfolding ownerIn
-owners-more {n = n} {program} owners few {v} read =
+owners-more {n = n} {program} owners eight few {v} read =
     record {
-      held = λ i p low lt. past-bodies program n v i p low lt ∙ owners .held i p low lt;
+      held = λ i p low lt. past-bodies program n v i p low (omega arith) ∙ owners .held i p low lt;
       owned = λ x lt.
           elim (ℕ-discrete x n) [
             | yes here ↦
@@ -214,7 +216,8 @@ times-more {list} {n} {times} held few {v} {w} first second =
     }
 
 -- after the last job all are stored
-pub times-all : {list : JobList} {n : ℕ} {times : List ℕ} → TimesTo list n times → 32 ≤ n → TimesTo list 32 times
+pub times-all : {list : JobList} {n : ℕ} {times : List ℕ} → TimesTo list n times → list .count ≤ n
+    → TimesTo list (list .count) times
 times-all held enough =
     record { arrivals = λ x lt. held .arrivals x (omega arith); finishes = λ x lt. held .finishes x (omega arith); room = held .room }
 
@@ -246,13 +249,13 @@ body-lent {a} ok owners i p known inside =
     let shape = shaped .bodies (i .0) (omega (arith, shaped .tasksWithin)) in
     let short = body-short shaped i known in
     let length-same = ap (λ (x : TaskEntry). length (bodyOf x)) same in
-    owners .held (i .0) p (omega arith) (omega (arith, shaped .tasksWithin))
+    owners .held (i .0) p (omega arith) (omega arith)
     ∙ sym (body-at e p (omega (arith, body-length e shape)))
     ∙ ap (λ (x : TaskEntry). getD (bodyOf x) p endInstruction) same
 
 -- filled from an accepted table's parts, the arrays hold the table
 pub arrays-lent : {a : Accepted} → IsAccepted a → {list : JobList} → list ≡ jobListOf (a .jobs)
-    → {program times : List ℕ} → OwnersTo (a .table) list (list .count) program → TimesTo list 32 times
+    → {program times : List ℕ} → OwnersTo (a .table) list (list .count) program → TimesTo list (list .count) times
     → Lends a program times (record { count = a .table .locks; ceilings = a .table .ceilings })
 unfolding ceilingsOf base jobListOf
 arrays-lent {a} ok {list} listed {program} {times} owners held =

@@ -11,13 +11,9 @@ use mathlib.Core.List.{List, map}
 use mathlib.Core.Logic.{_⊎_}
 use lib.ListN.{length, getD}
 use lib.Dec.{eqb}
-use Rattle.notation.specs.Lists.{upTo}
+use Rattle.notation.specs.Lists.{upTo, bytesAt}
 use Rattle.order.specs.declared.Frame.{Frame}
 use Rattle.snapshots.specs.Code.Snapshots.{Snapshot}
-
--- the n bytes from a on
-unfoldable pub bytesAt : List ℕ → ℕ → ℕ → List ℕ
-bytesAt bytes a n = map (λ k. getD bytes (a + k) 0) (upTo n)
 
 -- where the bytes of the active job at position k start
 unfoldable pub frameAt : ℕ → ℕ

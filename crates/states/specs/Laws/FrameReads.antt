@@ -6,8 +6,8 @@ use native.Mathlib.Nat.{add-zero}
 use native.Mathlib.Omega.{arith}
 use mathlib.Core.List.{List, [], _∷_, map}
 use lib.ListN.{getD}
-use Rattle.notation.specs.Lists.{from, upTo}
-use Rattle.states.specs.Code.StateBytes.{bytesAt, frameAt, frameIn}
+use Rattle.notation.specs.Lists.{from, upTo, bytesAt}
+use Rattle.states.specs.Code.StateBytes.{frameAt, frameIn}
 
 -- the first byte at its place, and the rest from it on
 unfoldable readFrom : List ℕ → ℕ → ℕ → List ℕ

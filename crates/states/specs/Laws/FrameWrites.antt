@@ -9,7 +9,8 @@ use lib.ListN.{length, getD}
 use Rattle.timing.specs.declared.Job.{Job}
 use Rattle.machine.specs.declared.Local.{Local}
 use Rattle.order.specs.declared.Frame.{Frame}
-use Rattle.states.specs.Code.StateBytes.{bytesAt, frameAt, frameIn, Replaced, FrameReplaced}
+use Rattle.states.specs.Code.StateBytes.{frameAt, frameIn, Replaced, FrameReplaced}
+use Rattle.notation.specs.Lists.{bytesAt}
 use Rattle.states.specs.Laws.StateWrites.{bytes-new, bytes-same}
 use Rattle.notation.specs.Laws.TabulateLaws.{values-of, same-values}
 

@@ -11,7 +11,7 @@ use lib.Dec.{ltb}
 use borrow.Author.Tests.{lt-ltb, le-ltb, not-true, not-false}
 use Rattle.taskfile.specs.declared.Ceilings.{Ceilings}
 use Rattle.taskfile.specs.declared.Instruction.{Instruction}
-use Rattle.notation.specs.Lists.{all, member}
+use Rattle.notation.specs.Lists.{all, member, bytesAt}
 use Rattle.notation.specs.Laws.TestLaws.{and-first, and-second}
 use Rattle.machine.specs.declared.Local.{Local}
 use Rattle.machine.specs.Held.{priority}
@@ -21,27 +21,19 @@ use Rattle.order.specs.declared.Frame.{Frame}
 use Rattle.snapshots.specs.Code.SnapshotSteps.{ownerIn, instructionIn, beforeIn, preemptsIn, ownedBy, waitsFor, waits, goesOver, stackOf, nobody, noFrame, beyond, startsIn, startIn, topOf, runsIn, turnIn, offeredIn}
 use Rattle.snapshots.specs.Laws.StartLaws as start
 use Rattle.snapshots.specs.Laws.TurnLaws as turn
-use Rattle.states.specs.Code.StateBytes.{bytesAt, frameAt, frameIn, snapshotIn, IsState}
-use Rattle.notation.specs.Laws.TabulateLaws.{values-length, values-at}
+use Rattle.states.specs.Code.StateBytes.{frameAt, frameIn, snapshotIn, IsState}
+use Rattle.notation.specs.Laws.TabulateLaws.{values-length, values-at, bytesAt-at}
 
 -- ---- the parts of a snapshot
 
 module _ (bytes : List ℕ) where
-  pub bytesAt-length : (a n : ℕ) → length (bytesAt bytes a n) ≡ n
-  unfolding bytesAt
-  bytesAt-length a n = values-length (λ k. getD bytes (a + k) 0) n
-
-  pub bytesAt-at : (a n k d : ℕ) → k < n → getD (bytesAt bytes a n) k d ≡ getD bytes (a + k) 0
-  unfolding bytesAt
-  bytesAt-at a n k d lt = values-at (λ k. getD bytes (a + k) 0) n k d lt
-
   pub stack-length : length (snapshotIn bytes .stack) ≡ 8
   unfolding snapshotIn
   stack-length = values-length (frameIn bytes) 8
 
   pub upcoming-at : (k d : ℕ) → k < 8 → getD (snapshotIn bytes .upcoming) k d ≡ getD bytes (8 + k) 0
   unfolding snapshotIn
-  upcoming-at k d lt = bytesAt-at 8 8 k d lt
+  upcoming-at k d lt = bytesAt-at bytes 8 8 k d lt
 
   pub stack-at : (k : ℕ) (d : Frame) → k < 8 → getD (snapshotIn bytes .stack) k d ≡ frameIn bytes k
   unfolding snapshotIn

@@ -9,7 +9,8 @@ use native.Mathlib.Omega.{arith}
 use mathlib.Core.List.{List}
 use lib.ListN.{length, getD, set, take, length-set}
 use lib.Seq.{getD-set-same, getD-set-other, getD-take, length-take-le, take-all}
-use Rattle.states.specs.Code.StateBytes.{bytesAt, Replaced}
+use Rattle.states.specs.Code.StateBytes.{Replaced}
+use Rattle.notation.specs.Lists.{bytesAt}
 use Rattle.notation.specs.Laws.TabulateLaws.{values-of, same-values, set-values}
 
 -- the first k bytes of `new` written, and then the next

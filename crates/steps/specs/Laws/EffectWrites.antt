@@ -10,12 +10,12 @@ use mathlib.Core.List.{List, map}
 use lib.ListN.{length, getD, set, length-set}
 use lib.Dec.{eqb}
 use lib.Seq.{getD-set-same, getD-set-other}
-use Rattle.notation.specs.Lists.{if_then_else_, upTo}
+use Rattle.notation.specs.Lists.{if_then_else_, upTo, bytesAt}
 use Rattle.timing.specs.declared.Job.{Job}
 use Rattle.machine.specs.declared.Effect.{Effect}
 use Rattle.machine.specs.Ends.{flagged}
 use Rattle.snapshots.specs.Code.SnapshotSteps.{afterIn}
-use Rattle.states.specs.Code.StateBytes.{bytesAt, frameAt, frameIn, flagIn, snapshotIn, IsState, Replaced, FrameReplaced}
+use Rattle.states.specs.Code.StateBytes.{frameAt, frameIn, flagIn, snapshotIn, IsState, Replaced, FrameReplaced}
 use Rattle.states.specs.Laws.StateWrites.{bytes-new, bytes-same, bytes-set}
 use Rattle.notation.specs.Laws.TabulateLaws.{same-values, set-values}
 use Rattle.states.specs.Laws.FrameWrites.{frame-same}

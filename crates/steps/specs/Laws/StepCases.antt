@@ -15,7 +15,8 @@ use Rattle.order.specs.declared.Frame.{Frame}
 use Rattle.snapshots.specs.Code.Snapshots.{Snapshot, Stepped}
 use Rattle.snapshots.specs.Code.SnapshotSteps.{instructionIn, turnIn, afterIn, stepIn, offeredIn, madeIn}
 use Rattle.snapshots.specs.Laws.TurnLaws.{due-task, step-none, step-due}
-use Rattle.states.specs.Code.StateBytes.{bytesAt, snapshotIn, IsState}
+use Rattle.states.specs.Code.StateBytes.{snapshotIn, IsState}
+use Rattle.notation.specs.Lists.{bytesAt}
 use Rattle.snapshots.specs.Laws.StepPartLaws.{with-offered, with-refused}
 use Rattle.states.specs.Laws.FrameReads.{eight-read}
 

@@ -1,5 +1,6 @@
 -- Laws of the job list by value.
 -- Assumes nothing.
+use Rattle.notation.specs.Laws.TabulateLaws.{values-snoc}
 use mathlib.Core.Path.{_≡_, refl, sym, ap, _∙_, fun-ext}
 use Prim.Native.Nat.{ℕ, _+_, _-_, _*_, _^_, _≤_, _<_}
 use native.Mathlib.Nat.{mul-le-mul, le-mul-of-pos-right, zero-div, zero-mod}
@@ -44,17 +45,6 @@ job-added list job room l e =
     let total : list .count + 1 ≡ length (l ++ (job ∷ [])) = omega arith in
     λ i. record { count = total i; jobs = stored i }
 
--- a function's values at the first k + 1 numbers, after a list
-pub values-snoc : {A : Type 0} (f : ℕ → A) (l : List A) (k : ℕ)
-    → (l ++ map f (upTo k)) ++ (f k ∷ []) ≡ l ++ map f (upTo (k + 1))
-unfolding upTo
-values-snoc f l k =
-    append-assoc l (map f (from 0 k)) (f k ∷ [])
-    ∙ ap (λ (m : List _). l ++ m)
-    (sym (map-snoc f (from 0 k) k)
-    ∙ ap (λ (n : ℕ). map f (from 0 k ++ (n ∷ []))) (omega arith)
-    ∙ ap (map f) (sym (from-snoc 0 k) ∙ ap (from 0) (sym (add-one k))))
-
 -- job k of a task with this first arrival, period and response time
 abbrev pub jobAs : Task → ℕ → ℕ → ℕ → ℕ → JobRecord
 jobAs i first period response k =
@@ -69,7 +59,7 @@ none-added f list l e = e ∙ ap jobListOf (sym (append-nil l))
 pub one-added : (f : ℕ → JobRecord) (k : ℕ) (before after : JobList)
     → ((l : List JobRecord) → before ≡ jobListOf l → after ≡ jobListOf (l ++ (f k ∷ [])))
     → (l : List JobRecord) → before ≡ jobListOf (l ++ map f (upTo k)) → after ≡ jobListOf (l ++ map f (upTo (k + 1)))
-one-added f k before after added l e = added (l ++ map f (upTo k)) e ∙ ap jobListOf (values-snoc f l k)
+one-added f k before after added l e = added (l ++ map f (upTo k)) e ∙ ap jobListOf (append-assoc l (map f (upTo k)) (f k ∷ []) ∙ ap (λ (m : List JobRecord). l ++ m) (sym (values-snoc f k)))
 
 pub all-added : (i : Task) (e : TaskEntry) {first period : ℕ} (response n : ℕ) → first ≡ e .arrival
     → period ≡ e .period → (l : List JobRecord)

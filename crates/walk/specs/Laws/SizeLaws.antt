@@ -19,7 +19,8 @@ use Rattle.timing.specs.Code.IsAccepted.{IsAccepted}
 use Rattle.machine.specs.declared.Local.{Local}
 use Rattle.machine.specs.Ends.{Flags, End, noFlags, noStore}
 use Rattle.machine.specs.Buffers.{orderRoom, runAnswer, unwritten}
-use Rattle.machine.specs.Instructions.{Store, perform, operationEffects, register, endJob, loadVariable, store, setNumber, add, subtract, skipLess, skipEqual, pick, acquireLock, releaseLock, assert}
+use Rattle.machine.specs.Instructions.{Store}
+use Rattle.machine.specs.Laws.InstructionLaws.{perform-length}
 use Rattle.order.specs.Orders.{Turn, nextOf, performed, step, run, orderEnd}
 use Rattle.order.specs.Replay.{replay, replayed, replayAnswer}
 use Rattle.order.specs.States.{State, initial}
@@ -35,33 +36,11 @@ pub record Sized (variables : Store) (failed : Flags) : Type 0 where
 
 -- ---- the steps of an order
 
--- each operation by its number; a number above 11 is taken as End
-operation-keeps : (o : ℕ) (i : Instruction) (v : ℕ) (l : Local) (s : Store)
-    → length (getD operationEffects o endJob i v l s .store) ≡ length s
-unfolding operationEffects endJob loadVariable store setNumber add subtract skipLess skipEqual pick acquireLock releaseLock assert
-operation-keeps zero i v l s = refl
-operation-keeps (suc zero) i v l s = refl
-operation-keeps (suc (suc zero)) i v l s = length-set s (i .a) (register l (i .b))
-operation-keeps (suc (suc (suc zero))) i v l s = refl
-operation-keeps (suc (suc (suc (suc zero)))) i v l s = refl
-operation-keeps (suc (suc (suc (suc (suc zero))))) i v l s = refl
-operation-keeps (suc (suc (suc (suc (suc (suc zero)))))) i v l s = refl
-operation-keeps (suc (suc (suc (suc (suc (suc (suc zero))))))) i v l s = refl
-operation-keeps (suc (suc (suc (suc (suc (suc (suc (suc zero)))))))) i v l s = refl
-operation-keeps (suc (suc (suc (suc (suc (suc (suc (suc (suc zero))))))))) i v l s = refl
-operation-keeps (suc (suc (suc (suc (suc (suc (suc (suc (suc (suc zero)))))))))) i v l s = refl
-operation-keeps (suc (suc (suc (suc (suc (suc (suc (suc (suc (suc (suc zero))))))))))) i v l s = refl
-operation-keeps (suc (suc (suc (suc (suc (suc (suc (suc (suc (suc (suc (suc o)))))))))))) i v l s = refl
-
-perform-keeps : (i : Instruction) (v : ℕ) (l : Local) (s : Store) → length (perform i v l s .store) ≡ length s
-unfolding perform
-perform-keeps i v l s = operation-keeps (i .operation) i v l s
-
 performed-sized : (a : Accepted) (s : State) (v : ℕ) (turn : Turn) → Sized (s .store) (s .failed)
     → Sized (performed a s v turn .store) (performed a s v turn .failed)
 unfolding performed
 performed-sized a s v turn sized = record {
-  eight = perform-keeps (nextOf a (turn .frame)) v (turn .frame .local) (s .store) ∙ sized .eight;
+  eight = perform-length (nextOf a (turn .frame)) v (turn .frame .local) (s .store) ∙ sized .eight;
   each = flag-length _ (turn .frame .job .0) (s .failed) ∙ sized .each;
 }
 

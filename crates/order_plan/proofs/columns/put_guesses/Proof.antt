@@ -35,8 +35,10 @@ loop-less c = omega arith
 
 loop-again : tie.Need-loop-again Inv-loop μ-loop
 loop-again c =
-    let at = c .before .before .before .before .before in
-    (omega arith, guesses-more _ _ _ (c .before .before .before .before .before .before .before .before .pre .2) _ (at .before .loop .inv .1) (c .before .before .write-byte .ensures) (omega arith))
+    let at = c .before .before .before .before .before .before in (
+      omega arith,
+      guesses-more _ _ _ (at .before .before .pre .2) _ (at .loop .inv .1) (c .before .before .write-byte .ensures) (omega arith),
+    )
 
 same-length : tie.Need-same-length Inv-loop μ-loop
 same-length c = appends-length (c .before .loop .inv .1) (c .before .before .before .pre .2)

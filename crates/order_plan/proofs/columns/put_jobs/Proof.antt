@@ -30,7 +30,9 @@ loop-less : tie.Need-loop-less Inv-loop μ-loop
 loop-less c = omega arith
 
 loop-again : tie.Need-loop-again Inv-loop μ-loop
-loop-again c = (omega arith, jobs-more _ _ _ (c .before .before .before .before .before .before .before .pre .2) _ (c .before .before .before .before .before .loop .inv .1) (c .before .before .put-steps .ensures))
+loop-again c =
+    let at = c .before .before .before .before .before in
+    (omega arith, jobs-more _ _ _ (at .before .before .pre .2) _ (at .loop .inv .1) (c .before .before .put-steps .ensures))
 
 same-length : tie.Need-same-length Inv-loop μ-loop
 same-length c = appends-length (c .before .loop .inv .1) (c .before .before .before .pre .2)

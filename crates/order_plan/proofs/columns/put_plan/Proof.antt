@@ -16,19 +16,27 @@ put-guesses-requires c κs =
 
 put-jobs-requires : tie.Need-put-jobs-requires
 put-jobs-requires c κs =
-    let start = c .before .before .before .before .before .before .before .before .before .before .pre in
-    let first = appends-length (c .before .before .before .before .before .before .before .write-byte .ensures) (start .3) in
-    let second = appends-length (c .before .before .before .put-guesses .ensures) (omega (arith, first, start .3)) in
+    let guessed = c .before .before .before in
+    let one = guessed .before .before .before .before in
+    let start = one .before .before .before .pre in
+    let first = appends-length (one .write-byte .ensures) (start .3) in
+    let second = appends-length (guessed .put-guesses .ensures) (omega (arith, first, start .3)) in
     (start .1, start .2, omega (arith, first, second, start .3))
 
 same-length : tie.Need-same-length
 same-length c =
-    let start = c .before .before .before .before .before .before .before .before .before .before .before .before .before .pre in
-    appends-length (plan-put _ _ _ _ (start .3) (c .before .before .before .before .before .before .before .before .before .before .write-byte .ensures) (c .before .before .before .before .before .before .put-guesses .ensures) (c .before .before .put-jobs .ensures)) (start .3)
+    let guessed = c .before .before .before .before .before .before in
+    let one = guessed .before .before .before .before in
+    let enough = one .before .before .before .pre .3 in
+    appends-length
+    (plan-put _ _ _ _ enough (one .write-byte .ensures) (guessed .put-guesses .ensures) (c .before .before .put-jobs .ensures)) enough
 
 returns : tie.Need-returns
 returns c =
-    plan-put _ _ _ _ (c .before .before .before .before .before .before .before .before .before .before .before .before .before .pre .3) (c .before .before .before .before .before .before .before .before .before .before .write-byte .ensures) (c .before .before .before .before .before .before .put-guesses .ensures) (c .before .before .put-jobs .ensures)
+    let guessed = c .before .before .before .before .before .before in
+    let one = guessed .before .before .before .before in
+    plan-put _ _ _ _ (one .before .before .before .pre .3) (one .write-byte .ensures) (guessed .put-guesses .ensures)
+    (c .before .before .put-jobs .ensures)
 
 pub put-plan-spec : {M : Type 1} → statement M
 put-plan-spec =

@@ -31,14 +31,17 @@ write-byte-requires c κs = omega (arith, appends-length (c .before .before .bef
 
 value-at-requires : tie.Need-value-at-requires Inv-loop μ-loop
 value-at-requires c κs =
-    let start = c .before .before .before .before .before .before .before .before .before .before .pre in
-    (start .1, omega (arith, c .before .before .before .before .before .before .before .before .count-at .ensures, start .0 .few _ (start .1)))
+    let counted = c .before .before .before .before .before .before .before .before in
+    let start = counted .before .before .pre in
+    (start .1, omega (arith, counted .count-at .ensures, start .0 .few _ (start .1)))
 
 write-byte-requires-2 : tie.Need-write-byte-requires-2 Inv-loop μ-loop
 write-byte-requires-2 c κs =
-    let enough = c .before .before .before .before .before .before .before .before .before .before .before .pre .2 in
-    let first = appends-length (c .before .before .before .before .before .before .before .before .loop .inv .1) enough in
-    omega (arith, first, appends-length (c .before .before .before .before .write-byte .ensures) (omega (arith, first, enough)))
+    let written = c .before .before .before .before in
+    let at = written .before .before .before .before in
+    let enough = at .before .before .before .pre .2 in
+    let first = appends-length (at .loop .inv .1) enough in
+    omega (arith, first, appends-length (written .write-byte .ensures) (omega (arith, first, enough)))
 
 add-n : tie.Need-add-n Inv-loop μ-loop
 add-n c = omega arith
@@ -47,11 +50,13 @@ loop-less : tie.Need-loop-less Inv-loop μ-loop
 loop-less c = omega arith
 
 loop-again : tie.Need-loop-again Inv-loop μ-loop
-loop-again c = (
-  omega arith,
-  steps-more _ _ _ _ (c .before .before .before .before .before .before .before .before .before .before .before .before .before .before .pre .2) _ (c .before .before .before .before .before .before .before .before .round-at .ensures) (c .before .before .before .value-at .ensures) (c .before .before .before .before .before .before .before .before .before .before .before .loop .inv .1)
-      (c .before .before .before .before .before .before .before .write-byte .ensures) (c .before .before .write-byte2 .ensures),
-)
+loop-again c =
+    let written = c .before .before .before .before .before .before .before in
+    let at = written .before .before .before .before in (
+      omega arith,
+      steps-more _ _ _ _ (at .before .before .before .pre .2) _ (written .before .round-at .ensures) (c .before .before .before .value-at .ensures) (at .loop .inv .1)
+          (written .write-byte .ensures) (c .before .before .write-byte2 .ensures),
+    )
 
 same-length : tie.Need-same-length Inv-loop μ-loop
 same-length c = appends-length (c .before .loop .inv .1) (c .before .before .before .before .pre .2)

@@ -22,10 +22,11 @@ put-store-requires c κs = search needs
 
 trace-order-requires : tie.Need-trace-order-requires
 trace-order-requires c κs =
-    let made = c .before .before .before .before .before .before .before .before .before .before in
-    let start = made .before .before .before in
+    let begun = c .before .before .before .before in
+    let made = begun .before .before .before .before .before .before in
     let lent = made .lend .ensures in
-    (lent .few, record { isState = lent .whole; isMarks = no-marks; room = guesses-begin _ (store-length start) (c .before .before .before .before .put-store .ensures) })
+    let room = guesses-begin _ (store-length (made .before .before .before)) (begun .put-store .ensures) in
+    (lent .few, record { isState = lent .whole; isMarks = no-marks; room = room })
 
 put-plan-requires : tie.Need-put-plan-requires
 put-plan-requires c κs = search needs
@@ -33,9 +34,11 @@ put-plan-requires c κs = search needs
 clear-from-requires : tie.Need-clear-from-requires
 clear-from-requires c κs =
     let put = c .before .before .before .put-plan .ensures in
-    let enough = c .before .before .before .before .before .before .before .before .before .before .before .before .before .before .before .before .before .before .before .before .before .pre .2 in
-    let traced = c .before .before .before .before .before .before .before .trace-order .ensures in
-    let ends = plan-within _ _ (c .before .before .before .before .before .before .before .before .before .before .before .before .before .before .before .before .before .before .lend .ensures) enough (c .before .before .before .before .before .before .before .before .before .before .before .before .put-store .ensures) traced put in
+    let traced = c .before .before .before .before .before .before .before in
+    let begun = traced .before .before .before .before .before in
+    let made = begun .before .before .before .before .before .before in
+    let enough = made .before .before .before .pre .2 in
+    let ends = plan-within _ _ (made .lend .ensures) enough (begun .put-store .ensures) (traced .trace-order .ensures) put in
     (ends, omega (arith, appends-length put enough, enough))
 
 same-length : tie.Need-same-length
@@ -43,7 +46,10 @@ same-length c = search needs
 
 returns : tie.Need-returns
 returns c =
-    plan-written _ _ (c .before .before .before .before .before .before .before .before .before .before .before .before .before .before .before .before .before .before .before .before .before .lend .ensures) (c .before .before .before .before .before .before .before .before .before .before .before .before .before .before .before .before .before .before .before .before .before .before .before .before .pre .2) (c .before .before .before .before .before .before .before .before .before .before .before .before .before .before .before .put-store .ensures) (c .before .before .before .before .before .before .before .before .before .before .trace-order .ensures)
+    let traced = c .before .before .before .before .before .before .before .before .before .before in
+    let begun = traced .before .before .before .before .before in
+    let made = begun .before .before .before .before .before .before in
+    plan-written _ _ (made .lend .ensures) (made .before .before .before .pre .2) (begun .put-store .ensures) (traced .trace-order .ensures)
     (c .before .before .before .before .before .before .put-plan .ensures) (c .before .before .clear-from .ensures)
 
 pub write-plan-spec : {M : Type 1} → statement M

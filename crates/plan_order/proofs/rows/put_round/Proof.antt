@@ -3,7 +3,7 @@
 use Prim.Native.Nat.{_-_}
 use native.Mathlib.Omega.{arith}
 use Rattle.plan_order.specs.Code.Rows.{jobRow, roundRow}
-use Rattle.plan_order.specs.Laws.RowLaws.{PartsTo, parts-none, parts-more, parts-all, parts-length}
+use Rattle.plan_order.specs.Laws.RowLaws.{PartsTo, row-parts-none, parts-more, row-parts-all, parts-length}
 use Rattle.plan_order.proofs.rows.put_round.Statement.{statement}
 use Rattle.plan_order.proofs.rows.put_round.Tie as tie
 
@@ -14,7 +14,7 @@ abbrev μ-loop : tie.MeasureT-loop
 μ-loop program marks k r at out₀ next₀ x₀ out next x = k - x
 
 loop-holds : tie.Need-loop-holds Inv-loop μ-loop
-loop-holds c = parts-none _ _ _ _
+loop-holds c = row-parts-none _ _ _ _
 
 put-job-requires : tie.Need-put-job-requires Inv-loop μ-loop
 put-job-requires c κs =
@@ -38,7 +38,7 @@ same-length c = parts-length (c .before .loop .inv) (c .before .before .before .
 
 returns : tie.Need-returns Inv-loop μ-loop
 unfolding roundRow
-returns c = parts-all (c .before .loop .inv) (c .loop-test .left)
+returns c = row-parts-all (c .before .loop .inv) (c .loop-test .left)
 
 pub put-round-spec : {M : Type 1} → statement M
 put-round-spec =

@@ -3,7 +3,7 @@
 use Prim.Native.Nat.{_-_}
 use native.Mathlib.Omega.{arith}
 use Rattle.plan_order.specs.Code.Rows.{roundRow, rowsIn}
-use Rattle.plan_order.specs.Laws.RowLaws.{PartsTo, parts-none, parts-more, parts-all, parts-length}
+use Rattle.plan_order.specs.Laws.RowLaws.{PartsTo, row-parts-none, parts-more, row-parts-all, parts-length}
 use Rattle.plan_order.proofs.rows.put_rounds.Statement.{statement}
 use Rattle.plan_order.proofs.rows.put_rounds.Tie as tie
 
@@ -14,7 +14,7 @@ abbrev μ-loop : tie.MeasureT-loop
 μ-loop program marks k out₀ next₀ r₀ out next r = k - r
 
 loop-holds : tie.Need-loop-holds Inv-loop μ-loop
-loop-holds c = parts-none _ _ _ _
+loop-holds c = row-parts-none _ _ _ _
 
 put-round-requires : tie.Need-put-round-requires Inv-loop μ-loop
 put-round-requires c κs =
@@ -38,7 +38,7 @@ same-length c = parts-length (c .before .loop .inv) (c .before .before .before .
 
 returns : tie.Need-returns Inv-loop μ-loop
 unfolding rowsIn
-returns c = parts-all (c .before .loop .inv) (c .loop-test .left)
+returns c = row-parts-all (c .before .loop .inv) (c .loop-test .left)
 
 pub put-rounds-spec : {M : Type 1} → statement M
 put-rounds-spec =
