@@ -1,6 +1,5 @@
 // The entry from an order to a plan.
-use crate::columns::put_plan;
-use crate::tracing::trace_order;
+use columns::put_plan;
 use acceptance::entries::accept_file;
 use answers::refused_run;
 use answers::written_run;
@@ -16,13 +15,14 @@ use taskfile::Check;
 use taskfile::Table;
 use taskfile::numbers::ROOM;
 use timing::JobList;
+use tracing::trace_order;
 use writing::clear_from;
 ghost use mathlib.Core.Path.{_≡_};
 ghost use Prim.Native.Nat.{_≤_};
 ghost use lib.ListN.{length};
 ghost use Rattle.taskfile.specs.Code.JudgingParts.{Shaped};
 ghost use Rattle.matching.specs.ConversionEntries.{orderToPlanAnswer, orderToPlanAfter};
-ghost use Rattle.order_plan.specs.Code.Columns.{PlanWritten};
+ghost use Rattle.order_plan.specs.Code.PlanWritten.{PlanWritten};
 
 // Writes the plan of a complete order of a table's jobs, and zeros after it up to the room of a plan.
 pub fn write_plan(t: Table, list: JobList, order: &[u8], out: &mut [u8]) -> usize

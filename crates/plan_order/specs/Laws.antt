@@ -1,4 +1,3 @@
 pub mod EntryLaws
-pub mod RowLaws
 pub mod StepValueLaws
 pub mod WriteLaws

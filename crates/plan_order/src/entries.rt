@@ -1,5 +1,4 @@
 // The entry from a plan to an order.
-use crate::rows::put_rounds;
 use acceptance::entries::accept_file;
 use answers::refused_run;
 use answers::written_run;
@@ -7,6 +6,7 @@ use filling::program_of;
 use machine::RunAnswer;
 use marks::MARKS;
 use plan_check::entries::check_table;
+use rows::put_rounds;
 use snapshots::ORDER_ROOM;
 use taskfile::Check;
 use taskfile::Table;
@@ -19,7 +19,7 @@ ghost use lib.ListN.{length};
 ghost use Rattle.taskfile.specs.Code.JudgingParts.{Shaped};
 ghost use Rattle.matching.specs.ConversionEntries.{planToOrderAnswer, planToOrderAfter};
 ghost use Rattle.marks.specs.Code.Marks.{IsMarks};
-ghost use Rattle.plan_order.specs.Code.Rows.{OrderWritten};
+ghost use Rattle.plan_order.specs.Code.OrderWritten.{OrderWritten};
 
 // Writes the order of a legal plan's marks, of a table's jobs, and zeros after it up to the room of an order.
 pub fn write_order(t: Table, list: JobList, marks: &[u8; MARKS], out: &mut [u8]) -> usize

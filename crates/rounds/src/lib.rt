@@ -10,7 +10,7 @@ use taskfile::limits::INSTRUCTIONS;
 use taskfile::limits::VARIABLES;
 use timing::Job;
 ghost use mathlib.Core.Path.{_≡_};
-ghost use Prim.Native.Nat.{_≤_, _<_};
+ghost use Prim.Native.Nat.{_<_};
 ghost use lib.ListN.{length};
 ghost use Rattle.notation.specs.Lists.{same};
 ghost use Rattle.marks.specs.Code.Marks.{storeAt, withStore, stepMarked, stepCount, withMark};

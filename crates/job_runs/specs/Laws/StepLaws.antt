@@ -1,18 +1,15 @@
 -- One step of a job's run, by what its bytes come to and by whether it ends the job.
 -- Assumes nothing.
 use mathlib.Core.Path.{_≡_, refl, sym, ap}
-use Prim.Native.Nat.{ℕ, zero, suc, _+_}
+use Prim.Native.Nat.{ℕ, suc, _+_}
 use mathlib.Core.Bool.{true, false}
 use mathlib.Core.List.{List, [], _∷_, _++_, append-assoc}
-use lib.ListN.{length, getD, length-set}
 use Rattle.notation.specs.Checked.{Checked, refused, passed, _>>=_, _>>_}
 use Rattle.notation.specs.Lists.{if_then_else_}
-use Rattle.taskfile.specs.declared.Instruction.{Instruction}
 use Rattle.timing.specs.declared.Job.{Job}
 use Rattle.timing.specs.Accepted.{Accepted}
 use Rattle.machine.specs.declared.Local.{Local}
 use Rattle.machine.specs.declared.Effect.{Effect}
-use Rattle.machine.specs.Instructions.{Store, perform, operationEffects, endJob, loadVariable, store, setNumber, add, subtract, skipLess, skipEqual, pick, acquireLock, releaseLock, assert}
 use Rattle.plan.specs.declared.Round.{Round}
 use Rattle.plan.specs.Runs.{Plan, Step, RunState, JobRun, roundAt, stepBytes, stepEffect, stepMade, runningAfter, runJob}
 

@@ -2,12 +2,11 @@
 -- Assumes nothing.
 use Prim.Native.Nat.{ℕ, suc, _-_}
 use mathlib.Core.Bool.{Bool, not, _&&_, _||_}
-use mathlib.Core.List.{List, [], _∷_, map}
+use mathlib.Core.List.{List, _∷_, map}
 use lib.ListN.{getD}
 use lib.Dec.{ltb, eqb}
 use Rattle.notation.specs.Checked.{Checked, noneOf, placedBy, _>>_}
 use Rattle.notation.specs.Lists.{if_then_else_, from, upTo, all, only, each, same, firstOr, lastOr}
-use Rattle.taskfile.specs.declared.Ceilings.{Ceilings}
 use Rattle.machine.specs.Ends.{noStore}
 use Rattle.machine.specs.Instructions.{Store}
 use Rattle.plan.specs.declared.Round.{Round}

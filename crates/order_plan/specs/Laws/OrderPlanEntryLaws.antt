@@ -42,9 +42,10 @@ use Rattle.writing.specs.Code.Writing.{clearedFrom}
 use Rattle.writing.specs.Laws.WritingLaws.{appends-within, appends-count, appends-filled}
 use Rattle.marks.specs.Code.Marks.{withStore}
 use Rattle.marks.specs.Laws.StoreLaws.{put-length}
-use Rattle.order_plan.specs.Code.Columns.{planIn, PlanWritten}
-use Rattle.order_plan.specs.Code.Tracing.{notedOf, NotedOrder}
-use Rattle.order_plan.specs.Laws.PutLaws.{Puts}
+use Rattle.columns.specs.Code.Columns.{planIn}
+use Rattle.order_plan.specs.Code.PlanWritten.{PlanWritten}
+use Rattle.tracing.specs.Code.Tracing.{notedOf, NotedOrder}
+use Rattle.columns.specs.Laws.PutLaws.{Puts}
 use Rattle.order_plan.specs.Laws.PlanAgreed.{noMarks, firstGuesses, plan-noted, plan-short}
 
 -- ---- the plan of a table's parts

@@ -38,8 +38,8 @@ use Rattle.matching.specs.Laws.TraceSteps.{Trace, startTrace, traceOf}
 use Rattle.marks.specs.Code.Marks.{storeAt, storesIn, withStore, stepsMarked}
 use Rattle.marks.specs.Laws.MarkLaws.{no-marks, no-marks-of}
 use Rattle.marks.specs.Laws.StoreLaws.{put-length, put-here, stores-joined}
-use Rattle.order_plan.specs.Code.Columns.{jobColumn, columnsIn, planIn}
-use Rattle.order_plan.specs.Code.Tracing.{TraceState, orderNoted, notedOf, NotedOrder}
+use Rattle.columns.specs.Code.Columns.{jobColumn, columnsIn, planIn}
+use Rattle.tracing.specs.Code.Tracing.{TraceState, orderNoted, notedOf, NotedOrder}
 use Rattle.order_plan.specs.Laws.TraceAgreed.{order-held}
 use Rattle.order_plan.specs.Laws.TraceHeld.{marksRead, HeldTrace}
 

@@ -43,7 +43,7 @@ use Rattle.matching.specs.Laws.TraceStepLaws.{trace-follows}
 use Rattle.matching.specs.Laws.TraceSteps.{Trace, traced, traceFrom}
 use Rattle.matching.specs.Laws.TurnTraceLaws.{turn-kind}
 use Rattle.matching.specs.PlannedSteps.{endedCount}
-use Rattle.order_plan.specs.Code.Tracing.{TraceState, notedIn, dueNoted, stepNoted, orderNoted}
+use Rattle.tracing.specs.Code.Tracing.{TraceState, notedIn, dueNoted, stepNoted, orderNoted}
 use Rattle.order_plan.specs.Laws.TraceHeld.{HeldTrace, afterStep, step-held}
 
 -- as many active jobs as before the step: its job has ended

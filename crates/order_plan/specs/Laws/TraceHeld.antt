@@ -27,8 +27,8 @@ use Rattle.matching.specs.Laws.TraceSteps.{Trace, traced}
 use Rattle.marks.specs.Code.Marks.{storeAt, withStore, stepCount, stepsMarked, IsMarks}
 use Rattle.marks.specs.Laws.MarkLaws.{mark-added, mark-others}
 use Rattle.marks.specs.Laws.StoreLaws.{put-here, put-other}
-use Rattle.order_plan.specs.Code.Tracing.{TraceState, noteIn, guessIn, roundIn}
-use Rattle.order_plan.specs.Laws.NotingLaws.{note-whole, guess-room}
+use Rattle.tracing.specs.Code.Tracing.{TraceState, noteIn, guessIn, roundIn}
+use Rattle.tracing.specs.Laws.NotingLaws.{note-whole, guess-room}
 
 -- the marks of job x as a trace has them
 unfoldable pub marksRead : List ℕ → ℕ → List Mark

@@ -1,10 +1,8 @@
 -- Laws of checks that are kept as faults: where every number is positive, number 0 says that the check passed.
 -- Assumes nothing.
 use mathlib.Core.Path.{_≡_, ap}
-use Prim.Native.Nat.{ℕ, _≤_}
+use Prim.Native.Nat.{ℕ}
 use native.Mathlib.Omega.{arith}
-use mathlib.Core.Bool.{Bool, true, false}
-use mathlib.Core.List.{List, [], _∷_}
 use Rattle.notation.specs.Checked.{Checked, refused, passed, _>>_}
 use Rattle.notation.specs.Laws.NumberedLaws.{Numbered, by-number}
 use Rattle.marks.specs.declared.Fault.{Fault}

@@ -13,7 +13,7 @@ use Rattle.timing.specs.Accepted.{Accepted}
 use Rattle.machine.specs.Ends.{noStore}
 use Rattle.machine.specs.Instructions.{Store}
 use Rattle.plan.specs.declared.Round.{Round}
-use Rattle.plan.specs.Legality.{pairs, orderFault, lockFault, dueStore, guessFault, legality}
+use Rattle.plan.specs.Legality.{dueStore, guessFault, legality}
 use Rattle.plan.specs.Runs.{Plan, JobRuns, jobTotal, roundNumbers, guess}
 use Rattle.marks.specs.declared.Fault.{Fault}
 use Rattle.marks.specs.Code.Marks.{faultOf, storesIn, stepsIn}

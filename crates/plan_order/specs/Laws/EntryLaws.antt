@@ -27,7 +27,7 @@ use Rattle.matching.specs.Conversions.{orderOf, planToOrder}
 use Rattle.matching.specs.ConversionEntries.{orderedPlan, planToOrderAnswer, planToOrderAfter}
 use Rattle.marks.specs.declared.PlanChecked.{PlanChecked}
 use Rattle.marks.specs.Code.TableParts.{PlanCheckedAs, PlanCheckedOf}
-use Rattle.plan_order.specs.Code.Rows.{OrderWritten}
+use Rattle.plan_order.specs.Code.OrderWritten.{OrderWritten}
 
 -- the answer is that of a plan's end and of bytes of this number
 abbrev pub AnswersWith : PlanChecked → ℕ → RunAnswer → Type 0

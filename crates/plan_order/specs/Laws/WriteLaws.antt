@@ -35,8 +35,9 @@ use Rattle.matching.specs.Laws.ConversionLaws.{plan-complete}
 use Rattle.marks.specs.Code.Marks.{stepsMarked, stepsIn}
 use Rattle.writing.specs.Code.Writing.{Appends, clearedFrom}
 use Rattle.writing.specs.Laws.WritingLaws.{appends-within, appends-count, appends-filled}
-use Rattle.plan_order.specs.Code.Rows.{orderByte, jobRow, roundRow, rowsIn, OrderWritten}
-use Rattle.plan_order.specs.Laws.RowLaws.{byte-small}
+use Rattle.rows.specs.Code.Rows.{orderByte, jobRow, roundRow, rowsIn}
+use Rattle.plan_order.specs.Code.OrderWritten.{OrderWritten}
+use Rattle.rows.specs.Laws.RowLaws.{byte-small}
 use Rattle.plan_order.specs.Laws.StepValueLaws.{Small, steps-small}
 
 -- ---- lists
