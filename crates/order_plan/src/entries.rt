@@ -1,8 +1,8 @@
 // The entry from an order to a plan.
-use columns::put_plan;
 use acceptance::entries::accept_file;
 use answers::refused_run;
 use answers::written_run;
+use columns::put_plan;
 use lending::lend;
 use machine::RunAnswer;
 use marks::MARKS;
