@@ -1,7 +1,7 @@
 /*
  * Adqurim's C interface: the reader of task files, the replay of an order, the walk of all orders,
- * the check of a round plan, and the conversions of an order to its plan and of a plan to its
- * order. For C11 and C++11 or later.
+ * the check of a round plan, the conversions of an order to its plan and of a plan to its order,
+ * and the sheet. For C11 and C++11 or later.
  *
  * Each entry comes twice: as a proved entry of the library, which fills words that the caller
  * lends, and as a function that calls the entry and fills a struct.
@@ -12,9 +12,10 @@
  *   adqurim_check_plan      adqurim_check_round_plan
  *   adqurim_order_to_plan   adqurim_convert_order
  *   adqurim_plan_to_order   adqurim_convert_plan
+ *   adqurim_sheet           adqurim_print_sheet
  *
- * A slice passes as a pointer and then a length: bytes for a file, an order or a plan, words of 64
- * bits for an answer. A pointer is never null, even where its length is 0. The library keeps
+ * A slice passes as a pointer and then a length: bytes for a file, an order, a plan or a text, words
+ * of 64 bits for an answer. A pointer is never null, even where its length is 0. The library keeps
  * nothing between calls and allocates nothing.
  */
 #ifndef ADQURIM_H
@@ -34,10 +35,17 @@ extern "C" {
 #define ADQURIM_MOST_JOBS 32
 #define ADQURIM_VARIABLES 8
 
-/* The room that number 20 asks for: bytes of an order, bytes of a plan, records of a job list. */
+/*
+ * The room that number 20 asks for: bytes of an order, bytes of a plan, records of a job list, bytes
+ * of a sheet's text.
+ */
 #define ADQURIM_ORDER_ROOM 512
 #define ADQURIM_PLAN_ROOM 1281
 #define ADQURIM_JOB_LIST_ROOM 32
+#define ADQURIM_SHEET_ROOM 4608
+
+/* The allowance of a sheet's walk. */
+#define ADQURIM_SHEET_ALLOWANCE 1000000
 
 /*
  * The numbers of an answer. A refusal has its number, its place, and every other field zero.
@@ -66,7 +74,7 @@ enum adqurim_number {
 
     /* The caller. */
     ADQURIM_ROOM = 20,      /* order buffer below 512 bytes, plan buffer below 1,281, job list
-                               below 32; place 0 */
+                               below 32, a sheet's text below 4,608; place 0 */
     ADQURIM_UNDECIDED = 21, /* the walk's count exceeds the allowance; place 0 */
 
     /* The author of an order. The place is a step's index. */
@@ -98,6 +106,7 @@ enum adqurim_verdict {
 #define ADQURIM_WALK_WORDS 45
 #define ADQURIM_CHECK_PLAN_WORDS 43
 #define ADQURIM_CONVERSION_WORDS 43
+#define ADQURIM_SHEET_WORDS 3
 
 /* What adqurim_read answers, word by word. */
 typedef struct adqurim_read_answer {
@@ -127,6 +136,13 @@ typedef struct adqurim_walk_answer {
     uint64_t count;                     /* moves made */
 } adqurim_walk_answer;
 
+/* What adqurim_sheet answers, word by word. */
+typedef struct adqurim_sheet_answer {
+    uint64_t number; /* 0 or ADQURIM_ROOM */
+    uint64_t place;  /* 0 */
+    uint64_t length; /* of the sheet, in bytes */
+} adqurim_sheet_answer;
+
 #ifdef __cplusplus
 #define ADQURIM_STATIC_ASSERT static_assert
 #else
@@ -137,6 +153,7 @@ ADQURIM_STATIC_ASSERT(sizeof(adqurim_run) == ADQURIM_REPLAY_WORDS * 8, "43 words
 ADQURIM_STATIC_ASSERT(sizeof(adqurim_walk_answer) == ADQURIM_WALK_WORDS * 8, "45 words");
 ADQURIM_STATIC_ASSERT(sizeof(adqurim_run) == ADQURIM_CHECK_PLAN_WORDS * 8, "43 words");
 ADQURIM_STATIC_ASSERT(sizeof(adqurim_run) == ADQURIM_CONVERSION_WORDS * 8, "43 words");
+ADQURIM_STATIC_ASSERT(sizeof(adqurim_sheet_answer) == ADQURIM_SHEET_WORDS * 8, "3 words");
 #undef ADQURIM_STATIC_ASSERT
 
 /*
@@ -277,6 +294,26 @@ bool adqurim_plan_to_order(const uint8_t *file, size_t file_len, const uint8_t *
                            size_t answer_len);
 
 /*
+ * Writes a task file's sheet to the front of a text and fills the first 3 words of the answer:
+ *
+ *   word 0   the number: 0, or 20 if the text is below 4,608 bytes
+ *   word 1   the place, 0
+ *   word 2   how many bytes the sheet has; 0 with number 20
+ *
+ * No file is refused: the sheet of one that the reader refuses is the line `refused NUMBER PLACE`.
+ * The sheet is lines of words and decimal numbers, each ended by a newline; no zero byte follows.
+ * Its walk has an allowance of 1,000,000 moves.
+ *
+ * Bytes of the text past the sheet never change, with number 20 none does. Words past the third
+ * never change.
+ *
+ * Returns whether the answer has room for the 3 words. Without room nothing changes, the text
+ * neither, and the answer is false. The file is only read; file, text and answer do not overlap.
+ */
+bool adqurim_sheet(const uint8_t *file, size_t file_len, uint8_t *text, size_t text_len,
+                   uint64_t *answer, size_t answer_len);
+
+/*
  * The same entries with structs. Each returns the answer's number, 0 if nothing is refused. What
  * is said above of the lent bytes holds here too.
  *
@@ -341,6 +378,15 @@ static inline uint64_t adqurim_convert_plan(const uint8_t *file, size_t file_len
     uint64_t words[ADQURIM_CONVERSION_WORDS];
     (void)adqurim_plan_to_order(file, file_len, plan, plan_len, order, order_len, words,
                                 ADQURIM_CONVERSION_WORDS);
+    memcpy(answer, words, sizeof words);
+    return answer->number;
+}
+
+/* Writes the sheet. */
+static inline uint64_t adqurim_print_sheet(const uint8_t *file, size_t file_len, uint8_t *text,
+                                           size_t text_len, adqurim_sheet_answer *answer) {
+    uint64_t words[ADQURIM_SHEET_WORDS];
+    (void)adqurim_sheet(file, file_len, text, text_len, words, ADQURIM_SHEET_WORDS);
     memcpy(answer, words, sizeof words);
     return answer->number;
 }

@@ -6,12 +6,15 @@ use order_plan::entries::order_to_plan;
 use plan_check::entries::check_plan;
 use plan_order::entries::plan_to_order;
 use replay::entries::replay;
+use sheet_lines::fill_sheet;
 use walker::entries::walk_file;
 use words::READ_WORDS;
 use words::RUN_WORDS;
+use words::SHEET_WORDS;
 use words::WALK_WORDS;
 use words::put_read;
 use words::put_run;
+use words::put_sheet_words;
 use words::put_walk;
 ghost use mathlib.Core.Path.{_≡_};
 ghost use lib.Dec.{leb};
@@ -23,7 +26,9 @@ ghost use Rattle.walk.specs.WalkEntry.{walkAnswer, walkAfter};
 ghost use Rattle.plan.specs.Plans.{planAnswer};
 ghost use Rattle.matching.specs.ConversionEntries.{orderToPlanAnswer, orderToPlanAfter};
 ghost use Rattle.matching.specs.ConversionEntries.{planToOrderAnswer, planToOrderAfter};
+ghost use Rattle.sheets.specs.Sheets.{sheetAnswer, sheetAfter};
 ghost use Rattle.words.specs.Words.{wordsOfRead, wordsOfRun, wordsOfWalk, readWords, runWords, walkWords, filledWith};
+ghost use Rattle.words.specs.Words.{wordsOfSheet, sheetWords};
 
 // The reader's entry. Words 0 and 1 are number and place, words 2 to 9 the response times of tasks 0 to 7 (0 past
 // the last task), word 10 the number of jobs. It answers whether there was room; without room no word changes.
@@ -150,5 +155,25 @@ pub extern "C" fn adqurim_plan_to_order(
     }
     let ordered = plan_to_order(file, plan, order);
     put_run(ordered, answer);
+    true
+}
+
+// The sheet's entry. Word 0 is 0, or 20 if the text is below 4,608 bytes, word 1 the place, which is 0, word 2 how many
+// bytes the sheet has. The sheet stands at the text's front, and bytes past it never change. It answers whether there
+// was room for the words; without room nothing changes, the text neither.
+#[no_mangle]
+pub extern "C" fn adqurim_sheet(file: &[u8], text: &mut [u8], answer: &mut [u64]) -> bool
+    ensures room { λ r. ⌜ r ≡ leb wordsOfSheet (length (now (answer .entry))) ⌝ }
+    ensures words { λ _. ⌜ now (answer .exit)
+        ≡ filledWith (sheetWords (sheetAnswer (now (file .entry)) (now (text .entry)))) (now (answer .entry)) ⌝ }
+    ensures written { λ _. ⌜ now (text .exit)
+        ≡ (if leb wordsOfSheet (length (now (answer .entry)))
+        then sheetAfter (now (file .entry)) (now (text .entry)) else now (text .entry)) ⌝ }
+{
+    if answer.len() < SHEET_WORDS {
+        return false;
+    }
+    let sheet = fill_sheet(file, text);
+    put_sheet_words(sheet, answer);
     true
 }

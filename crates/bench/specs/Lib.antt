@@ -1,3 +1,4 @@
 pub mod Bench
 pub mod Files
 pub mod Laws
+pub mod SheetOfX

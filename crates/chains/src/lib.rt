@@ -1,5 +1,7 @@
 // Chains of records: a body, the tasks, each followed by its body, and the locks. Each reader calls itself on the next
-// index.
+// index. Document 01: "The chain reader keeps the lent file together with its present index". A function over a struct
+// that holds a slice is not covered, so `reader_at`, `held_index` and `index_at` are proved by walks of their code, by
+// hand; every index that is followed is read by a reader at the record that holds it.
 use links::follow_index;
 use records::byte_at;
 use taskfile::Chained;
@@ -15,6 +17,34 @@ ghost use Prim.Native.Nat.{ℕ, _≤_};
 ghost use lib.ListN.{length};
 ghost use Rattle.taskfile.specs.Chains.{chain, bodyChain, taskChains, recordsOf};
 ghost use Rattle.taskfile.specs.Code.Reading.{marks, ChainedAs};
+ghost use Rattle.taskfile.specs.Records.{byteAt};
+
+// The lent file together with the present index in it.
+pub struct ChainReader<'a> {
+    pub file: &'a [u8],
+    pub index: u8,
+}
+
+// A reader at a record.
+pub fn reader_at<'a>(file: &'a [u8], index: u8) -> ChainReader<'a>
+    ensures { λ r. ⌜ (r .file ≡ file .entry) × (r .index ≡ index) ⌝ }
+{
+    ChainReader { file, index }
+}
+
+// The index that byte k of the present record holds.
+pub fn held_index<'a>(reader: ChainReader<'a>, k: u8) -> u8
+    ensures { λ x. ⌜ x ≡ byteAt (now (reader .entry .file)) (reader .entry .index) k ⌝ }
+{
+    byte_at(reader.file, reader.index, k)
+}
+
+// The index that byte k of a record holds, read by a reader at that record.
+pub fn index_at(file: &[u8], index: u8, k: u8) -> u8
+    ensures { λ x. ⌜ x ≡ byteAt (now (file .entry)) index k ⌝ }
+{
+    held_index(reader_at(file, index), k)
+}
 
 // A chain that passed: how many records it has, and the marks with its records among them.
 pub fn passed_chain(count: u8, seen: [bool; RECORDS]) -> Chained
@@ -68,7 +98,7 @@ pub fn read_chain(
         allowed - 1,
         marked,
         index,
-        byte_at(file, index, offsets::NEXT),
+        index_at(file, index, offsets::NEXT),
     );
     let end = rest.check;
     let after = rest.seen;
@@ -83,7 +113,7 @@ pub fn read_body(file: &[u8], seen: [bool; RECORDS], holder: u8) -> Chained
     ensures { λ x. ⌜ ((reached : List ℕ) → seen ≡ marks reached
         → ChainedAs (λ l. l) length x reached (bodyChain (now (file .entry)) reached holder)) ⌝ }
 {
-    let first = byte_at(file, holder, offsets::FIRST_INSTRUCTION);
+    let first = index_at(file, holder, offsets::FIRST_INSTRUCTION);
     if first == 0 {
         return refused_chain(Check::Refused(numbers::COUNT, holder), seen);
     }
@@ -124,7 +154,7 @@ pub fn read_tasks(file: &[u8], allowed: u8, seen: [bool; RECORDS], holder: u8, i
         allowed - 1,
         within,
         index,
-        byte_at(file, index, offsets::NEXT),
+        index_at(file, index, offsets::NEXT),
     );
     let end = rest.check;
     let after = rest.seen;

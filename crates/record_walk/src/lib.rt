@@ -1,9 +1,9 @@
 // The whole walk of records, numbers 2 to 6: header, each task followed by its body, then locks, and no record left
 // over.
+use chains::index_at;
 use chains::read_chain;
 use chains::read_tasks;
 use links::record_of;
-use records::byte_at;
 use taskfile::Check;
 use taskfile::Kind;
 use taskfile::limits::MOST_LOCKS;
@@ -48,7 +48,7 @@ pub fn read_chains(file: &[u8]) -> Check
     let Check::Passed = head else {
         return head;
     };
-    let first = byte_at(file, 0, offsets::FIRST_TASK);
+    let first = index_at(file, 0, offsets::FIRST_TASK);
     if first == 0 {
         return Check::Refused(numbers::COUNT, 0);
     }
@@ -66,7 +66,7 @@ pub fn read_chains(file: &[u8]) -> Check
         MOST_LOCKS,
         within,
         0,
-        byte_at(file, 0, offsets::FIRST_LOCK),
+        index_at(file, 0, offsets::FIRST_LOCK),
     );
     let locked = locks.check;
     let after = locks.seen;

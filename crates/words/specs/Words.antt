@@ -8,6 +8,7 @@ use lib.Dec.{leb}
 use Rattle.notation.specs.Lists.{if_then_else_}
 use Rattle.timing.specs.declared.ReadAnswer.{ReadAnswer}
 use Rattle.machine.specs.declared.RunAnswer.{RunAnswer}
+use Rattle.sheets.specs.declared.SheetAnswer.{SheetAnswer}
 use Rattle.walk.specs.declared.Verdict.{Verdict}
 use Rattle.walk.specs.declared.Verdict.the-variants.{None, Holds, Fails}
 use Rattle.walk.specs.declared.WalkAnswer.{WalkAnswer}
@@ -21,6 +22,14 @@ wordsOfRun = 43
 
 abbrev pub wordsOfWalk : ℕ
 wordsOfWalk = 45
+
+-- and the sheet
+abbrev pub wordsOfSheet : ℕ
+wordsOfSheet = 3
+
+-- number, place, how many bytes the sheet has
+unfoldable pub sheetWords : SheetAnswer → List ℕ
+sheetWords a = a .number ∷ a .place ∷ a .length ∷ []
 
 -- number, place, the response times of tasks 0 to 7, the number of jobs
 unfoldable pub readWords : ReadAnswer → List ℕ

@@ -1,6 +1,7 @@
 // The words of an answer, stored into those that the caller of the C interface lends.
 
 use machine::RunAnswer;
+use sheets::SheetAnswer;
 use timing::ReadAnswer;
 use walk::Verdict;
 use walk::WalkAnswer;
@@ -8,19 +9,23 @@ ghost use mathlib.Core.Path.{_≡_};
 ghost use Prim.Native.Nat.{_<_, _≤_};
 ghost use lib.ListN.{length, getD};
 ghost use Rattle.words.specs.Words.{
+  wordsOfSheet,
   wordsOfRead,
   wordsOfRun,
   wordsOfWalk,
   flag,
   verdictNumber,
   runPart,
+  sheetWords,
   readWords,
   runWords,
   walkWords,
   filledWith,
 };
 
-// How many words the reader, a replay and a walk answer.
+// How many words the sheet, the reader, a replay and a walk answer.
+pub const SHEET_WORDS: usize = 3;
+
 pub const READ_WORDS: usize = 11;
 
 pub const RUN_WORDS: usize = 43;
@@ -28,7 +33,7 @@ pub const RUN_WORDS: usize = 43;
 pub const WALK_WORDS: usize = 45;
 
 // Where each word stands: number and place first in every answer, then the reader's response times and number of jobs,
-// or a run's end store, failed jobs and length, and after them a walk's verdict and count of moves.
+// or a sheet's size, or a run's end store, failed jobs and length, and after them a walk's verdict and count of moves.
 pub const NUMBER: usize = 0;
 
 pub const PLACE: usize = 1;
@@ -36,6 +41,8 @@ pub const PLACE: usize = 1;
 pub const RESPONSES: usize = 2;
 
 pub const JOBS: usize = 10;
+
+pub const SIZE: usize = 2;
 
 pub const STORE: usize = 2;
 
@@ -157,4 +164,14 @@ pub fn put_walk(x: WalkAnswer, answer: &mut [u64])
     let verdict = x.verdict;
     answer[VERDICT] = verdict_word(verdict);
     answer[COUNT] = x.count;
+}
+
+// The words of the sheet's answer.
+pub fn put_sheet_words(x: SheetAnswer, answer: &mut [u64])
+    requires { ⌜ wordsOfSheet ≤ length (now answer) ⌝ }
+    ensures { λ _. ⌜ now (answer .exit) ≡ filledWith (sheetWords x) (now (answer .entry)) ⌝ }
+{
+    answer[NUMBER] = x.number as u64;
+    answer[PLACE] = x.place as u64;
+    answer[SIZE] = x.length as u64;
 }

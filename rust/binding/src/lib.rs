@@ -1,8 +1,8 @@
 //! Safe calls of the proved entries through the C interface of `include/adqurim.h`.
 //!
 //! [`read`], [`replay`], [`walk`], [`check_plan`], [`order_to_plan`] and [`plan_to_order`] give a
-//! value or a [`Refusal`], which prints as a sentence. The module [`raw`] has the same entries with
-//! their numbers, places and lent memory.
+//! value or a [`Refusal`], which prints as a sentence; [`sheet`] gives a text for every file. The
+//! module [`raw`] has the same entries with their numbers, places and lent memory.
 //!
 //! ```
 //! let refusal = binding::read(&[1; 7]).unwrap_err();
@@ -15,7 +15,10 @@ mod refusal;
 mod words;
 
 pub use refusal::{Place, Refusal, Rule};
-pub use words::{JOB_LIST_ROOM, MOST_JOBS, MOST_TASKS, ORDER_ROOM, PLAN_ROOM, VARIABLES};
+pub use words::{
+    JOB_LIST_ROOM, MOST_JOBS, MOST_TASKS, ORDER_ROOM, PLAN_ROOM, SHEET_ALLOWANCE, SHEET_ROOM,
+    VARIABLES,
+};
 
 /// A job's number: jobs are numbered from 0 by task, then by arrival.
 #[derive(Debug, Clone, Copy, PartialEq, Eq, PartialOrd, Ord, Hash)]
@@ -117,6 +120,16 @@ pub fn plan_to_order(file: &[u8], plan: &[u8]) -> Result<Ordered, Refusal> {
     accept(answer.number, answer.place)?;
     let order = order[..answer.length as usize].to_vec();
     Ok(Ordered { order, ending: ending(answer.end_store, answer.failed_jobs) })
+}
+
+/// The sheet of a file, each line ended by a newline. A file that is refused has one too: a line
+/// with number and place.
+pub fn sheet(file: &[u8]) -> String {
+    let mut text = vec![0; SHEET_ROOM];
+    let answer = raw::sheet(file, &mut text);
+    assert_eq!(answer.number, 0, "the text has room for any sheet");
+    text.truncate(answer.length as usize);
+    String::from_utf8(text).expect("a sheet is ASCII")
 }
 
 /// The refusal of an answer, if it is one.

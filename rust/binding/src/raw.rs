@@ -2,8 +2,8 @@
 //! place that a caller has to look at. This is the only module with unsafe code.
 
 pub use crate::words::{
-    ReadAnswer, RunAnswer, Verdict, WalkAnswer, CHECK_PLAN_WORDS, CONVERSION_WORDS, READ_WORDS,
-    REPLAY_WORDS, WALK_WORDS,
+    ReadAnswer, RunAnswer, SheetAnswer, Verdict, WalkAnswer, CHECK_PLAN_WORDS, CONVERSION_WORDS,
+    READ_WORDS, REPLAY_WORDS, SHEET_WORDS, WALK_WORDS,
 };
 
 mod c {
@@ -61,6 +61,15 @@ mod c {
             plan_len: usize,
             order: *mut u8,
             order_len: usize,
+            answer: *mut u64,
+            answer_len: usize,
+        ) -> bool;
+
+        pub fn adqurim_sheet(
+            file: *const u8,
+            file_len: usize,
+            text: *mut u8,
+            text_len: usize,
             answer: *mut u64,
             answer_len: usize,
         ) -> bool;
@@ -207,4 +216,28 @@ pub fn plan_to_order(file: &[u8], plan: &[u8], order: &mut [u8]) -> RunAnswer {
     let room = plan_to_order_words(file, plan, order, &mut words);
     assert!(room, "the entry has room for its words");
     RunAnswer::from(words)
+}
+
+/// Writes a file's sheet into a lent text, and lent words. False, and neither changed, if there is
+/// no room for 3 words.
+pub fn sheet_words(file: &[u8], text: &mut [u8], answer: &mut [u64]) -> bool {
+    // SAFETY: as for the walk, with the text for the order.
+    unsafe {
+        c::adqurim_sheet(
+            file.as_ptr(),
+            file.len(),
+            text.as_mut_ptr(),
+            text.len(),
+            answer.as_mut_ptr(),
+            answer.len(),
+        )
+    }
+}
+
+/// Writes a file's sheet. It stands at the text's front; a text below 4,608 bytes stays as it is.
+pub fn sheet(file: &[u8], text: &mut [u8]) -> SheetAnswer {
+    let mut words = [0; SHEET_WORDS];
+    let room = sheet_words(file, text, &mut words);
+    assert!(room, "the entry has room for its words");
+    SheetAnswer::from(words)
 }

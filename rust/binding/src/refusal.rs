@@ -87,7 +87,8 @@ const ENTRIES: [Entry; 22] = [
         "the table has more than 32 jobs"),
     (Rule::Room, "ROOM", Place::Nowhere,
         "the lent memory is too short: \
-         an order needs 512 bytes, a plan 1,281 bytes, a job list 32 records"),
+         an order needs 512 bytes, a plan 1,281 bytes, a job list 32 records, \
+         a sheet 4,608 bytes"),
     (Rule::Undecided, "UNDECIDED", Place::Nowhere,
         "the walk's count exceeds the allowance"),
     (Rule::Step, "STEP", Place::Step,

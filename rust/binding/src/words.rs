@@ -5,10 +5,15 @@ pub const MOST_TASKS: usize = 8;
 pub const MOST_JOBS: usize = 32;
 pub const VARIABLES: usize = 8;
 
-/// The room that number 20 asks for: bytes of an order, bytes of a plan, records of a job list.
+/// The room that number 20 asks for: bytes of an order, bytes of a plan, records of a job list,
+/// bytes of a sheet's text.
 pub const ORDER_ROOM: usize = 512;
 pub const PLAN_ROOM: usize = 1281;
 pub const JOB_LIST_ROOM: usize = 32;
+pub const SHEET_ROOM: usize = 4608;
+
+/// The allowance of a sheet's walk.
+pub const SHEET_ALLOWANCE: u64 = 1_000_000;
 
 /// How many words the reader's entry fills.
 pub const READ_WORDS: usize = 11;
@@ -67,6 +72,30 @@ pub struct WalkAnswer {
     pub end_store: [u64; VARIABLES],
     /// Of jobs 0 to 31: 1 if the job failed, else 0.
     pub failed_jobs: [u64; MOST_JOBS],
+}
+
+/// How many words the sheet's entry fills.
+pub const SHEET_WORDS: usize = 3;
+
+/// What the sheet's entry answers.
+#[derive(Debug, Clone, Copy, PartialEq, Eq, Default)]
+pub struct SheetAnswer {
+    pub number: u64,
+    pub place: u64,
+    /// Of the sheet, in bytes.
+    pub length: u64,
+}
+
+impl From<[u64; SHEET_WORDS]> for SheetAnswer {
+    fn from([number, place, length]: [u64; SHEET_WORDS]) -> SheetAnswer {
+        SheetAnswer { number, place, length }
+    }
+}
+
+impl From<SheetAnswer> for [u64; SHEET_WORDS] {
+    fn from(answer: SheetAnswer) -> [u64; SHEET_WORDS] {
+        [answer.number, answer.place, answer.length]
+    }
 }
 
 impl From<u64> for Verdict {

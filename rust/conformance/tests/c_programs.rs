@@ -1,5 +1,6 @@
 //! Programs in C and C++ that include the header, link the static library and check table X.
 
+use conformance::cases::table_x;
 use std::env;
 use std::path::{Path, PathBuf};
 use std::process::{Command, Output};
@@ -46,10 +47,16 @@ fn run(program: &Program, name: &str, more: &[&str]) -> Output {
     Command::new(built).output().expect("the program starts")
 }
 
+/// What a program prints: table X's sheet.
+fn printed() -> String {
+    interpreter::sheet(&table_x().write())
+}
+
 /// Runs a program as it is, then with a count that is not document 01's, which it must notice.
 fn check(program: &Program, name: &str) {
     let output = run(program, name, &[]);
     assert_eq!(output.status.code(), Some(0), "{}", written(&output));
+    assert_eq!(written(&output), printed());
     let output = run(program, &format!("{name}_wrong"), &["-DCOUNT_OF_X=24"]);
     assert_eq!(output.status.code(), Some(1), "{}", written(&output));
     assert!(!output.stderr.is_empty(), "it says what differs");

@@ -1,10 +1,11 @@
 //! The entries and numbers of the header and of the README against those of the binding.
 
 use binding::raw::{
-    Verdict, CHECK_PLAN_WORDS, CONVERSION_WORDS, READ_WORDS, REPLAY_WORDS, WALK_WORDS,
+    Verdict, CHECK_PLAN_WORDS, CONVERSION_WORDS, READ_WORDS, REPLAY_WORDS, SHEET_WORDS, WALK_WORDS,
 };
 use binding::{
-    Place, Rule, JOB_LIST_ROOM, MOST_JOBS, MOST_TASKS, ORDER_ROOM, PLAN_ROOM, VARIABLES,
+    Place, Rule, JOB_LIST_ROOM, MOST_JOBS, MOST_TASKS, ORDER_ROOM, PLAN_ROOM, SHEET_ALLOWANCE,
+    SHEET_ROOM, VARIABLES,
 };
 use std::collections::{BTreeMap, BTreeSet};
 
@@ -50,7 +51,7 @@ fn declared<'a>(text: &'a str, words: &str) -> BTreeSet<&'a str> {
 #[test]
 fn every_entry_of_the_header_is_bound() {
     let entries = declared(HEADER, "bool ");
-    assert_eq!(entries.len(), 6);
+    assert_eq!(entries.len(), 7);
     assert_eq!(entries, declared(BOUND, "pub fn "));
 }
 
@@ -82,11 +83,14 @@ fn every_constant_is_in_the_header() {
         ("ADQURIM_ORDER_ROOM", ORDER_ROOM),
         ("ADQURIM_PLAN_ROOM", PLAN_ROOM),
         ("ADQURIM_JOB_LIST_ROOM", JOB_LIST_ROOM),
+        ("ADQURIM_SHEET_ROOM", SHEET_ROOM),
+        ("ADQURIM_SHEET_ALLOWANCE", SHEET_ALLOWANCE as usize),
         ("ADQURIM_READ_WORDS", READ_WORDS),
         ("ADQURIM_REPLAY_WORDS", REPLAY_WORDS),
         ("ADQURIM_WALK_WORDS", WALK_WORDS),
         ("ADQURIM_CHECK_PLAN_WORDS", CHECK_PLAN_WORDS),
         ("ADQURIM_CONVERSION_WORDS", CONVERSION_WORDS),
+        ("ADQURIM_SHEET_WORDS", SHEET_WORDS),
     ];
     assert_eq!(constants(), named(expected.map(|(name, size)| (name, size as u64))));
 }

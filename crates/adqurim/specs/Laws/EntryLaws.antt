@@ -15,9 +15,10 @@ use Rattle.taskfile.specs.Records.{File}
 use Rattle.timing.specs.Accepted.{Accepted, accept}
 use Rattle.timing.specs.ReadEntries.{readAnswerOf, readAnswer}
 use Rattle.machine.specs.declared.RunAnswer.{RunAnswer}
+use Rattle.sheets.specs.declared.SheetAnswer.{SheetAnswer}
 use Rattle.walk.specs.WalkEntry.{walkAnswer}
 use Rattle.walk.specs.Laws.SizeLaws.{Sized, walk-sized}
-use Rattle.words.specs.Words.{wordsOfRead, wordsOfRun, wordsOfWalk, readWords, runWords, walkWords, filledWith}
+use Rattle.words.specs.Words.{wordsOfSheet, sheetWords, wordsOfRead, wordsOfRun, wordsOfWalk, readWords, runWords, walkWords, filledWith}
 use Rattle.words.specs.Laws.WordsLaws.{no-room, read-length, words-run-length, walk-length}
 
 -- the reader answers eight response times
@@ -36,6 +37,11 @@ pub run-unfilled : (lent : List ℕ) (x : RunAnswer) → Sized (x .store) (x .fa
     → lent ≡ filledWith (runWords x) lent
 run-unfilled lent x sized short =
     no-room (runWords x) lent (omega (arith, words-run-length x (sized .eight) (sized .each)))
+
+pub sheet-unfilled : (lent : List ℕ) (x : SheetAnswer) → length lent < wordsOfSheet
+    → lent ≡ filledWith (sheetWords x) lent
+unfolding sheetWords
+sheet-unfilled lent x short = no-room (sheetWords x) lent short
 
 pub walk-unfilled : (lent : List ℕ) (f : File) (allowance : ℕ) (buffer : List ℕ) → length lent < wordsOfWalk
     → lent ≡ filledWith (walkWords (walkAnswer f allowance buffer)) lent

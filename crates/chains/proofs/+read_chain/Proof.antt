@@ -14,7 +14,7 @@ use Rattle.chains.proofs.+read_chain.Lts-read_chain as read-chain-lts
 use Rattle.links.proofs.follow_index.Reads as follow-index-reads
 use Rattle.chains.proofs.passed_chain.Reads as passed-chain-reads
 use Rattle.chains.proofs.refused_chain.Reads as refused-chain-reads
-use Rattle.records.proofs.byte_at.Reads as byte-at-reads
+use Rattle.chains.proofs.index_at.Reads as index-at-reads
 use Rattle.chains.proofs.+read_chain.{statement}
 use Rattle.chains.proofs.+read_chain.Tie.{close}
 
@@ -38,8 +38,8 @@ claims t = (
   follow-index-reads.Learnt,
   refused-chain-reads.Asked,
   refused-chain-reads.Learnt,
-  byte-at-reads.Asked,
-  byte-at-reads.Learnt,
+  index-at-reads.Asked,
+  index-at-reads.Learnt,
   read-chain-below t,
   read-chain.Post,
 )
@@ -79,8 +79,8 @@ read-chain-array-write-marked t c = omega arith
 read-chain-sub-read-chain : (t : ℕ) → read-chain-lts.Need-sub-read-chain (claims t) (read-chain-at t) read-chain.Post
 read-chain-sub-read-chain t c = step-allowed _ _ _ _ _ _ _ (c .before .before .follow-index .ensures) (c .enum-told .given .1)
 
-read-chain-byte-at-requires : (t : ℕ) → read-chain-lts.Need-byte-at-requires (claims t) (read-chain-at t) read-chain.Post
-read-chain-byte-at-requires t c κs = search needs
+read-chain-index-at-requires : (t : ℕ) → read-chain-lts.Need-index-at-requires (claims t) (read-chain-at t) read-chain.Post
+read-chain-index-at-requires t c κs = search needs
 
 read-chain-read-chain-requires : (t : ℕ) → read-chain-lts.Need-read-chain-requires (claims t) (read-chain-at t) read-chain.Post
 read-chain-read-chain-requires t c κs =
@@ -101,7 +101,7 @@ read-chain-returns-3 t c =
     let followed = rest .before .before .before .before in (
       omega (arith, c .refused-chain2 .ensures .1),
       chain-breaks _ _ _ _ _ _ (followed .before .if1 .left) (omega arith) _ (followed .follow-index .ensures)
-          (rest .before .before .enum-told .given .1) _ (rest .before .byte-at .ensures) _ (rest .read-chain .ensures .1)
+          (rest .before .before .enum-told .given .1) _ (rest .before .index-at .ensures) _ (rest .read-chain .ensures .1)
           (c .before .enum-told4 .given .1) _ (c .refused-chain2 .ensures .0),
     )
 
@@ -118,7 +118,7 @@ read-chain-returns-4 t c =
     let followed = stepped .before .before in rw (c .passed-chain2 .ensures) (
       omega (arith, step-allowed _ _ _ _ _ _ _ (followed .follow-index .ensures) (stepped .enum-told .given .1)),
       chain-longer _ _ _ _ _ _ (followed .before .if1 .left) (omega arith) _ (followed .follow-index .ensures)
-          (stepped .enum-told .given .1) _ (rest .before .byte-at .ensures) _ (rest .read-chain .ensures .1)
+          (stepped .enum-told .given .1) _ (rest .before .index-at .ensures) _ (rest .read-chain .ensures .1)
           (c .before .before .enum-told3 .given .1),
     )
 
@@ -136,7 +136,7 @@ pub +read-chain-spec : {M : Type 1} → statement M
     (read-chain-returns-2 t)
     (read-chain-array-write-marked t)
     (read-chain-sub-read-chain t)
-    (read-chain-byte-at-requires t)
+    (read-chain-index-at-requires t)
     (read-chain-read-chain-requires t)
     (read-chain-enum-told-3 t)
     (read-chain-enum-told-4 t)

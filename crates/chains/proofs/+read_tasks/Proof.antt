@@ -15,7 +15,7 @@ use Rattle.links.proofs.follow_index.Reads as follow-index-reads
 use Rattle.chains.proofs.passed_chain.Reads as passed-chain-reads
 use Rattle.chains.proofs.refused_chain.Reads as refused-chain-reads
 use Rattle.chains.proofs.read_body.Reads as read-body-reads
-use Rattle.records.proofs.byte_at.Reads as byte-at-reads
+use Rattle.chains.proofs.index_at.Reads as index-at-reads
 use Rattle.chains.proofs.+read_tasks.{statement}
 use Rattle.chains.proofs.+read_tasks.Tie.{close}
 
@@ -41,8 +41,8 @@ claims t = (
   refused-chain-reads.Learnt,
   read-body-reads.Asked,
   read-body-reads.Learnt,
-  byte-at-reads.Asked,
-  byte-at-reads.Learnt,
+  index-at-reads.Asked,
+  index-at-reads.Learnt,
   read-tasks-below t,
   read-tasks.Post,
 )
@@ -105,8 +105,8 @@ read-tasks-sub-read-tasks t c =
     let stepped = c .before .before .before .before in
     step-allowed _ _ _ _ _ _ _ (stepped .before .before .follow-index .ensures) (stepped .enum-told .given .1)
 
-read-tasks-byte-at-requires : (t : ℕ) → read-tasks-lts.Need-byte-at-requires (claims t) (read-tasks-at t) read-tasks.Post
-read-tasks-byte-at-requires t c κs = search needs
+read-tasks-index-at-requires : (t : ℕ) → read-tasks-lts.Need-index-at-requires (claims t) (read-tasks-at t) read-tasks.Post
+read-tasks-index-at-requires t c κs = search needs
 
 read-tasks-read-tasks-requires : (t : ℕ) → read-tasks-lts.Need-read-tasks-requires (claims t) (read-tasks-at t) read-tasks.Post
 read-tasks-read-tasks-requires t c κs =
@@ -130,7 +130,7 @@ read-tasks-returns-4 t c =
     let followed = body .before .before .before in (
       omega (arith, c .refused-chain3 .ensures .1),
       tasks-break _ _ _ _ _ (followed .before .if1 .left) (omega arith) _ (followed .follow-index .ensures)
-          (body .before .enum-told .given .1) _ (body .read-body .ensures) (whole .enum-told3 .given .1) _ (rest .before .byte-at .ensures) _
+          (body .before .enum-told .given .1) _ (body .read-body .ensures) (whole .enum-told3 .given .1) _ (rest .before .index-at .ensures) _
           (rest .read-tasks .ensures .1) (c .before .enum-told6 .given .1) _ (c .refused-chain3 .ensures .0),
     )
 
@@ -148,7 +148,7 @@ read-tasks-returns-5 t c =
     let followed = body .before .before .before in rw (c .passed-chain2 .ensures) (
       omega (arith, step-allowed _ _ _ _ _ _ _ (followed .follow-index .ensures) (body .before .enum-told .given .1)),
       tasks-longer _ _ _ _ _ (followed .before .if1 .left) (omega arith) _ (followed .follow-index .ensures)
-          (body .before .enum-told .given .1) _ (body .read-body .ensures) (whole .enum-told3 .given .1) _ (rest .before .byte-at .ensures) _
+          (body .before .enum-told .given .1) _ (body .read-body .ensures) (whole .enum-told3 .given .1) _ (rest .before .index-at .ensures) _
           (rest .read-tasks .ensures .1) (c .before .before .enum-told5 .given .1),
     )
 
@@ -171,7 +171,7 @@ pub +read-tasks-spec : {M : Type 1} → statement M
     (read-tasks-refused-chain-requires-2 t)
     (read-tasks-returns-3 t)
     (read-tasks-sub-read-tasks t)
-    (read-tasks-byte-at-requires t)
+    (read-tasks-index-at-requires t)
     (read-tasks-read-tasks-requires t)
     (read-tasks-enum-told-5 t)
     (read-tasks-enum-told-6 t)

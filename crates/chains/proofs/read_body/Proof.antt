@@ -5,22 +5,22 @@ use Rattle.taskfile.specs.Laws.ChainReading.{body-empty, body-follows}
 use Rattle.chains.proofs.read_body.Statement.{statement}
 use Rattle.chains.proofs.read_body.Tie as tie
 
-byte-at-requires : tie.Need-byte-at-requires
-byte-at-requires c κs = search needs
+index-at-requires : tie.Need-index-at-requires
+index-at-requires c κs = search needs
 
 refused-chain-requires : tie.Need-refused-chain-requires
 refused-chain-requires c κs = search needs
 
 returns : tie.Need-returns
 returns c reached marked =
-    body-empty _ _ _ (c .before .before .byte-at .ensures) _ reached (c .before .if1 .taken) (c .refused-chain .ensures .0)
+    body-empty _ _ _ (c .before .before .index-at .ensures) _ reached (c .before .if1 .taken) (c .refused-chain .ensures .0)
 
 read-chain-requires : tie.Need-read-chain-requires
 read-chain-requires c κs = search needs
 
 returns-2 : tie.Need-returns-2
 returns-2 c reached marked =
-    body-follows _ _ _ (c .before .before .byte-at .ensures) _ reached (c .before .if1 .left) (c .read-chain .ensures .1 reached marked)
+    body-follows _ _ _ (c .before .before .index-at .ensures) _ reached (c .before .if1 .left) (c .read-chain .ensures .1 reached marked)
 
 pub read-body-spec : {M : Type 1} → statement M
-read-body-spec = tie.close (tie.spec byte-at-requires refused-chain-requires returns read-chain-requires returns-2)
+read-body-spec = tie.close (tie.spec index-at-requires refused-chain-requires returns read-chain-requires returns-2)

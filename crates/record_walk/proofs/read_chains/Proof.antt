@@ -18,13 +18,13 @@ enum-told-2 c = search needs
 returns : tie.Need-returns
 returns c = header-fails _ _ (c .before .before .record-of .ensures) (c .enum-told2 .given .1)
 
-byte-at-requires : tie.Need-byte-at-requires
-byte-at-requires c κs = search needs
+index-at-requires : tie.Need-index-at-requires
+index-at-requires c κs = search needs
 
 returns-2 : tie.Need-returns-2
 returns-2 c =
     let passes = c .before .before in
-    no-tasks _ _ (passes .before .before .record-of .ensures) (passes .enum-told .given .1) _ (c .before .byte-at .ensures) (c .if1 .taken)
+    no-tasks _ _ (passes .before .before .record-of .ensures) (passes .enum-told .given .1) _ (c .before .index-at .ensures) (c .if1 .taken)
 
 array-write-seen : tie.Need-array-write-seen
 array-write-seen c = search needs
@@ -43,11 +43,11 @@ returns-3 c =
     let tasks = c .before .before .before in
     let first = tasks .before .before in
     let passes = first .before in
-    tasks-fail _ _ (passes .before .before .record-of .ensures) (passes .enum-told .given .1) _ (first .byte-at .ensures)
+    tasks-fail _ _ (passes .before .before .record-of .ensures) (passes .enum-told .given .1) _ (first .index-at .ensures)
     (tasks .before .if1 .left) _ (tasks .read-tasks .ensures .1) (c .enum-told4 .given .1)
 
-byte-at-requires-2 : tie.Need-byte-at-requires-2
-byte-at-requires-2 c κs = search needs
+index-at-requires-2 : tie.Need-index-at-requires-2
+index-at-requires-2 c κs = search needs
 
 read-chain-requires : tie.Need-read-chain-requires
 read-chain-requires c κs = search needs
@@ -65,8 +65,8 @@ returns-4 c =
     let tasks = tasked .before .before .before in
     let first = tasks .before .before in
     let passes = first .before in
-    locks-fail _ _ (passes .before .before .record-of .ensures) (passes .enum-told .given .1) _ (first .byte-at .ensures)
-    (tasks .before .if1 .left) _ (tasks .read-tasks .ensures .1) (tasked .enum-told3 .given .1) _ (locks .before .byte-at2 .ensures) _
+    locks-fail _ _ (passes .before .before .record-of .ensures) (passes .enum-told .given .1) _ (first .index-at .ensures)
+    (tasks .before .if1 .left) _ (tasks .read-tasks .ensures .1) (tasked .enum-told3 .given .1) _ (locks .before .index-at2 .ensures) _
     (locks .read-chain .ensures .1) (c .enum-told6 .given .1)
 
 no-stray-requires : tie.Need-no-stray-requires
@@ -79,8 +79,8 @@ returns-5 c =
     let tasks = tasked .before .before .before in
     let first = tasks .before .before in
     let passes = first .before in
-    chains-read _ _ (passes .before .before .record-of .ensures) (passes .enum-told .given .1) _ (first .byte-at .ensures)
-    (tasks .before .if1 .left) _ (tasks .read-tasks .ensures .1) (tasked .enum-told3 .given .1) _ (locks .before .byte-at2 .ensures) _
+    chains-read _ _ (passes .before .before .record-of .ensures) (passes .enum-told .given .1) _ (first .index-at .ensures)
+    (tasks .before .if1 .left) _ (tasks .read-tasks .ensures .1) (tasked .enum-told3 .given .1) _ (locks .before .index-at2 .ensures) _
     (locks .read-chain .ensures .1) (c .before .enum-told5 .given .1) _ (c .no-stray .ensures)
 
 pub read-chains-spec : {M : Type 1} → statement M
@@ -91,14 +91,14 @@ read-chains-spec =
     enum-told
     enum-told-2
     returns
-    byte-at-requires
+    index-at-requires
     returns-2
     array-write-seen
     read-tasks-requires
     enum-told-3
     enum-told-4
     returns-3
-    byte-at-requires-2
+    index-at-requires-2
     read-chain-requires
     enum-told-5
     enum-told-6

@@ -1,7 +1,7 @@
 -- Laws of the words: how many an answer has, which word stands where, and what a loop that stores them one by one
 -- leaves.
 -- Assumes nothing.
-use mathlib.Core.Path.{_≡_, sym, ap, _∙_}
+use mathlib.Core.Path.{_≡_, refl, sym, ap, _∙_}
 use Prim.Native.Nat.{ℕ, suc, _+_, _≤_, _<_}
 use native.Mathlib.Nat.{zero-add}
 use native.Mathlib.Numerals.{add-one}
@@ -15,8 +15,9 @@ use Rattle.notation.specs.Lists.{if_then_else_}
 use Rattle.notation.specs.Laws.QuantifierLaws.{map-length, map-at}
 use Rattle.timing.specs.declared.ReadAnswer.{ReadAnswer}
 use Rattle.machine.specs.declared.RunAnswer.{RunAnswer}
+use Rattle.sheets.specs.declared.SheetAnswer.{SheetAnswer}
 use Rattle.walk.specs.declared.WalkAnswer.{WalkAnswer}
-use Rattle.words.specs.Words.{wordsOfRead, wordsOfRun, wordsOfWalk, flag, readWords, verdictNumber, runPart, runWords, walkWords, filledWith}
+use Rattle.words.specs.Words.{wordsOfSheet, sheetWords, wordsOfRead, wordsOfRun, wordsOfWalk, flag, readWords, verdictNumber, runPart, runWords, walkWords, filledWith}
 
 -- ---- words stored one by one
 
@@ -176,3 +177,14 @@ module _ (x : WalkAnswer) (variables : length (x .store) ≡ 8) (jobs : length (
       let run-put = part-stored lent room part put in
       let verdict-put = stored-more run-put (omega (arith, walk-length)) (verdict-at is) in
       stored-all (stored-more verdict-put (omega (arith, walk-length)) count-at) (omega (arith, walk-length))
+
+-- ---- the sheet's words
+
+-- three stores at the front
+pub three-stored : (lent : List ℕ) (x : SheetAnswer) → wordsOfSheet ≤ length lent
+    → set (set (set lent 0 (x .number)) 1 (x .place)) 2 (x .length) ≡ filledWith (sheetWords x) lent
+unfolding filledWith sheetWords if_then_else_
+three-stored [] x room = absurd (omega arith)
+three-stored (a ∷ []) x room = absurd (omega arith)
+three-stored (a ∷ b ∷ []) x room = absurd (omega arith)
+three-stored (a ∷ b ∷ c ∷ rest) x room = rw (le-leb 3 (length (a ∷ b ∷ c ∷ rest)) room) refl

@@ -1,7 +1,7 @@
 /*
  * Table X of document 01 through the C interface: read, replayed, walked with allowances 23 and 22,
- * its order converted to its plan and back. Says the first result that is not document 01's, and
- * returns 1.
+ * its order converted to its plan and back, its sheet printed. Says the first result that is not
+ * document 01's, and returns 1.
  */
 #include "adqurim.h"
 #include "table_x.h"
@@ -231,6 +231,43 @@ static void plan_words(void) {
     expect("word 42", words[42], sizeof plan_of_x);
 }
 
+/* The sheet, printed; bytes past it are unchanged. */
+static void sheet_of_table_x(void) {
+    adqurim_sheet_answer sheet;
+    const size_t length = sizeof sheet_of_x - 1;
+    uint8_t text[ADQURIM_SHEET_ROOM + 2];
+    memset(&sheet, FILL, sizeof sheet);
+    memset(text, FILL, sizeof text);
+    uint64_t number = adqurim_print_sheet(table_x, sizeof table_x, text, sizeof text, &sheet);
+    expect("sheet", number, ADQURIM_ACCEPTED);
+    expect("place of the sheet", sheet.place, 0);
+    expect("length of the sheet", sheet.length, length);
+    expect("the sheet's bytes differ", (uint64_t)(memcmp(text, sheet_of_x, length) != 0), 0);
+    expect_untouched(text + length, sizeof text - length);
+    fwrite(text, 1, length, stdout);
+}
+
+/* The sheet of no bytes; a text a byte too short and an answer a word too short change nothing. */
+static void sheet_refused(void) {
+    adqurim_sheet_answer sheet;
+    const char *line = "refused 1 0\n";
+    uint8_t text[ADQURIM_SHEET_ROOM];
+    uint64_t words[ADQURIM_SHEET_WORDS] = {7};
+    memset(text, FILL, sizeof text);
+    uint64_t number = adqurim_print_sheet(table_x, sizeof table_x, text, sizeof text - 1, &sheet);
+    expect("text of 4,607 bytes", number, ADQURIM_ROOM);
+    expect("length without room", sheet.length, 0);
+    bool room = adqurim_sheet(table_x, sizeof table_x, text, sizeof text, words,
+                              ADQURIM_SHEET_WORDS - 1);
+    expect("room for 2 words of a sheet", room, false);
+    expect("word 0 without room", words[0], 7);
+    expect_untouched(text, sizeof text);
+    number = adqurim_print_sheet(table_x, 0, text, sizeof text, &sheet);
+    expect("sheet of no bytes", number, ADQURIM_ACCEPTED);
+    expect("length of a refusal's sheet", sheet.length, strlen(line));
+    expect("a refusal's sheet differs", (uint64_t)(memcmp(text, line, strlen(line)) != 0), 0);
+}
+
 int main(void) {
     read_x();
     read_refused();
@@ -242,5 +279,7 @@ int main(void) {
     there_and_back();
     conversions_refused();
     plan_words();
+    sheet_of_table_x();
+    sheet_refused();
     return 0;
 }

@@ -1,5 +1,6 @@
-// The C interface called from C++: table X of document 01 read, replayed, walked, and its order
-// converted to its plan and back. Says what differs from document 01, and returns 1.
+// The C interface called from C++: table X of document 01 read, replayed, walked, its order
+// converted to its plan and back, its sheet printed. Says what differs from document 01, and
+// returns 1.
 #include "adqurim.h"
 #include "table_x.h"
 
@@ -32,6 +33,19 @@ static bool there_and_back() {
            std::memcmp(order, order_of_x, sizeof order_of_x) == 0;
 }
 
+// Whether the sheet is that of document 01; it is printed.
+static bool sheet() {
+    adqurim_sheet_answer answer = {};
+    uint8_t text[ADQURIM_SHEET_ROOM] = {};
+    bool same = adqurim_print_sheet(table_x, sizeof table_x, text, sizeof text, &answer) ==
+                ADQURIM_ACCEPTED;
+    same = same && answer.place == 0 && answer.length == sizeof sheet_of_x - 1 &&
+           std::memcmp(text, sheet_of_x, sizeof sheet_of_x - 1) == 0;
+    std::fwrite(text, 1, answer.length, stdout);
+    return same && adqurim_print_sheet(table_x, sizeof table_x, text, sizeof text - 1, &answer) ==
+                       ADQURIM_ROOM;
+}
+
 int main() {
     adqurim_read_answer read = {};
     adqurim_run run = {};
@@ -49,7 +63,7 @@ int main() {
            walk.length == sizeof order_of_x && order[1] == order_of_x[1];
     same = same && adqurim_walk_orders(table_x, sizeof table_x, 22, order, sizeof order,
                                        &walk) == ADQURIM_UNDECIDED;
-    same = same && there_and_back();
+    same = same && there_and_back() && sheet();
     if (!same) {
         std::fprintf(stderr, "table X differs from document 01 through C++\n");
     }

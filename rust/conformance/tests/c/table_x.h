@@ -1,6 +1,6 @@
 /*
- * Table X of document 01, by hand: 11 records in walk order, the order of its sheet, and that
- * order's plan, which is case P10.
+ * Table X of document 01, by hand: 11 records in walk order, the order of its sheet, that
+ * order's plan, which is case P10, and the sheet.
  */
 #ifndef TABLE_X_H
 #define TABLE_X_H
@@ -30,5 +30,14 @@ static const uint8_t plan_of_x[33] = {
     0, 0, 1, 0, 1, 0, 1, 0, 1, 0, /* job 0: rounds 0 1 1 1 1 */
     0, 0, 0, 0, 0, 0,             /* job 1: rounds 0 0 0 */
 };
+
+static const char sheet_of_x[] = "tasks 2 jobs 2\n"
+                                 "task 0 response 3 jobs 1\n"
+                                 "task 1 response 1 jobs 1\n"
+                                 "verdict fails 23\n"
+                                 "order 0 16 16 16 0 0 0 0\n"
+                                 "failed 0\n"
+                                 "job 0 rounds 0 1 1 1 1\n"
+                                 "job 1 rounds 0 0 0\n";
 
 #endif

@@ -1,0 +1,28 @@
+-- What the functions of the job list yield: the records that go into the list, the list with the first of them stored,
+-- and what the answer and the list are for a file and a room.
+-- Assumes nothing.
+use mathlib.Core.Path.{_≡_}
+use Prim.Native.Nat.{ℕ, zero, suc, _≤_}
+use mathlib.Core.List.{List}
+use lib.ListN.{length, getD, set}
+use Rattle.taskfile.specs.Records.{File}
+use Rattle.timing.specs.declared.JobRecord.{JobRecord}
+use Rattle.timing.specs.ReadEntries.{listAnswer, listAfter}
+use Rattle.timing.specs.Relations.{noJob}
+use Rattle.job_list.specs.declared.Listed.{Listed}
+
+-- the record at a place
+abbrev pub recordOf : Listed → ℕ → JobRecord
+recordOf from i = getD (from .jobs) i noJob
+
+-- the list with the first n records stored
+unfoldable pub filled : Listed → ℕ → List JobRecord → List JobRecord
+filled from zero list = list
+filled from (suc n) list = set (filled from n list) n (recordOf from n)
+
+-- the answer for a file and a list with this room, and the records that make such a list the one afterwards
+pub record ListedAs (x : Listed) (f : File) (room : ℕ) : Type 0 where
+  pub answer : (list : List JobRecord) → length list ≡ room → x .answer ≡ listAnswer f list
+  pub after : (list : List JobRecord) → length list ≡ room → filled x (x .answer .jobs) list ≡ listAfter f list
+  pub most : x .answer .jobs ≤ 32
+  pub within : x .answer .jobs ≤ room

@@ -1,0 +1,135 @@
+// Words, numbers and lines of a sheet, written into the room of a lent text.
+use sheets::SHEET_ROOM;
+use writing::write_byte;
+ghost use mathlib.Core.Path.{_≡_};
+ghost use Prim.Native.Nat.{_≤_};
+ghost use mathlib.Core.List.{[], _∷_};
+ghost use lib.ListN.{length};
+ghost use Rattle.writing.specs.Code.Writing.{Appends};
+ghost use Rattle.sheets.specs.Texts.{decimal, line, tasksWord, taskWord, jobsWord, responseWord, verdictWord};
+ghost use Rattle.sheets.specs.Texts.{holdsWord, failsWord};
+ghost use Rattle.sheets.specs.Sheets.{refusedLine};
+
+// The bytes between two words and after a line, and the first digit.
+const SPACE: u8 = 32;
+
+const NEWLINE: u8 = 10;
+
+const ZERO: u8 = 48;
+
+// Writes a word.
+pub fn put_word(word: &[u8], at: usize, out: &mut [u8]) -> usize
+    requires { ⌜ 4608 ≤ length (now out) ⌝ }
+    ensures { λ n. ⌜ Appends 4608 (now (out .entry)) at (now (word .entry)) (now (out .exit)) n ⌝ }
+{
+    let mut next = at;
+    let mut k: usize = 0;
+    while k < word.len() {
+        next = write_byte(out, SHEET_ROOM, next, word[k]);
+        k += 1;
+    }
+    next
+}
+
+// Writes a number in decimal.
+pub fn put_number(x: u64, at: usize, out: &mut [u8]) -> usize
+    requires { ⌜ 4608 ≤ length (now out) ⌝ }
+    ensures { λ n. ⌜ Appends 4608 (now (out .entry)) at (decimal x) (now (out .exit)) n ⌝ }
+{
+    let last = ZERO + ((x % 10) as u8);
+    if x < 10 {
+        return write_byte(out, SHEET_ROOM, at, last);
+    }
+    let next = put_number(x / 10, at, out);
+    write_byte(out, SHEET_ROOM, next, last)
+}
+
+// Writes a space and a word.
+pub fn then_word(word: &[u8], at: usize, out: &mut [u8]) -> usize
+    requires { ⌜ 4608 ≤ length (now out) ⌝ }
+    ensures { λ n. ⌜ Appends 4608 (now (out .entry)) at (32 ∷ now (word .entry)) (now (out .exit)) n ⌝ }
+{
+    let next = write_byte(out, SHEET_ROOM, at, SPACE);
+    put_word(word, next, out)
+}
+
+// Writes a space and a number.
+pub fn then_number(x: u64, at: usize, out: &mut [u8]) -> usize
+    requires { ⌜ 4608 ≤ length (now out) ⌝ }
+    ensures { λ n. ⌜ Appends 4608 (now (out .entry)) at (32 ∷ decimal x) (now (out .exit)) n ⌝ }
+{
+    let next = write_byte(out, SHEET_ROOM, at, SPACE);
+    put_number(x, next, out)
+}
+
+// Ends a line.
+pub fn end_line(at: usize, out: &mut [u8]) -> usize
+    requires { ⌜ 4608 ≤ length (now out) ⌝ }
+    ensures { λ n. ⌜ Appends 4608 (now (out .entry)) at (10 ∷ []) (now (out .exit)) n ⌝ }
+{
+    write_byte(out, SHEET_ROOM, at, NEWLINE)
+}
+
+// Writes the line of a refusal: `refused 21 0`.
+pub fn put_refused(number: u64, place: u64, at: usize, out: &mut [u8]) -> usize
+    requires { ⌜ 4608 ≤ length (now out) ⌝ }
+    ensures { λ n. ⌜ Appends 4608 (now (out .entry)) at (refusedLine number place) (now (out .exit)) n ⌝ }
+{
+    let word = put_word(b"refused", at, out);
+    let first = then_number(number, word, out);
+    let second = then_number(place, first, out);
+    end_line(second, out)
+}
+
+// Writes the line of totals: `tasks 2 jobs 2`.
+pub fn put_totals(tasks: u64, jobs: u64, at: usize, out: &mut [u8]) -> usize
+    requires { ⌜ 4608 ≤ length (now out) ⌝ }
+    ensures { λ n. ⌜ Appends 4608 (now (out .entry)) at
+        (line tasksWord (decimal tasks ∷ jobsWord ∷ decimal jobs ∷ [])) (now (out .exit)) n ⌝ }
+{
+    let word = put_word(b"tasks", at, out);
+    let first = then_number(tasks, word, out);
+    let second = then_word(b"jobs", first, out);
+    let third = then_number(jobs, second, out);
+    end_line(third, out)
+}
+
+// Writes a task's line: `task 0 response 3 jobs 1`.
+pub fn put_task(i: u64, response: u64, jobs: u64, at: usize, out: &mut [u8]) -> usize
+    requires { ⌜ 4608 ≤ length (now out) ⌝ }
+    ensures { λ n. ⌜ Appends 4608 (now (out .entry)) at
+        (line taskWord (decimal i ∷ responseWord ∷ decimal response ∷ jobsWord ∷ decimal jobs ∷ []))
+        (now (out .exit)) n ⌝ }
+{
+    let word = put_word(b"task", at, out);
+    let first = then_number(i, word, out);
+    let second = then_word(b"response", first, out);
+    let third = then_number(response, second, out);
+    let fourth = then_word(b"jobs", third, out);
+    let fifth = then_number(jobs, fourth, out);
+    end_line(fifth, out)
+}
+
+// Writes the line of a verdict that holds: `verdict holds 23`.
+pub fn put_holds(count: u64, at: usize, out: &mut [u8]) -> usize
+    requires { ⌜ 4608 ≤ length (now out) ⌝ }
+    ensures { λ n. ⌜ Appends 4608 (now (out .entry)) at
+        (line verdictWord (holdsWord ∷ decimal count ∷ [])) (now (out .exit)) n ⌝ }
+{
+    let word = put_word(b"verdict", at, out);
+    let first = then_word(b"holds", word, out);
+    let second = then_number(count, first, out);
+    end_line(second, out)
+}
+
+// Writes the line of a verdict that fails: `verdict fails 23`.
+pub fn put_fails(count: u64, at: usize, out: &mut [u8]) -> usize
+    requires { ⌜ 4608 ≤ length (now out) ⌝ }
+    ensures { λ n. ⌜ Appends 4608 (now (out .entry)) at
+        (line verdictWord (failsWord ∷ decimal count ∷ [])) (now (out .exit)) n ⌝ }
+{
+    let word = put_word(b"verdict", at, out);
+    let first = then_word(b"fails", word, out);
+    let second = then_number(count, first, out);
+    end_line(second, out)
+}

@@ -1,0 +1,4 @@
+pub mod FindingLaws
+pub mod PlanMarks
+pub mod SheetLaws
+pub mod TaskLines

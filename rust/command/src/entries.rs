@@ -1,0 +1,101 @@
+//! What each subcommand prints, and the status it ends with.
+
+use crate::arguments::{Request, Subcommand};
+use crate::lines::{ending, line, refused};
+use crate::rounds::{parts, Parts};
+use crate::sheet::{finding, totals, Finding};
+use crate::{progress, records, sources, Problem, Status, Streams};
+use binding::{Ending, Place, Refusal, Verdict};
+
+/// An answer's lines and its status.
+type Answer = Result<(String, Status), Refusal>;
+
+/// Answers a request.
+pub fn answer(request: &Request, streams: &mut Streams) -> Result<Status, Problem> {
+    let file = sources::bytes(&request.file, streams)?;
+    let numbers = sources::bytes(&request.numbers, streams)?;
+    let accepted = |text: String| (text, Status::Accepted);
+    let answer = match request.subcommand {
+        Subcommand::Check => return check(&file, streams),
+        Subcommand::Walk => walk(&file, request.allowance, streams),
+        Subcommand::Read => binding::read(&file).map(|timing| accepted(totals(&file, &timing))),
+        Subcommand::Replay => binding::replay(&file, &numbers).map(ran).map(accepted),
+        Subcommand::Plan => plan(&file, &numbers).map(accepted),
+        Subcommand::CheckPlan => binding::check_plan(&file, &numbers).map(ran).map(accepted),
+        Subcommand::Order => order(&file, &numbers).map(accepted),
+    };
+    match answer {
+        Ok((text, status)) => print(&text, streams).map(|()| status),
+        Err(refusal) => {
+            print(&refused(&refusal), streams)?;
+            explain(&refusal, &file, streams)
+        }
+    }
+}
+
+fn print(text: &str, streams: &mut Streams) -> Result<(), Problem> {
+    Ok(streams.output.write_all(text.as_bytes())?)
+}
+
+/// Says on standard error what a refusal means and, if it names a record, what that record is.
+fn explain(refusal: &Refusal, file: &[u8], streams: &mut Streams) -> Result<Status, Problem> {
+    streams.output.flush()?;
+    let mut text = format!("adqurim: {refusal}\n");
+    if refusal.rule().map(|rule| rule.place()) == Some(Place::Record) {
+        let record = refusal.place as usize;
+        let (first, last) = records::extent(record);
+        let is = records::name(file, record).unwrap_or("reached by no chain".to_string());
+        text += &format!("adqurim: record {record}, bytes {first} to {last}, is {is}\n");
+    }
+    // The refusal is printed and the status says it: an explanation that is lost changes neither.
+    let _ = streams.errors.write_all(text.as_bytes());
+    Ok(Status::Refused)
+}
+
+/// The sheet, as its proved entry writes it.
+fn check(file: &[u8], streams: &mut Streams) -> Result<Status, Problem> {
+    let text = binding::sheet(file);
+    print(&text, streams)?;
+    match finding(&text) {
+        Finding::Holds => Ok(Status::Accepted),
+        Finding::Fails => Ok(Status::Fails),
+        Finding::Refused(refusal) => explain(&refusal, file, streams),
+    }
+}
+
+/// The verdict, with the order that fails.
+fn walk(file: &[u8], allowance: u64, streams: &mut Streams) -> Answer {
+    Ok(match progress::walk(file, allowance, streams)? {
+        Verdict::Holds { count } => (format!("verdict holds {count}\n"), Status::Accepted),
+        Verdict::Fails { count, order, ending: run } => {
+            let verdict = format!("verdict fails {count}\n");
+            (verdict + &line("order", &order) + &ending(&run), Status::Fails)
+        }
+    })
+}
+
+/// An order or a plan that is accepted.
+fn ran(run: Ending) -> String {
+    "accepted\n".to_string() + &ending(&run)
+}
+
+/// An order's plan: its bytes, then its parts.
+fn plan(file: &[u8], order: &[u8]) -> Result<String, Refusal> {
+    let planned = binding::order_to_plan(file, order)?;
+    let Parts { stores, jobs } = parts(order, &planned.plan);
+    let mut text = line("plan", &planned.plan);
+    for (round, store) in stores.iter().enumerate() {
+        text += &line(&format!("round {round} starts"), store);
+    }
+    for (job, steps) in jobs.iter().enumerate() {
+        text += &line(&format!("job {job} rounds"), steps.iter().map(|step| step.round));
+        text += &line(&format!("job {job} values"), steps.iter().map(|step| step.value));
+    }
+    Ok(text + &ending(&planned.ending))
+}
+
+/// A plan's order.
+fn order(file: &[u8], plan: &[u8]) -> Result<String, Refusal> {
+    let ordered = binding::plan_to_order(file, plan)?;
+    Ok(line("order", &ordered.order) + &ending(&ordered.ending))
+}

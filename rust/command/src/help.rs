@@ -1,0 +1,89 @@
+//! The help of the program and of each subcommand.
+
+use crate::arguments::Subcommand;
+
+const PROGRAM: &str = "\
+adqurim checks the task table of a parcel depot's box.
+
+  adqurim check FILE                  print the table's sheet
+  adqurim read FILE                   response times and jobs
+  adqurim walk [--allowance N] FILE   look for an order that fails
+  adqurim replay FILE ORDER..         run the steps of an order
+  adqurim plan FILE ORDER..           convert an order to its plan in rounds
+  adqurim check-plan FILE PLAN..      check a plan in rounds
+  adqurim order FILE PLAN..           convert a plan to its order
+
+FILE is a task file, `-` standard input. ORDER and PLAN are bytes, each a word from 0 to 255;
+a single `-` takes the bytes themselves from standard input. `adqurim SUBCOMMAND --help` says more.
+";
+
+const STATUSES: &str = "
+Status: 0 the table holds, or what was given is accepted; 1 some order fails (check and walk);
+2 a file that cannot be read, or wrong usage; 3 refused, or undecided within the allowance.
+A refusal is a line `refused NUMBER PLACE`; standard error explains it in a sentence.
+";
+
+const CHECK: &str = "\
+adqurim check FILE
+
+Prints the sheet: totals, each task's response time and jobs, then the verdict and the count of
+moves. If some order fails, the first that does follows, its failed jobs, and each job's rounds in
+its plan. The walk has an allowance of 1,000,000 moves.
+";
+
+const READ: &str = "\
+adqurim read FILE
+
+Prints the totals, and each task's response time and jobs.
+";
+
+const WALK: &str = "\
+adqurim walk [--allowance N] FILE
+
+Walks all orders up to the first that fails, with at most N moves (1,000,000 if none is given).
+Prints the verdict and the count of moves; if some order fails, also that order, its failed jobs
+and the store it leaves. On a terminal, a long walk shows the moves made and their rate.
+";
+
+const REPLAY: &str = "\
+adqurim replay FILE ORDER..
+
+Runs the steps of an order, each 16 * task + value. Prints `accepted`, the failed jobs and the store
+left. An order with failed jobs is accepted too, with status 0.
+";
+
+const PLAN: &str = "\
+adqurim plan FILE ORDER..
+
+Converts an order to its plan. Prints the plan's bytes, the store that each round starts with, each
+job's rounds and values, the failed jobs and the store left.
+";
+
+const CHECK_PLAN: &str = "\
+adqurim check-plan FILE PLAN..
+
+Checks a plan's bytes: the number of jobs, each round's starting store, then each step's round and
+value. Prints `accepted`, the failed jobs and the store left. A plan with failed jobs is accepted
+too, with status 0.
+";
+
+const ORDER: &str = "\
+adqurim order FILE PLAN..
+
+Converts a plan to its order. Prints the order's bytes, the failed jobs and the store left.
+";
+
+/// The help of a subcommand, or of the program.
+pub fn text(subcommand: Option<Subcommand>) -> String {
+    let own = match subcommand {
+        None => PROGRAM,
+        Some(Subcommand::Check) => CHECK,
+        Some(Subcommand::Read) => READ,
+        Some(Subcommand::Walk) => WALK,
+        Some(Subcommand::Replay) => REPLAY,
+        Some(Subcommand::Plan) => PLAN,
+        Some(Subcommand::CheckPlan) => CHECK_PLAN,
+        Some(Subcommand::Order) => ORDER,
+    };
+    format!("{own}{STATUSES}")
+}

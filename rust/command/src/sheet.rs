@@ -1,0 +1,39 @@
+//! The totals at a sheet's front, and what a sheet comes to.
+
+use crate::records::jobs_by_task;
+use binding::{Refusal, Timing};
+
+/// The totals, and a line for each task of an accepted file.
+pub fn totals(file: &[u8], timing: &Timing) -> String {
+    let times = &timing.response_times;
+    let mut text = format!("tasks {} jobs {}\n", times.len(), timing.jobs);
+    for (task, (response, jobs)) in times.iter().zip(jobs_by_task(file)).enumerate() {
+        text += &format!("task {task} response {response} jobs {jobs}\n");
+    }
+    text
+}
+
+/// What a sheet comes to.
+#[derive(Debug, PartialEq, Eq)]
+pub enum Finding {
+    Holds,
+    Fails,
+    Refused(Refusal),
+}
+
+/// What a sheet comes to, by the line that says it.
+pub fn finding(sheet: &str) -> Finding {
+    let of_line = |line: &str| {
+        let words: Vec<&str> = line.split(' ').collect();
+        match words[..] {
+            ["verdict", "holds", _] => Some(Finding::Holds),
+            ["verdict", "fails", _] => Some(Finding::Fails),
+            ["refused", number, place] => {
+                let (number, place) = (number.parse().ok()?, place.parse().ok()?);
+                Some(Finding::Refused(Refusal { number, place }))
+            }
+            _ => None,
+        }
+    };
+    sheet.lines().find_map(of_line).expect("each sheet has a verdict or a refusal")
+}

@@ -1,0 +1,280 @@
+//! The program with its streams lent, against the interpreter.
+
+use command::{allowances, run, Status, Streams};
+use conformance::cases::{accepted, edited, table_x, tasks};
+use conformance::families::{any, crowded, long, nest_of_four, refused_files, small};
+use conformance::orders::random_order;
+use generator::files::{damaged, random_bytes, random_records};
+use generator::{code, Random, TableDescription};
+use interpreter::timing::accept;
+use interpreter::{conversion, plan, sheet};
+use std::ffi::OsString;
+use std::fmt::Display;
+use std::io::{self, Read, Write};
+
+/// How a run ends, and what it writes.
+struct Ran {
+    status: Status,
+    output: String,
+    errors: String,
+}
+
+fn run_on(words: &[&str], input: &mut dyn Read, watched: bool) -> Ran {
+    let words: Vec<OsString> = words.iter().map(OsString::from).collect();
+    let (mut output, mut errors) = (Vec::new(), Vec::new());
+    let mut streams = Streams { input, output: &mut output, errors: &mut errors, watched };
+    let status = run(&words, &mut streams);
+    let [output, errors] = [output, errors].map(|bytes| String::from_utf8(bytes).expect("text"));
+    Ran { status, output, errors }
+}
+
+/// The status that a sheet calls for.
+fn status_of(sheet: &str) -> Status {
+    let says = |words: &str| sheet.lines().any(|line| line.starts_with(words));
+    match (says("verdict holds"), says("verdict fails")) {
+        (true, _) => Status::Accepted,
+        (_, true) => Status::Fails,
+        _ => Status::Refused,
+    }
+}
+
+/// Asserts that check and read print the interpreter's sheet and its totals.
+fn assert_sheet(file: &[u8]) -> Status {
+    let expected = sheet(file);
+    let checked = run_on(&["check", "-"], &mut &file[..], false);
+    assert_eq!((checked.output, checked.status), (expected.clone(), status_of(&expected)));
+    let is_total = |line: &&str| line.starts_with("task") || line.starts_with("refused");
+    let totals: String =
+        expected.lines().filter(is_total).map(|line| format!("{line}\n")).collect();
+    let read = run_on(&["read", "-"], &mut &file[..], false).output;
+    assert_eq!(read, totals.replace("\nrefused 21 0\n", "\n"));
+    checked.status
+}
+
+#[test]
+fn sheets_of_random_tables() {
+    let mut random = Random::new(0x5EE7);
+    let mut seen = [0; 4];
+    for make in [small, long, nest_of_four] {
+        for _ in 0..150 {
+            seen[assert_sheet(&make(&mut random).write()) as usize] += 1;
+        }
+    }
+    let [holds, fails, unusable, _] = seen;
+    assert!(holds >= 50 && fails >= 50 && unusable == 0, "{seen:?}");
+}
+
+#[test]
+fn sheets_of_files_that_are_refused() {
+    let mut random = Random::new(0xBAD);
+    for file in refused_files() {
+        assert_eq!(assert_sheet(&file), Status::Refused);
+    }
+    for _ in 0..300 {
+        let file = small(&mut random).write();
+        assert_sheet(&damaged(&mut random, &file));
+        assert_sheet(&random_bytes(&mut random));
+        assert_sheet(&random_records(&mut random));
+    }
+    let x = table_x().write();
+    for length in 0..=4_200 {
+        let file: Vec<u8> = x.iter().copied().cycle().take(length).collect();
+        assert_sheet(&file);
+    }
+}
+
+/// Gives one byte at a time.
+struct Pieces<'a>(&'a [u8]);
+
+impl Read for Pieces<'_> {
+    fn read(&mut self, buffer: &mut [u8]) -> io::Result<usize> {
+        let most = buffer.len().min(1);
+        self.0.read(&mut buffer[..most])
+    }
+}
+
+#[test]
+fn input_in_pieces_and_input_without_end() {
+    let x = table_x().write();
+    assert_eq!(run_on(&["check", "-"], &mut Pieces(&x), false).output, sheet(&x));
+    for byte in [0, 1, 255] {
+        let checked = run_on(&["check", "-"], &mut io::repeat(byte), false);
+        assert_eq!(checked.output, "refused 1 0\n");
+    }
+    let path = samples::path("lost-update", "task");
+    let path = path.to_str().expect("a plain path");
+    // The only route job has five steps, and with three jobs no step is in a round 3.
+    assert_eq!(run_on(&["replay", path, "-"], &mut io::repeat(0), false).output, "refused 30 5\n");
+    assert_eq!(run_on(&["order", path, "-"], &mut io::repeat(3), false).output, "refused 42 25\n");
+}
+
+/// Numbers, each after a space.
+fn words(numbers: impl IntoIterator<Item = impl Display>) -> String {
+    numbers.into_iter().map(|number| format!(" {number}")).collect()
+}
+
+/// What `plan` has to print of a complete order.
+fn plan_text(file: &[u8], order: &[u8]) -> String {
+    let table = accepted(file);
+    let (bytes, ending) = conversion::order_to_plan(&table, order).expect("the order is complete");
+    let run = plan::run(&table, &bytes).expect("the plan has the right shape");
+    let mut text = format!("plan{}\n", words(&bytes));
+    for (round, store) in run.guesses.iter().enumerate() {
+        text += &format!("round {round} starts{}\n", words(store));
+    }
+    for (job, steps) in run.steps.iter().enumerate() {
+        text += &format!("job {job} rounds{}\n", words(steps.iter().map(|step| step.round.0)));
+        text += &format!("job {job} values{}\n", words(steps.iter().map(|step| step.value)));
+    }
+    let failed = match ending.failed_jobs {
+        0 => " none".to_string(),
+        set => words((0..32).filter(|job| set >> job & 1 == 1)),
+    };
+    text + &format!("failed{failed}\nstore{}\n", words(ending.store))
+}
+
+/// A subcommand's words for a file on standard input and bytes.
+fn run_with_numbers(subcommand: &str, file: &[u8], bytes: &[u8]) -> Ran {
+    let numbers: Vec<String> = bytes.iter().map(u8::to_string).collect();
+    let words = [subcommand, "-"].into_iter().chain(numbers.iter().map(String::as_str));
+    run_on(&words.collect::<Vec<&str>>(), &mut &file[..], false)
+}
+
+/// The file of the first accepted table of those that are drawn.
+fn accepted_file(random: &mut Random, make: fn(&mut Random) -> TableDescription) -> Vec<u8> {
+    let mut drawn = std::iter::repeat_with(|| make(random).write());
+    drawn.find(|file| accept(file).is_ok()).expect("some table is accepted")
+}
+
+#[test]
+fn plans_of_random_orders_and_back() {
+    let mut random = Random::new(0x91A2);
+    let mut with_values = 0;
+    for make in [small, nest_of_four, crowded, any] {
+        for _ in 0..60 {
+            let file = accepted_file(&mut random, make);
+            let order = random_order(&mut random, &accepted(&file));
+            let planned = run_with_numbers("plan", &file, &order);
+            let expected = plan_text(&file, &order);
+            assert_eq!((planned.status, &planned.output), (Status::Accepted, &expected));
+            with_values += u32::from(order.iter().any(|byte| byte % 16 > 0));
+            let (_, ending) = expected.split_at(expected.find("failed").expect("a line says it"));
+            assert_there_and_back(&file, &order, ending);
+        }
+    }
+    assert!(with_values >= 50, "{with_values}");
+}
+
+/// Asserts what the other subcommands print of a complete order and of its plan.
+fn assert_there_and_back(file: &[u8], order: &[u8], ending: &str) {
+    let (plan, _) = conversion::order_to_plan(&accepted(file), order).expect("it is complete");
+    for (subcommand, bytes) in [("replay", order), ("check-plan", &plan[..])] {
+        let ran = run_with_numbers(subcommand, file, bytes);
+        assert_eq!((ran.output, ran.status), (format!("accepted\n{ending}"), Status::Accepted));
+    }
+    let ran = run_with_numbers("order", file, &plan);
+    let expected = format!("order{}\n{ending}", words(order));
+    assert_eq!((ran.output, ran.status), (expected, Status::Accepted));
+}
+
+#[test]
+fn a_table_without_jobs() {
+    let file = tasks(5, &[[3, 8, 5]], &[code::end()]).write();
+    let ending = "failed none\nstore 0 0 0 0 0 0 0 0\n";
+    assert_eq!(run_with_numbers("replay", &file, &[]).output, format!("accepted\n{ending}"));
+    assert_eq!(run_with_numbers("plan", &file, &[]).output, format!("plan 0\n{ending}"));
+    assert_eq!(run_with_numbers("order", &file, &[0]).output, format!("order\n{ending}"));
+    assert_eq!(run_on(&["walk", "-"], &mut &file[..], false).output, "verdict holds 0\n");
+}
+
+#[test]
+fn records_are_named_by_what_they_are() {
+    let mut table = table_x();
+    table.ceilings = vec![1, 0];
+    let file = table.write();
+    // A record of another kind is refused where its chain comes to it.
+    let names = [
+        (0, "the header"),
+        (1, "task 0"),
+        (2, "instruction 0 of task 0"),
+        (6, "instruction 4 of task 0"),
+        (7, "task 1"),
+        (10, "instruction 2 of task 1"),
+        (11, "lock 0"),
+        (12, "lock 1"),
+    ];
+    for (record, name) in names {
+        let ran = run_on(&["read", "-"], &mut &edited(&file, &[(record * 16, 9)])[..], false);
+        let (first, last) = (record * 16, record * 16 + 15);
+        let says = format!("adqurim: record {record}, bytes {first} to {last}, is {name}\n");
+        assert_eq!(ran.output, format!("refused 2 {record}\n"));
+        assert_eq!(ran.errors.split_inclusive('\n').next_back(), Some(&says[..]));
+    }
+    let stray = [&file[..], &[0; 16]].concat();
+    let ran = run_on(&["read", "-"], &mut &stray[..], false);
+    assert!(ran.errors.ends_with("record 13, bytes 208 to 223, is reached by no chain\n"));
+}
+
+#[test]
+fn allowances_grow_to_the_one_that_is_asked_for() {
+    for asked in [0, 1, 1 << 20, (1 << 20) + 1, 5_000_000, u64::MAX] {
+        let tries: Vec<u64> = allowances(asked).collect();
+        assert_eq!(tries.last(), Some(&asked));
+        assert!(tries.windows(2).all(|pair| pair[0] < pair[1]), "{tries:?}");
+        let before: u128 = tries[..tries.len() - 1].iter().map(|tried| u128::from(*tried)).sum();
+        assert!(before < 2 * u128::from(asked).max(1), "{tries:?}");
+    }
+    assert_eq!(allowances(1_000_000).count(), 1);
+    assert_eq!(allowances(3_000_000).collect::<Vec<u64>>(), [1 << 20, 1 << 21, 3_000_000]);
+}
+
+#[test]
+fn a_watched_walk_tells_each_try_and_answers_the_same() {
+    let path = samples::path("too-many-orders", "task");
+    let words = ["walk", "--allowance", "3000000", path.to_str().expect("a plain path")];
+    let [quiet, watched] = [false, true].map(|watched| run_on(&words, &mut io::empty(), watched));
+    assert_eq!((&quiet.output, quiet.status), (&watched.output, watched.status));
+    assert_eq!(quiet.errors.lines().count(), 1);
+    let told: Vec<&str> = watched.errors.lines().collect();
+    let [first, second, last] = told[..] else { panic!("{told:?}") };
+    assert!(first.starts_with("adqurim: 1048576 moves made without a verdict, "), "{first}");
+    assert!(first.contains(" a second; now up to 2097152 moves, about "), "{first}");
+    assert!(second.contains(" a second; now up to 3000000 moves, about "), "{second}");
+    assert_eq!(last, quiet.errors.trim_end());
+}
+
+#[test]
+fn a_watched_walk_that_is_decided_says_nothing_else() {
+    let mut random = Random::new(0x7A7C);
+    // Enough for a second and a third try, which a walk that is decided does not need.
+    let words = ["walk", "--allowance", "3000000", "-"];
+    for _ in 0..100 {
+        let file = accepted_file(&mut random, small);
+        let [quiet, watched] = [false, true].map(|watched| run_on(&words, &mut &file[..], watched));
+        assert_eq!((quiet.output, quiet.status), (watched.output, watched.status));
+        assert_eq!((&quiet.errors[..], &watched.errors[..]), ("", ""));
+    }
+}
+
+/// Takes nothing.
+struct Full;
+
+impl Write for Full {
+    fn write(&mut self, _: &[u8]) -> io::Result<usize> {
+        Err(io::Error::other("no room"))
+    }
+
+    fn flush(&mut self) -> io::Result<()> {
+        Ok(())
+    }
+}
+
+#[test]
+fn an_output_that_takes_nothing_is_told() {
+    let (x, mut errors) = (table_x().write(), Vec::new());
+    let (mut input, output, errors_lent) = (&x[..], &mut Full, &mut errors);
+    let mut streams = Streams { input: &mut input, output, errors: errors_lent, watched: false };
+    let words = ["check", "-"].map(OsString::from);
+    assert_eq!(run(&words, &mut streams), Status::Unusable);
+    assert_eq!(errors, b"adqurim: cannot write: no room\n");
+}

@@ -1,0 +1,126 @@
+//! The files of `samples/`: they are what their program makes, and they show what their pages say.
+
+use binding::{JobNumber, Refusal, Verdict};
+use conformance::cases::accepted;
+use generator::TableDescription;
+use interpreter::sheet::SHEET_ALLOWANCE;
+use samples::Sample;
+use std::collections::BTreeSet;
+use std::fs;
+
+/// What stands in the repository for each sample: the file, its sheet, its page.
+const EXTENSIONS: [&str; 3] = ["task", "sheet", "md"];
+
+/// A sample's file with this extension, as it stands in the repository.
+fn committed(name: &str, extension: &str) -> Vec<u8> {
+    let path = samples::path(name, extension);
+    fs::read(&path).unwrap_or_else(|error| panic!("{}: {error}", path.display()))
+}
+
+/// The task file of a sample, as it stands in the repository.
+fn task_file(name: &str) -> Vec<u8> {
+    committed(name, "task")
+}
+
+fn table(name: &str) -> TableDescription {
+    let named = |sample: &Sample| sample.name == name;
+    samples::all().into_iter().find(named).expect("a sample has this name").table
+}
+
+#[test]
+fn files_and_sheets_are_as_made() {
+    for sample in samples::all() {
+        let (file, sheet) = (task_file(sample.name), committed(sample.name, "sheet"));
+        let again = "run `cargo run --release --offline -p samples` in rust/";
+        assert_eq!(file, sample.file(), "{}.task: {again}", sample.name);
+        assert_eq!(String::from_utf8_lossy(&sheet), sample.sheet(), "{}: {again}", sample.name);
+        assert_eq!(interpreter::sheet(&file).as_bytes(), sheet, "{}", sample.name);
+    }
+}
+
+#[test]
+fn the_directory_holds_three_files_for_each_sample() {
+    let names = samples::all().into_iter().map(|sample| sample.name);
+    let expected: BTreeSet<String> =
+        names.flat_map(|name| EXTENSIONS.map(|extension| format!("{name}.{extension}"))).collect();
+    let entries = fs::read_dir(samples::directory()).expect("samples/ is there");
+    let name = |entry: std::io::Result<fs::DirEntry>| {
+        entry.expect("it can be listed").file_name().into_string().expect("a plain name")
+    };
+    assert_eq!(entries.map(name).collect::<BTreeSet<String>>(), expected);
+    assert_eq!(expected.len(), 18);
+}
+
+#[test]
+fn each_page_names_its_sample_and_quotes_what_the_sheet_finds() {
+    for sample in samples::all() {
+        let page = String::from_utf8(committed(sample.name, "md")).expect("a page is text");
+        assert!(page.starts_with(&format!("# {}\n", sample.name)), "{}", sample.name);
+        let sheet = sample.sheet();
+        let finds = |line: &&str| ["verdict", "refused", "failed"].contains(&first_word(line));
+        for line in sheet.lines().filter(finds) {
+            assert!(page.contains(&format!("`{line}`")), "{}: {line}", sample.name);
+        }
+    }
+}
+
+fn first_word(line: &str) -> &str {
+    line.split(' ').next().unwrap_or_default()
+}
+
+/// The proved walk of a sample's file with the check program's allowance.
+fn walk(name: &str) -> Result<Verdict, Refusal> {
+    binding::walk(&task_file(name), SHEET_ALLOWANCE)
+}
+
+/// The count and the failed jobs of a sample whose walk fails.
+fn failing(name: &str) -> (u64, Vec<JobNumber>) {
+    match walk(name) {
+        Ok(Verdict::Fails { count, ending, .. }) => (count, ending.failed_jobs),
+        other => panic!("{name}: {other:?}"),
+    }
+}
+
+#[test]
+fn the_proved_walk_finds_what_each_sample_shows() {
+    assert_eq!(failing("lost-update"), (73, vec![JobNumber(2)]));
+    assert_eq!(walk("lost-update-locked"), Ok(Verdict::Holds { count: 93 }));
+    assert_eq!(failing("half-changed-lane"), (88, vec![JobNumber(2)]));
+    assert_eq!(walk("lane-kept-apart"), Ok(Verdict::Holds { count: 19 }));
+    assert_eq!(walk("slow-sorter"), Err(Refusal { number: 10, place: 1 }));
+    assert_eq!(walk("too-many-orders"), Err(Refusal { number: 21, place: 0 }));
+}
+
+#[test]
+fn the_locked_sample_is_the_unlocked_one_and_a_lock() {
+    let (plain, mut locked) = (table("lost-update"), table("lost-update-locked"));
+    assert_eq!(locked.ceilings, [1]);
+    locked.ceilings.clear();
+    for task in &mut locked.tasks {
+        let lock_steps = [9, 10]; // Acquire and Release
+        task.body.retain(|instruction| !lock_steps.contains(&instruction.operation));
+    }
+    assert_eq!(locked, plain);
+}
+
+#[test]
+fn the_lane_samples_differ_in_one_period() {
+    let (half, mut apart) = (table("half-changed-lane"), table("lane-kept-apart"));
+    assert_eq!((half.tasks[1].period, apart.tasks[1].period), (20, 40));
+    apart.tasks[1].period = 20;
+    assert_eq!(apart, half);
+}
+
+#[test]
+fn the_slow_sorter_has_the_times_of_p4() {
+    let tasks = table("slow-sorter").tasks;
+    let times: Vec<(u32, u32)> = tasks.iter().map(|task| (task.execution, task.period)).collect();
+    assert_eq!(times, [(3_000_000_000, 4_000_000_000), (1_500_000_000, 3_000_000_000)]);
+    // What a sum in 32 bits would make of the sorter's time, which is below its period.
+    assert_eq!(times[0].0.wrapping_add(times[1].0), 205_032_704);
+}
+
+#[test]
+fn the_undecided_sample_is_accepted_by_the_reader() {
+    assert_eq!(accepted(&task_file("too-many-orders")).jobs.len(), 8);
+}
