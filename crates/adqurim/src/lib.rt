@@ -2,11 +2,17 @@
 // each word holds.
 
 use acceptance::entries::read;
+use job_list::Listed;
+use job_list::count_of;
+use job_list::fill;
+use job_list::jobs_for;
+use job_list::refused_list;
 use order_plan::entries::order_to_plan;
 use plan_check::entries::check_plan;
 use plan_order::entries::plan_to_order;
 use replay::entries::replay;
 use sheet_lines::fill_sheet;
+use timing::JobRecord;
 use walker::entries::walk_file;
 use words::READ_WORDS;
 use words::RUN_WORDS;
@@ -20,6 +26,7 @@ ghost use mathlib.Core.Path.{_≡_};
 ghost use lib.Dec.{leb};
 ghost use lib.ListN.{length};
 ghost use Rattle.notation.specs.Lists.{if_then_else_};
+ghost use Rattle.adqurim.specs.JobWords.{GivenAs, writtenTo, wordsAfter, entryAfter};
 ghost use Rattle.timing.specs.ReadEntries.{readAnswer};
 ghost use Rattle.order.specs.Replay.{replayAnswer};
 ghost use Rattle.walk.specs.WalkEntry.{walkAnswer, walkAfter};
@@ -176,4 +183,45 @@ pub extern "C" fn adqurim_sheet(file: &[u8], text: &mut [u8], answer: &mut [u64]
     let sheet = fill_sheet(file, text);
     put_sheet_words(sheet, answer);
     true
+}
+
+// How many words the job list answers.
+const LIST_WORDS: usize = 3;
+
+// The answer and the records of a file's jobs, or none where there is no room for the words.
+pub fn jobs_given(file: &[u8], room: usize, words: usize) -> Listed
+    ensures { λ x. ⌜ GivenAs x (now (file .entry)) room words ⌝ }
+{
+    if words < LIST_WORDS {
+        return refused_list(0, 0);
+    }
+    jobs_for(file, room)
+}
+
+// The words of the job list's answer, if there is room for them.
+pub fn put_list(answer: &mut [u64], from: Listed) -> bool
+    ensures { λ r. ⌜ (r ≡ leb 3 (length (now (answer .entry))))
+        × (now (answer .exit) ≡ writtenTo (from .answer) (now (answer .entry))) ⌝ }
+{
+    if answer.len() < LIST_WORDS {
+        return false;
+    }
+    answer[0] = from.answer.number as u64;
+    answer[1] = from.answer.place as u64;
+    answer[2] = from.answer.jobs as u64;
+    true
+}
+
+// The job list's entry. Words 0 and 1 are number and place, word 2 how many records were written to the front of the
+// list; the records after them keep their contents, and a refusal writes none. It answers whether there was room for the
+// words; without room nothing changes, the list neither.
+#[no_mangle]
+pub extern "C" fn adqurim_jobs(file: &[u8], jobs: &mut [JobRecord], answer: &mut [u64]) -> bool
+    ensures { λ r. ⌜ (r ≡ leb 3 (length (now (answer .entry))))
+        × (now (jobs .exit) ≡ entryAfter (now (file .entry)) (now (jobs .entry)) (now (answer .entry)))
+        × (now (answer .exit) ≡ wordsAfter (now (file .entry)) (now (jobs .entry)) (now (answer .entry))) ⌝ }
+{
+    let listed = jobs_given(file, jobs.len(), answer.len());
+    fill(jobs, listed, count_of(listed));
+    put_list(answer, listed)
 }

@@ -12,6 +12,7 @@ use crate::limits::TASKS;
 use crate::limits::VARIABLES;
 
 // A task's number, from 0 in chain order. It is also the task's base priority.
+#[repr(C)]
 pub struct Task(pub u8);
 
 // One instruction: its operation and its fields a, b and c.

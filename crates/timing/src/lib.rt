@@ -12,7 +12,8 @@ use taskfile::limits::TASKS;
 pub struct Job(pub u8);
 
 // A job's record in the job list: its task, its arrival and its latest finish. Arrival and response time
-// are below 2^32 each, so their sum wants more than 32 bits.
+// are below 2^32 each, so their sum wants more than 32 bits. A caller of the C interface lends such records.
+#[repr(C)]
 pub struct JobRecord {
     pub task: Task,
     pub arrival: u64,
