@@ -1,7 +1,7 @@
 /*
  * Adqurim's C interface: the reader of task files, the replay of an order, the walk of all orders,
  * the check of a round plan, the conversions of an order to its plan and of a plan to its order,
- * and the sheet. For C11 and C++11 or later.
+ * the sheet, and the list of jobs. For C11 and C++11 or later.
  *
  * Each entry comes twice: as a proved entry of the library, which fills words that the caller
  * lends, and as a function that calls the entry and fills a struct.
@@ -13,10 +13,11 @@
  *   adqurim_order_to_plan   adqurim_convert_order
  *   adqurim_plan_to_order   adqurim_convert_plan
  *   adqurim_sheet           adqurim_print_sheet
+ *   adqurim_jobs            adqurim_list_jobs
  *
- * A slice passes as a pointer and then a length: bytes for a file, an order, a plan or a text, words
- * of 64 bits for an answer. A pointer is never null, even where its length is 0. The library keeps
- * nothing between calls and allocates nothing.
+ * A slice passes as a pointer and then a length: bytes for a file, an order, a plan or a text,
+ * records for a list of jobs, words of 64 bits for an answer. A pointer is never null, even where
+ * its length is 0. The library keeps nothing between calls and allocates nothing.
  */
 #ifndef ADQURIM_H
 #define ADQURIM_H
@@ -36,8 +37,8 @@ extern "C" {
 #define ADQURIM_VARIABLES 8
 
 /*
- * The room that number 20 asks for: bytes of an order, bytes of a plan, records of a job list, bytes
- * of a sheet's text.
+ * The room that number 20 asks for: bytes of an order, bytes of a plan, records of a job list,
+ * bytes of a sheet's text.
  */
 #define ADQURIM_ORDER_ROOM 512
 #define ADQURIM_PLAN_ROOM 1281
@@ -107,6 +108,7 @@ enum adqurim_verdict {
 #define ADQURIM_CHECK_PLAN_WORDS 43
 #define ADQURIM_CONVERSION_WORDS 43
 #define ADQURIM_SHEET_WORDS 3
+#define ADQURIM_JOBS_WORDS 3
 
 /* What adqurim_read answers, word by word. */
 typedef struct adqurim_read_answer {
@@ -143,6 +145,20 @@ typedef struct adqurim_sheet_answer {
     uint64_t length; /* of the sheet, in bytes */
 } adqurim_sheet_answer;
 
+/* A job's record, laid out as the library's. Arrival and latest finish are below 2^33. */
+typedef struct adqurim_job {
+    uint8_t task;
+    uint64_t arrival;
+    uint64_t latest; /* the arrival and the task's response time */
+} adqurim_job;
+
+/* What adqurim_jobs answers, word by word. */
+typedef struct adqurim_jobs_answer {
+    uint64_t number; /* an adqurim_number */
+    uint64_t place;
+    uint64_t jobs;   /* how many records were written */
+} adqurim_jobs_answer;
+
 #ifdef __cplusplus
 #define ADQURIM_STATIC_ASSERT static_assert
 #else
@@ -154,6 +170,10 @@ ADQURIM_STATIC_ASSERT(sizeof(adqurim_walk_answer) == ADQURIM_WALK_WORDS * 8, "45
 ADQURIM_STATIC_ASSERT(sizeof(adqurim_run) == ADQURIM_CHECK_PLAN_WORDS * 8, "43 words");
 ADQURIM_STATIC_ASSERT(sizeof(adqurim_run) == ADQURIM_CONVERSION_WORDS * 8, "43 words");
 ADQURIM_STATIC_ASSERT(sizeof(adqurim_sheet_answer) == ADQURIM_SHEET_WORDS * 8, "3 words");
+ADQURIM_STATIC_ASSERT(sizeof(adqurim_jobs_answer) == ADQURIM_JOBS_WORDS * 8, "3 words");
+ADQURIM_STATIC_ASSERT(sizeof(adqurim_job) == 24, "a job has 24 bytes");
+ADQURIM_STATIC_ASSERT(offsetof(adqurim_job, arrival) == 8, "the arrival is at byte 8");
+ADQURIM_STATIC_ASSERT(offsetof(adqurim_job, latest) == 16, "the latest finish is at byte 16");
 #undef ADQURIM_STATIC_ASSERT
 
 /*
@@ -314,6 +334,25 @@ bool adqurim_sheet(const uint8_t *file, size_t file_len, uint8_t *text, size_t t
                    uint64_t *answer, size_t answer_len);
 
 /*
+ * Lists a task file's jobs, by task and then by arrival, and fills the first 3 words of the answer:
+ *
+ *   word 0   the number: 0 if the file is accepted, else the number of the refusal, 1 to 11 for
+ *            the file, 20 if the list is below 32 records
+ *   word 1   the place of the refusal, a record's index for the file; else 0
+ *   word 2   how many records were written, 0 to 32
+ *
+ * A refusal has word 2 zero. Words past the third never change.
+ *
+ * The list then has the jobs at its front, the record of job j at index j. Records past the last
+ * job never change, and a refusal changes none.
+ *
+ * Returns whether the answer has room for the 3 words. Without room nothing changes, the list
+ * neither, and the answer is false. The file is only read; file, list and answer do not overlap.
+ */
+bool adqurim_jobs(const uint8_t *file, size_t file_len, struct adqurim_job *jobs, size_t jobs_len,
+                  uint64_t *answer, size_t answer_len);
+
+/*
  * The same entries with structs. Each returns the answer's number, 0 if nothing is refused. What
  * is said above of the lent bytes holds here too.
  *
@@ -387,6 +426,15 @@ static inline uint64_t adqurim_print_sheet(const uint8_t *file, size_t file_len,
                                            size_t text_len, adqurim_sheet_answer *answer) {
     uint64_t words[ADQURIM_SHEET_WORDS];
     (void)adqurim_sheet(file, file_len, text, text_len, words, ADQURIM_SHEET_WORDS);
+    memcpy(answer, words, sizeof words);
+    return answer->number;
+}
+
+/* Lists the jobs. */
+static inline uint64_t adqurim_list_jobs(const uint8_t *file, size_t file_len, adqurim_job *jobs,
+                                         size_t jobs_len, adqurim_jobs_answer *answer) {
+    uint64_t words[ADQURIM_JOBS_WORDS];
+    (void)adqurim_jobs(file, file_len, jobs, jobs_len, words, ADQURIM_JOBS_WORDS);
     memcpy(answer, words, sizeof words);
     return answer->number;
 }

@@ -12,7 +12,7 @@ use Rattle.timing.specs.declared.JobRecord.{JobRecord}
 use Rattle.timing.specs.declared.ListAnswer.{ListAnswer}
 use Rattle.timing.specs.ReadEntries.{listAnswer, listAfter}
 use Rattle.job_list.specs.declared.Listed.{Listed}
-use Rattle.job_list.specs.Filled.{filled}
+use Rattle.job_list.specs.Filled.{listFilled}
 
 unfoldable pub writtenTo : ListAnswer → List ℕ → List ℕ
 writtenTo a words = if leb 3 (length words) then a .number ∷ a .place ∷ a .jobs ∷ drop 3 words else words
@@ -25,6 +25,6 @@ entryAfter f list words = if leb 3 (length words) then listAfter f list else lis
 
 pub record GivenAs (x : Listed) (f : File) (room words : ℕ) : Type 0 where
   pub answer : (list : List JobRecord) (ws : List ℕ) → length list ≡ room → length ws ≡ words → writtenTo (x .answer) ws ≡ wordsAfter f list ws
-  pub after : (list : List JobRecord) (ws : List ℕ) → length list ≡ room → length ws ≡ words → filled x (x .answer .jobs) list ≡ entryAfter f list ws
+  pub after : (list : List JobRecord) (ws : List ℕ) → length list ≡ room → length ws ≡ words → listFilled x (x .answer .jobs) list ≡ entryAfter f list ws
   pub most : x .answer .jobs ≤ 32
   pub within : x .answer .jobs ≤ room

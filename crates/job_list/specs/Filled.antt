@@ -12,17 +12,17 @@ use Rattle.timing.specs.Relations.{noJob}
 use Rattle.job_list.specs.declared.Listed.{Listed}
 
 -- the record at a place
-abbrev pub recordOf : Listed → ℕ → JobRecord
-recordOf from i = getD (from .jobs) i noJob
+abbrev pub jobRecordOf : Listed → ℕ → JobRecord
+jobRecordOf from i = getD (from .jobs) i noJob
 
 -- the list with the first n records stored
-unfoldable pub filled : Listed → ℕ → List JobRecord → List JobRecord
-filled from zero list = list
-filled from (suc n) list = set (filled from n list) n (recordOf from n)
+unfoldable pub listFilled : Listed → ℕ → List JobRecord → List JobRecord
+listFilled from zero list = list
+listFilled from (suc n) list = set (listFilled from n list) n (jobRecordOf from n)
 
 -- the answer for a file and a list with this room, and the records that make such a list the one afterwards
 pub record ListedAs (x : Listed) (f : File) (room : ℕ) : Type 0 where
   pub answer : (list : List JobRecord) → length list ≡ room → x .answer ≡ listAnswer f list
-  pub after : (list : List JobRecord) → length list ≡ room → filled x (x .answer .jobs) list ≡ listAfter f list
+  pub after : (list : List JobRecord) → length list ≡ room → listFilled x (x .answer .jobs) list ≡ listAfter f list
   pub most : x .answer .jobs ≤ 32
   pub within : x .answer .jobs ≤ room

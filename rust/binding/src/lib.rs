@@ -1,8 +1,9 @@
 //! Safe calls of the proved entries through the C interface of `include/adqurim.h`.
 //!
-//! [`read`], [`replay`], [`walk`], [`check_plan`], [`order_to_plan`] and [`plan_to_order`] give a
-//! value or a [`Refusal`], which prints as a sentence; [`sheet`] gives a text for every file. The
-//! module [`raw`] has the same entries with their numbers, places and lent memory.
+//! [`read`], [`jobs`], [`replay`], [`walk`], [`check_plan`], [`order_to_plan`] and
+//! [`plan_to_order`] give a value or a [`Refusal`], which prints as a sentence; [`sheet`] gives a
+//! text for every file. The module [`raw`] has the same entries with their numbers, places and lent
+//! memory.
 //!
 //! ```
 //! let refusal = binding::read(&[1; 7]).unwrap_err();
@@ -16,7 +17,7 @@ mod words;
 
 pub use refusal::{Place, Refusal, Rule};
 pub use words::{
-    JOB_LIST_ROOM, MOST_JOBS, MOST_TASKS, ORDER_ROOM, PLAN_ROOM, SHEET_ALLOWANCE, SHEET_ROOM,
+    Job, JOB_LIST_ROOM, MOST_JOBS, MOST_TASKS, ORDER_ROOM, PLAN_ROOM, SHEET_ALLOWANCE, SHEET_ROOM,
     VARIABLES,
 };
 
@@ -130,6 +131,15 @@ pub fn sheet(file: &[u8]) -> String {
     assert_eq!(answer.number, 0, "the text has room for any sheet");
     text.truncate(answer.length as usize);
     String::from_utf8(text).expect("a sheet is ASCII")
+}
+
+/// The jobs of a file, by task and then by arrival: job j at index j, or a refusal by 1 to 11.
+pub fn jobs(file: &[u8]) -> Result<Vec<Job>, Refusal> {
+    let mut jobs = vec![Job::default(); JOB_LIST_ROOM];
+    let answer = raw::jobs(file, &mut jobs);
+    accept(answer.number, answer.place)?;
+    jobs.truncate(answer.jobs as usize);
+    Ok(jobs)
 }
 
 /// The refusal of an answer, if it is one.

@@ -2,11 +2,13 @@
 //! place that a caller has to look at. This is the only module with unsafe code.
 
 pub use crate::words::{
-    ReadAnswer, RunAnswer, SheetAnswer, Verdict, WalkAnswer, CHECK_PLAN_WORDS, CONVERSION_WORDS,
-    READ_WORDS, REPLAY_WORDS, SHEET_WORDS, WALK_WORDS,
+    Job, JobsAnswer, ReadAnswer, RunAnswer, SheetAnswer, Verdict, WalkAnswer, CHECK_PLAN_WORDS,
+    CONVERSION_WORDS, JOBS_WORDS, READ_WORDS, REPLAY_WORDS, SHEET_WORDS, WALK_WORDS,
 };
 
 mod c {
+    use super::Job;
+
     extern "C" {
         pub fn adqurim_read(
             file: *const u8,
@@ -70,6 +72,15 @@ mod c {
             file_len: usize,
             text: *mut u8,
             text_len: usize,
+            answer: *mut u64,
+            answer_len: usize,
+        ) -> bool;
+
+        pub fn adqurim_jobs(
+            file: *const u8,
+            file_len: usize,
+            jobs: *mut Job,
+            jobs_len: usize,
             answer: *mut u64,
             answer_len: usize,
         ) -> bool;
@@ -240,4 +251,29 @@ pub fn sheet(file: &[u8], text: &mut [u8]) -> SheetAnswer {
     let room = sheet_words(file, text, &mut words);
     assert!(room, "the entry has room for its words");
     SheetAnswer::from(words)
+}
+
+/// Lists a file's jobs into a lent list, and lent words. False, and neither changed, if there is no
+/// room for 3 words.
+pub fn jobs_words(file: &[u8], jobs: &mut [Job], answer: &mut [u64]) -> bool {
+    // SAFETY: as for the walk, with the list for the order. A record has C's layout, and any bytes
+    // make one.
+    unsafe {
+        c::adqurim_jobs(
+            file.as_ptr(),
+            file.len(),
+            jobs.as_mut_ptr(),
+            jobs.len(),
+            answer.as_mut_ptr(),
+            answer.len(),
+        )
+    }
+}
+
+/// Lists a file's jobs. Records past the last job stay as they are; a refusal leaves all.
+pub fn jobs(file: &[u8], jobs: &mut [Job]) -> JobsAnswer {
+    let mut words = [0; JOBS_WORDS];
+    let room = jobs_words(file, jobs, &mut words);
+    assert!(room, "the entry has room for its words");
+    JobsAnswer::from(words)
 }

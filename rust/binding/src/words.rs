@@ -98,6 +98,40 @@ impl From<SheetAnswer> for [u64; SHEET_WORDS] {
     }
 }
 
+/// How many words the job list's entry fills.
+pub const JOBS_WORDS: usize = 3;
+
+/// What the job list's entry answers.
+#[derive(Debug, Clone, Copy, PartialEq, Eq, Default)]
+pub struct JobsAnswer {
+    pub number: u64,
+    pub place: u64,
+    /// How many records were written.
+    pub jobs: u64,
+}
+
+/// A job's record, laid out as C lays it out.
+#[repr(C)]
+#[derive(Debug, Clone, Copy, PartialEq, Eq, Default)]
+pub struct Job {
+    pub task: u8,
+    pub arrival: u64,
+    /// The latest finish.
+    pub latest: u64,
+}
+
+impl From<[u64; JOBS_WORDS]> for JobsAnswer {
+    fn from([number, place, jobs]: [u64; JOBS_WORDS]) -> JobsAnswer {
+        JobsAnswer { number, place, jobs }
+    }
+}
+
+impl From<JobsAnswer> for [u64; JOBS_WORDS] {
+    fn from(answer: JobsAnswer) -> [u64; JOBS_WORDS] {
+        [answer.number, answer.place, answer.jobs]
+    }
+}
+
 impl From<u64> for Verdict {
     fn from(word: u64) -> Verdict {
         match word {

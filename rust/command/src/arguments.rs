@@ -13,6 +13,7 @@ const DASH: &str = "-";
 pub enum Subcommand {
     Check,
     Read,
+    Jobs,
     Walk,
     Replay,
     Plan,
@@ -21,9 +22,10 @@ pub enum Subcommand {
 }
 
 /// Every subcommand with its name, in the order of the help.
-pub const SUBCOMMANDS: [(Subcommand, &str); 7] = [
+pub const SUBCOMMANDS: [(Subcommand, &str); 8] = [
     (Subcommand::Check, "check"),
     (Subcommand::Read, "read"),
+    (Subcommand::Jobs, "jobs"),
     (Subcommand::Walk, "walk"),
     (Subcommand::Replay, "replay"),
     (Subcommand::Plan, "plan"),
@@ -43,7 +45,8 @@ impl Subcommand {
 
     /// Whether an order's or a plan's numbers follow the file.
     fn takes_numbers(self) -> bool {
-        !matches!(self, Subcommand::Check | Subcommand::Read | Subcommand::Walk)
+        use Subcommand::{CheckPlan, Order, Plan, Replay};
+        matches!(self, Replay | Plan | CheckPlan | Order)
     }
 
     /// The words that show its help.

@@ -5,7 +5,7 @@ use crate::lines::{ending, line, refused};
 use crate::rounds::{parts, Parts};
 use crate::sheet::{finding, totals, Finding};
 use crate::{progress, records, sources, Problem, Status, Streams};
-use binding::{Ending, Place, Refusal, Verdict};
+use binding::{Ending, Job, Place, Refusal, Verdict};
 
 /// An answer's lines and its status.
 type Answer = Result<(String, Status), Refusal>;
@@ -18,7 +18,8 @@ pub fn answer(request: &Request, streams: &mut Streams) -> Result<Status, Proble
     let answer = match request.subcommand {
         Subcommand::Check => return check(&file, streams),
         Subcommand::Walk => walk(&file, request.allowance, streams),
-        Subcommand::Read => binding::read(&file).map(|timing| accepted(totals(&file, &timing))),
+        Subcommand::Read => read(&file).map(accepted),
+        Subcommand::Jobs => jobs(&file).map(accepted),
         Subcommand::Replay => binding::replay(&file, &numbers).map(ran).map(accepted),
         Subcommand::Plan => plan(&file, &numbers).map(accepted),
         Subcommand::CheckPlan => binding::check_plan(&file, &numbers).map(ran).map(accepted),
@@ -61,6 +62,19 @@ fn check(file: &[u8], streams: &mut Streams) -> Result<Status, Problem> {
         Finding::Fails => Ok(Status::Fails),
         Finding::Refused(refusal) => explain(&refusal, file, streams),
     }
+}
+
+/// The totals, and a line for each task.
+fn read(file: &[u8]) -> Result<String, Refusal> {
+    Ok(totals(&binding::read(file)?, &binding::jobs(file)?))
+}
+
+/// A line for each job.
+fn jobs(file: &[u8]) -> Result<String, Refusal> {
+    let job_line = |(number, Job { task, arrival, latest }): (usize, Job)| {
+        format!("job {number} task {task} arrival {arrival} latest {latest}\n")
+    };
+    Ok(binding::jobs(file)?.into_iter().enumerate().map(job_line).collect())
 }
 
 /// The verdict, with the order that fails.

@@ -7,6 +7,7 @@ adqurim checks the task table of a parcel depot's box.
 
   adqurim check FILE                  print the table's sheet
   adqurim read FILE                   response times and jobs
+  adqurim jobs FILE                   each job's task, arrival and latest finish
   adqurim walk [--allowance N] FILE   look for an order that fails
   adqurim replay FILE ORDER..         run the steps of an order
   adqurim plan FILE ORDER..           convert an order to its plan in rounds
@@ -35,6 +36,13 @@ const READ: &str = "\
 adqurim read FILE
 
 Prints the totals, and each task's response time and jobs.
+";
+
+const JOBS: &str = "\
+adqurim jobs FILE
+
+Prints a line for each job that arrives in the window, by task and then by arrival: its number, its
+task, its arrival and its latest finish.
 ";
 
 const WALK: &str = "\
@@ -79,6 +87,7 @@ pub fn text(subcommand: Option<Subcommand>) -> String {
         None => PROGRAM,
         Some(Subcommand::Check) => CHECK,
         Some(Subcommand::Read) => READ,
+        Some(Subcommand::Jobs) => JOBS,
         Some(Subcommand::Walk) => WALK,
         Some(Subcommand::Replay) => REPLAY,
         Some(Subcommand::Plan) => PLAN,

@@ -1,12 +1,8 @@
-//! What a file's records are, for lines and explanations. The rules of a file are the reader's
-//! business: here a damaged file is followed as far as it goes.
+//! What a file's records are, for explanations. The rules of a file are the reader's business: here
+//! a damaged file is followed as far as it goes.
 
 /// A record's length.
 const RECORD: usize = 16;
-/// Where a record's wide fields begin: the header's window; a task's period and first arrival.
-const WINDOW: usize = 4;
-const PERIOD: usize = 8;
-const FIRST_ARRIVAL: usize = 12;
 /// Where a record holds the next of its chain, its first task or instruction, and its first lock.
 const NEXT: usize = 1;
 const FIRST: usize = 2;
@@ -14,25 +10,6 @@ const FIRST_LOCK: usize = 3;
 
 fn byte(file: &[u8], record: usize, at: usize) -> usize {
     file[record * RECORD + at].into()
-}
-
-/// A wide field, low byte first.
-fn wide(file: &[u8], record: usize, at: usize) -> u64 {
-    let bytes = &file[record * RECORD + at..][..4];
-    bytes.iter().rev().fold(0, |number, byte| number << 8 | u64::from(*byte))
-}
-
-/// How many jobs each task of an accepted file has: those of its arrivals that are in the window.
-pub fn jobs_by_task(file: &[u8]) -> Vec<u64> {
-    let window = wide(file, 0, WINDOW);
-    let mut jobs = Vec::new();
-    let mut task = byte(file, 0, FIRST);
-    while task != 0 {
-        let room = window.saturating_sub(wide(file, task, FIRST_ARRIVAL));
-        jobs.push(room.div_ceil(wide(file, task, PERIOD)));
-        task = byte(file, task, NEXT);
-    }
-    jobs
 }
 
 /// What the chains reach, by record.

@@ -1,14 +1,14 @@
 //! The totals at a sheet's front, and what a sheet comes to.
 
-use crate::records::jobs_by_task;
-use binding::{Refusal, Timing};
+use binding::{Job, Refusal, Timing};
 
 /// The totals, and a line for each task of an accepted file.
-pub fn totals(file: &[u8], timing: &Timing) -> String {
+pub fn totals(timing: &Timing, jobs: &[Job]) -> String {
     let times = &timing.response_times;
     let mut text = format!("tasks {} jobs {}\n", times.len(), timing.jobs);
-    for (task, (response, jobs)) in times.iter().zip(jobs_by_task(file)).enumerate() {
-        text += &format!("task {task} response {response} jobs {jobs}\n");
+    for (task, response) in times.iter().enumerate() {
+        let own = jobs.iter().filter(|job| usize::from(job.task) == task).count();
+        text += &format!("task {task} response {response} jobs {own}\n");
     }
     text
 }

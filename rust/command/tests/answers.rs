@@ -7,7 +7,7 @@ use conformance::orders::random_order;
 use generator::files::{damaged, random_bytes, random_records};
 use generator::{code, Random, TableDescription};
 use interpreter::timing::accept;
-use interpreter::{conversion, plan, sheet};
+use interpreter::{conversion, plan, sheet, JobRecord};
 use std::ffi::OsString;
 use std::fmt::Display;
 use std::io::{self, Read, Write};
@@ -185,6 +185,25 @@ fn a_table_without_jobs() {
     assert_eq!(run_with_numbers("plan", &file, &[]).output, format!("plan 0\n{ending}"));
     assert_eq!(run_with_numbers("order", &file, &[0]).output, format!("order\n{ending}"));
     assert_eq!(run_on(&["walk", "-"], &mut &file[..], false).output, "verdict holds 0\n");
+    assert_eq!(run_on(&["jobs", "-"], &mut &file[..], false).output, "");
+}
+
+#[test]
+fn jobs_of_random_tables() {
+    let mut random = Random::new(0x10B5);
+    for make in [small, crowded, any] {
+        for _ in 0..100 {
+            let file = accepted_file(&mut random, make);
+            let mut expected = String::new();
+            for (number, job) in accepted(&file).jobs.iter().enumerate() {
+                let JobRecord { task, arrival, latest_finish: latest } = job;
+                let words = format!("task {} arrival {arrival} latest {latest}", task.0);
+                expected += &format!("job {number} {words}\n");
+            }
+            let listed = run_on(&["jobs", "-"], &mut &file[..], false);
+            assert_eq!((listed.output, listed.status), (expected, Status::Accepted));
+        }
+    }
 }
 
 #[test]

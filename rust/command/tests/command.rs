@@ -6,7 +6,8 @@ use std::path::PathBuf;
 use std::process::{Command, Output, Stdio};
 use std::{fs, iter};
 
-const SUBCOMMANDS: [&str; 7] = ["check", "read", "walk", "replay", "plan", "check-plan", "order"];
+const SUBCOMMANDS: [&str; 8] =
+    ["check", "read", "jobs", "walk", "replay", "plan", "check-plan", "order"];
 /// Statuses of the program.
 const ACCEPTED: i32 = 0;
 const FAILS: i32 = 1;
@@ -80,6 +81,8 @@ fn every_subcommand_on_table_x() {
     let sheet = format!("{totals}{fails}failed 0\njob 0 {job_0}job 1 {job_1}");
     assert_run(&["check", &file], &[], FAILS, &sheet, "");
     assert_run(&["read", &file], &[], ACCEPTED, totals, "");
+    let jobs = "job 0 task 0 arrival 0 latest 3\njob 1 task 1 arrival 1 latest 2\n";
+    assert_run(&["jobs", &file], &[], ACCEPTED, jobs, "");
     assert_run(&["walk", &file], &[], FAILS, &format!("{fails}{ending}"), "");
     let plan = format!(
         "plan {}\nround 0 starts 0 0 0 0 0 0 0 0\nround 1 starts 1 0 0 0 0 0 0 0\n\
@@ -145,13 +148,14 @@ fn refusals_are_explained() {
 fn wrong_usage_is_told_and_points_to_the_help() {
     let file = file_of_x("wrong_usage");
     #[rustfmt::skip]
-    let cases: [(&[&str], &str); 13] = [
+    let cases: [(&[&str], &str); 14] = [
         (&[], "no subcommand is given"),
         (&["cheque", &file], "there is no subcommand `cheque`"),
         (&["--allowance", "5"], "there is no subcommand `--allowance`"),
         (&["check"], "check: no FILE is given"),
         (&["plan"], "plan: no FILE is given"),
         (&["read", &file, "7"], "read: `7` is one word too many"),
+        (&["jobs", &file, "7"], "jobs: `7` is one word too many"),
         (&["walk", "--allowance"], "walk: --allowance needs a number of moves"),
         (&["walk", "--allowance", "-1", &file], "walk: --allowance needs a number of moves"),
         (&["check", "--allowance", "1", &file], "check: there is no option `--allowance`"),

@@ -1,6 +1,8 @@
 //! The interpreter's answers in the form of the proved entries'.
 
-use binding::raw::{ReadAnswer, RunAnswer, Verdict, WalkAnswer};
+use binding::raw::{JobsAnswer, ReadAnswer, RunAnswer, SheetAnswer, Verdict, WalkAnswer};
+use binding::{Job, Rule, SHEET_ROOM};
+use interpreter::{JobRecord, TaskNumber};
 
 /// What the proved reader must answer to a file, by the interpreter.
 pub fn expected_read(file: &[u8]) -> ReadAnswer {
@@ -70,6 +72,36 @@ pub fn expected_walk(file: &[u8], allowance: u64, order: &mut [u8]) -> WalkAnswe
         end_store: answer.end_store.map(u64::from),
         failed_jobs: flags(answer.failed_jobs),
     }
+}
+
+/// What the proved sheet's entry must answer, by the interpreter, and leave in the text.
+pub fn expected_sheet(file: &[u8], text: &mut [u8]) -> SheetAnswer {
+    if text.len() < SHEET_ROOM {
+        return SheetAnswer { number: Rule::Room.number(), ..SheetAnswer::default() };
+    }
+    let sheet = interpreter::sheet(file);
+    text[..sheet.len()].copy_from_slice(sheet.as_bytes());
+    SheetAnswer { length: sheet.len() as u64, ..SheetAnswer::default() }
+}
+
+/// A record of the interpreter's job list.
+pub fn job_of(record: &JobRecord) -> Job {
+    let JobRecord { task, arrival, latest_finish } = *record;
+    Job { task: task.0, arrival, latest: latest_finish }
+}
+
+/// What the proved job list's entry must answer, by the interpreter, and leave in the list.
+pub fn expected_jobs(file: &[u8], list: &mut [Job]) -> JobsAnswer {
+    let record = |job: &Job| JobRecord {
+        task: TaskNumber(job.task),
+        arrival: job.arrival,
+        latest_finish: job.latest,
+    };
+    let mut records: Vec<JobRecord> = list.iter().map(record).collect();
+    let answer = interpreter::job_list(file, &mut records);
+    list.iter_mut().zip(&records).for_each(|(job, record)| *job = job_of(record));
+    let interpreter::JobListAnswer { number, place, jobs } = answer;
+    JobsAnswer { number: number.into(), place: place as u64, jobs: jobs as u64 }
 }
 
 /// The set of failed jobs as a word for each job.

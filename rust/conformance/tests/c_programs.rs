@@ -1,6 +1,7 @@
 //! Programs in C and C++ that include the header, link the static library and check table X.
 
-use conformance::cases::table_x;
+use conformance::cases::{accepted, table_x};
+use interpreter::JobRecord;
 use std::env;
 use std::path::{Path, PathBuf};
 use std::process::{Command, Output};
@@ -47,9 +48,15 @@ fn run(program: &Program, name: &str, more: &[&str]) -> Output {
     Command::new(built).output().expect("the program starts")
 }
 
-/// What a program prints: table X's sheet.
+/// What a program prints: table X's sheet, and a line for each of its jobs.
 fn printed() -> String {
-    interpreter::sheet(&table_x().write())
+    let file = table_x().write();
+    let mut text = interpreter::sheet(&file);
+    for (number, job) in accepted(&file).jobs.iter().enumerate() {
+        let JobRecord { task, arrival, latest_finish } = job;
+        text += &format!("job {number} task {} arrival {arrival} latest {latest_finish}\n", task.0);
+    }
+    text
 }
 
 /// Runs a program as it is, then with a count that is not document 01's, which it must notice.

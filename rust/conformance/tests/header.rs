@@ -1,7 +1,8 @@
 //! The entries and numbers of the header and of the README against those of the binding.
 
 use binding::raw::{
-    Verdict, CHECK_PLAN_WORDS, CONVERSION_WORDS, READ_WORDS, REPLAY_WORDS, SHEET_WORDS, WALK_WORDS,
+    Verdict, CHECK_PLAN_WORDS, CONVERSION_WORDS, JOBS_WORDS, READ_WORDS, REPLAY_WORDS, SHEET_WORDS,
+    WALK_WORDS,
 };
 use binding::{
     Place, Rule, JOB_LIST_ROOM, MOST_JOBS, MOST_TASKS, ORDER_ROOM, PLAN_ROOM, SHEET_ALLOWANCE,
@@ -51,7 +52,7 @@ fn declared<'a>(text: &'a str, words: &str) -> BTreeSet<&'a str> {
 #[test]
 fn every_entry_of_the_header_is_bound() {
     let entries = declared(HEADER, "bool ");
-    assert_eq!(entries.len(), 7);
+    assert_eq!(entries.len(), 8);
     assert_eq!(entries, declared(BOUND, "pub fn "));
 }
 
@@ -91,23 +92,37 @@ fn every_constant_is_in_the_header() {
         ("ADQURIM_CHECK_PLAN_WORDS", CHECK_PLAN_WORDS),
         ("ADQURIM_CONVERSION_WORDS", CONVERSION_WORDS),
         ("ADQURIM_SHEET_WORDS", SHEET_WORDS),
+        ("ADQURIM_JOBS_WORDS", JOBS_WORDS),
     ];
     assert_eq!(constants(), named(expected.map(|(name, size)| (name, size as u64))));
 }
 
-/// The rows of the README's table of numbers: number, name and the noun of the place.
+/// Who has to mend what a number says.
+fn mends(number: u64) -> &'static str {
+    match number {
+        1..=9 => "the author of the file",
+        10..=11 => "the bench, which supplies the times",
+        20..=21 => "the caller",
+        30..=32 => "the author of the order",
+        _ => "the author of the plan",
+    }
+}
+
+/// The rows of the README's table of numbers: number, name, the noun of the place, and who has to
+/// mend it.
 #[test]
 fn every_rule_has_its_row_in_the_readme() {
-    let row = |line: &str| -> Option<(u64, String, String)> {
+    let row = |line: &str| -> Option<(u64, [String; 3])> {
         let cells: Vec<&str> = line.trim_matches('|').split('|').map(str::trim).collect();
         let number = cells[0].parse().ok()?;
-        Some((number, cells[1].to_string(), cells[3].to_string()))
+        Some((number, [1, 3, 4].map(|column| cells[column].to_string())))
     };
     let rows: Vec<_> =
         README.lines().filter(|line| line.starts_with('|')).filter_map(row).collect();
     assert_eq!(rows.len(), Rule::all().count());
-    for (rule, (number, name, place)) in Rule::all().zip(rows) {
+    for (rule, (number, [name, place, who])) in Rule::all().zip(rows) {
         assert_eq!((number, &name[..]), (rule.number(), rule.name()));
+        assert_eq!(who, mends(number), "{name}");
         let counts = rule.place();
         let noun = counts.noun().unwrap_or("0");
         assert!(place.contains(noun), "{name}: the place is {place}, not {counts:?}");

@@ -46,7 +46,7 @@ use Rattle.timing.specs.declared.JobRecord.{JobRecord}
 use Rattle.timing.proofs.JobRecord as J
 use Rattle.timing.proofs.ListAnswer as Answer
 use Rattle.job_list.specs.declared.Listed.{Listed}
-use Rattle.job_list.specs.Filled.{filled}
+use Rattle.job_list.specs.Filled.{listFilled}
 use Rattle.adqurim.specs.JobWords.{GivenAs, writtenTo, wordsAfter, entryAfter}
 use Rattle.job_list.proofs.Listed as L
 use Rattle.job_list.proofs.Listed.Laws as L′
@@ -225,8 +225,8 @@ module _ {M : Type 1} (𝓤 : URA M) (H : Heap 𝓤) (A : Atoms 𝓤) (W : Given
           use2 W (raw (Fill 𝓤 H A at-mem run .pre (to-fill x w is-x m))) (goes-fill x w is-x m m-fits (subst (λ (j : ℕ). j ≤ 32) (sym e) (found .most)) (subst (λ (j : ℕ). j ≤ n) (sym e) (found .within))) $
           calls-at ! fm (Fill 𝓤 H A at-mem run) known-fill (to-fill x w is-x m) (and-then ! (load ! (from ! (stop !)) (look ! 9 refl)) (and-then ! (load ! (from ! (stop !)) (look ! 19 refl)) (and-then ! (load ! (from ! (stop !)) (look ! 17 refl)) (no-more !)))) (λ v.
           use1 W (later (some (λ (r : Unit {0}). ((‵ (flft κ′ q′) ⊛ ‵ ftrue) ⊛ ‵ (unit .own r (v ∷ []))) ⊛ raw (ensured 𝓤 H A fill.ended (fill.clauses 𝓤 H A at-mem run) (κ′, tt) (list, (x, (m, tt))) tt r)))) (id⊢ 𝓤 _) $ await ! tt $ pick ! (λ r.
-          split ! $ move ! (1 ∷ []) $ use1 W (some (λ (zs : List JobRecord × (Unit {0} × (Unit {0} × Unit {0}))). ‵ (lasts fill.ended (κ′, tt) (list, (x, (m, tt))) zs) ⊛ raw (fact 𝓤 (zs .0 ≡ filled x m ys)))) (id⊢ 𝓤 _) $ pick ! (λ zs.
-          split ! $ move ! (1 ∷ []) $ heard ! (zs .0 ≡ filled x m ys) (λ e₂. fsplit ! $ fsplit ! $ move ! (1 ∷ []) $ feqL ! (λ long.
+          split ! $ move ! (1 ∷ []) $ use1 W (some (λ (zs : List JobRecord × (Unit {0} × (Unit {0} × Unit {0}))). ‵ (lasts fill.ended (κ′, tt) (list, (x, (m, tt))) zs) ⊛ raw (fact 𝓤 (zs .0 ≡ listFilled x m ys)))) (id⊢ 𝓤 _) $ pick ! (λ zs.
+          split ! $ move ! (1 ∷ []) $ heard ! (zs .0 ≡ listFilled x m ys) (λ e₂. fsplit ! $ fsplit ! $ move ! (1 ∷ []) $ feqL ! (λ long.
           move ! (2 ∷ []) $ split ! $ move ! (1 ∷ []) $ feqL ! (λ is. split ! $ keep ! (0 ∷ 2 ∷ 4 ∷ 5 ∷ 6 ∷ 7 ∷ 8 ∷ 9 ∷ 10 ∷ 11 ∷ 12 ∷ 13 ∷ 14 ∷ 15 ∷ 16 ∷ 17 ∷ 18 ∷ 19 ∷ 20 ∷ 21 ∷ 22 ∷ 23 ∷ 24 ∷ 25 ∷ 26 ∷ 27 ∷ 28 ∷ 29 ∷ 30 ∷ 31 ∷ []) $
           land ! (from ! (stop !)) (init ! 14 refl (subst (λ (u : Val). T (hasTy tyUnit u) × WT u) (sym (ap only is)) (tt, tt))) $
           assigns ! (addr ! (from ! (fld ! refl (hop ! (look-in ! 22 (sub ! 0 refl (whole !))) (stop !))))) (from ! (stop !)) (init ! 8 refl (tt, tt)) $
@@ -242,7 +242,7 @@ module _ {M : Type 1} (𝓤 : URA M) (H : Heap 𝓤) (A : Atoms 𝓤) (W : Given
           land ! (from ! (stop !)) (init ! 29 refl (bool-lawful 𝓤 H A W .typed r′ _ is′ .0)) $
           returns ! (look ! 29 refl) $ forget ! 7 refl $ forget ! 9 refl $ forget ! 11 refl $ forget ! 13 refl $ forget ! 15 refl $ forget ! 17 refl $ forget ! 19 refl $ forget ! 21 refl $ forget ! 23 refl $ forget ! 25 refl $ forget ! 27 refl $ forget ! 29 refl $
           move ! (29 ∷ 30 ∷ []) $ free1 ! $ move ! (27 ∷ 28 ∷ []) $ free1 ! $ move ! (25 ∷ 26 ∷ []) $ free1 ! $ move ! (23 ∷ 24 ∷ []) $ free1 ! $ move ! (21 ∷ 22 ∷ []) $ free1 ! $ move ! (19 ∷ 20 ∷ []) $ free1 ! $ move ! (17 ∷ 18 ∷ []) $ free1 ! $ move ! (15 ∷ 16 ∷ []) $ free1 ! $ move ! (13 ∷ 14 ∷ []) $ free1 ! $ move ! (11 ∷ 12 ∷ []) $ free1 ! $ move ! (9 ∷ 10 ∷ []) $ free1 ! $ move ! (7 ∷ 8 ∷ []) $ free1 ! $ free0 ! $
-          by ! (exits v′ r′ (zs .0) (ws .0) long long′ (e₃ .0) (e₂ ∙ ap (λ (j : ℕ). filled x j ys) e ∙ found .after ys us refl refl) (e₃ .1 ∙ found .answer ys us refl refl))))))))))))))
+          by ! (exits v′ r′ (zs .0) (ws .0) long long′ (e₃ .0) (e₂ ∙ ap (λ (j : ℕ). listFilled x j ys) e ∙ found .after ys us refl refl) (e₃ .1 ∙ found .answer ys us refl refl))))))))))))))
 
       -- up to `fill`
       starts : Sq W (‵ (froom (sliceTy lentWords) lₑ 0) ∷ ‵ (fdies (sliceTy lentWords) lₑ) ∷ ‵ (froom lentWords lₐ 0) ∷ ‵ (fdies lentWords lₐ)

@@ -14,8 +14,8 @@ use Rattle.timing.specs.declared.JobRecord.{JobRecord}
 use Rattle.timing.specs.declared.ListAnswer.{ListAnswer}
 use Rattle.timing.specs.ReadEntries.{listAnswer, listAfter}
 use Rattle.job_list.specs.declared.Listed.{Listed}
-use Rattle.job_list.specs.Filled.{filled, ListedAs}
-use Rattle.job_list.specs.Laws.FilledLaws.{filled-none}
+use Rattle.job_list.specs.Filled.{listFilled, ListedAs}
+use Rattle.job_list.specs.Laws.FilledLaws.{listFilled-none}
 use Rattle.adqurim.specs.JobWords.{GivenAs, writtenTo, wordsAfter, entryAfter}
 
 -- without room the words stay as they were
@@ -43,7 +43,7 @@ module _ {x : Listed} {f : File} {room words : ℕ} where
       let short : (ws : List ℕ) → length ws ≡ words → leb 3 (length ws) ≡ false = λ ws long. lt-leb _ _ (subst (λ (m : ℕ). m < 3) (sym long) low) in
       record {
         answer = λ list ws long long′. sym (unwritten (x .answer) ws (short ws long′)) ∙ unwritten (listAnswer f list) ws (short ws long′);
-        after = λ list ws long long′. ap (λ (n : ℕ). filled x n list) none ∙ sym (filled-none x list) ∙ rw (short ws long′);
+        after = λ list ws long long′. ap (λ (n : ℕ). listFilled x n list) none ∙ sym (listFilled-none x list) ∙ rw (short ws long′);
         most = omega (arith, none);
         within = omega (arith, none);
       }

@@ -7,14 +7,14 @@ use lib.ListN.{length}
 use borrow.Author.Needs.{needs}
 use Rattle.writing.specs.Laws.WritingLaws.{appends-length}
 use Rattle.sheets.specs.Texts.{failedWord}
-use Rattle.printing.specs.Laws.LineLaws.{Puts, puts-enough}
+use Rattle.printing.specs.Laws.LineLaws.{PutsText, puts-enough}
 use Rattle.failing_lines.specs.Laws.FailingLines.{spacedNumbers, failedTo, failed-none, failed-more, failed-put}
 use Rattle.failing_lines.proofs.put_failed.Statement.{statement}
 use Rattle.failing_lines.proofs.put_failed.Tie as tie
 
 abbrev Inv-loop : tie.InvT-loop
 Inv-loop k at out₀ failed next₀ j₀ out next j =
-    (4608 ≤ length out) × (j ≤ k) × Puts out₀ next₀ (spacedNumbers (failedTo failed j)) out next
+    (4608 ≤ length out) × (j ≤ k) × PutsText out₀ next₀ (spacedNumbers (failedTo failed j)) out next
 
 abbrev μ-loop : tie.MeasureT-loop
 μ-loop k at out₀ failed next₀ j₀ out next j = k - j

@@ -7,7 +7,7 @@ use lib.ListN.{length}
 use borrow.Author.Needs.{needs}
 use Rattle.writing.specs.Laws.WritingLaws.{appends-length}
 use Rattle.sheets.specs.Texts.{jobWord, roundsWord}
-use Rattle.printing.specs.Laws.LineLaws.{Puts, puts-enough}
+use Rattle.printing.specs.Laws.LineLaws.{PutsText, puts-enough}
 use Rattle.failing_lines.specs.Laws.FailingLines.{spacedNumbers, roundsTo, job-rounds-none}
 use Rattle.failing_lines.specs.Laws.FailingLines.{job-rounds-more, job-rounds-put}
 use Rattle.failing_lines.proofs.put_job_rounds.Statement.{statement}
@@ -15,7 +15,7 @@ use Rattle.failing_lines.proofs.put_job_rounds.Tie as tie
 
 abbrev Inv-loop : tie.InvT-loop
 Inv-loop marks x at out₀ word first next₀ count n₀ out next n =
-    (4608 ≤ length out) × (n ≤ count) × Puts out₀ next₀ (spacedNumbers (roundsTo marks (x .0) n)) out next
+    (4608 ≤ length out) × (n ≤ count) × PutsText out₀ next₀ (spacedNumbers (roundsTo marks (x .0) n)) out next
 
 abbrev μ-loop : tie.MeasureT-loop
 μ-loop marks x at out₀ word first next₀ count n₀ out next n = count - n

@@ -7,7 +7,7 @@ use lib.ListN.{length}
 use borrow.Author.Needs.{needs}
 use Rattle.notation.specs.Lists.{upTo, each}
 use Rattle.writing.specs.Laws.WritingLaws.{appends-length}
-use Rattle.printing.specs.Laws.LineLaws.{Puts, puts-enough}
+use Rattle.printing.specs.Laws.LineLaws.{PutsText, puts-enough}
 use Rattle.failing_lines.specs.Code.LineParts.{jobLine}
 use Rattle.failing_lines.specs.Laws.FailingLines.{texts-none, texts-more, texts-put}
 use Rattle.failing_lines.proofs.put_jobs_rounds.Statement.{statement}
@@ -15,7 +15,7 @@ use Rattle.failing_lines.proofs.put_jobs_rounds.Tie as tie
 
 abbrev Inv-loop : tie.InvT-loop
 Inv-loop marks k at out₀ next₀ x₀ out next x =
-    (4608 ≤ length out) × (x ≤ k) × Puts out₀ next₀ (each (upTo x) (jobLine marks)) out next
+    (4608 ≤ length out) × (x ≤ k) × PutsText out₀ next₀ (each (upTo x) (jobLine marks)) out next
 
 abbrev μ-loop : tie.MeasureT-loop
 μ-loop marks k at out₀ next₀ x₀ out next x = k - x

@@ -7,14 +7,14 @@ use lib.ListN.{length, take}
 use borrow.Author.Needs.{needs}
 use Rattle.writing.specs.Laws.WritingLaws.{appends-length}
 use Rattle.sheets.specs.Texts.{orderWord}
-use Rattle.printing.specs.Laws.LineLaws.{Puts, puts-enough}
+use Rattle.printing.specs.Laws.LineLaws.{PutsText, puts-enough}
 use Rattle.failing_lines.specs.Laws.FailingLines.{spacedNumbers, spaced-none, orders-more, order-put}
 use Rattle.failing_lines.proofs.put_order.Statement.{statement}
 use Rattle.failing_lines.proofs.put_order.Tie as tie
 
 abbrev Inv-loop : tie.InvT-loop
 Inv-loop order at out₀ next₀ k₀ out next k =
-    (4608 ≤ length out) × (k ≤ length order) × Puts out₀ next₀ (spacedNumbers (take k order)) out next
+    (4608 ≤ length out) × (k ≤ length order) × PutsText out₀ next₀ (spacedNumbers (take k order)) out next
 
 abbrev μ-loop : tie.MeasureT-loop
 μ-loop order at out₀ next₀ k₀ out next k = length order - k

@@ -18,7 +18,7 @@ use Rattle.marks.specs.Code.Marks.{stepMarked, stepCount, stepsMarked, roundsIn
 use Rattle.writing.specs.Laws.WritingLaws.{appends-none, appends-more}
 use Rattle.sheets.specs.Sheets.{orderLine}
 use Rattle.sheets.specs.Texts.{Text, decimal, line, jobWord, orderWord, failedWord, roundsWord}
-use Rattle.printing.specs.Laws.LineLaws.{Puts, puts-same, spaced-each}
+use Rattle.printing.specs.Laws.LineLaws.{PutsText, puts-same, spaced-each}
 use Rattle.failing_lines.specs.Code.LineParts.{failedPart, jobLine}
 
 -- numbers, with a space before each
@@ -40,20 +40,20 @@ numbers-snoc ns n =
     sym (each-append (λ k. 32 ∷ decimal k) ns (n ∷ []) ∙ ap (λ (l : Text). spacedNumbers ns ++ l) (append-nil (32 ∷ decimal n)))
 
 -- nothing is written yet
-pub spaced-none : (before : List ℕ) (at : ℕ) → Puts before at (spacedNumbers []) before at
+pub spaced-none : (before : List ℕ) (at : ℕ) → PutsText before at (spacedNumbers []) before at
 unfolding spacedNumbers each
 spaced-none before at = appends-none 4608 before at
 
 -- one number more
 numbers-more : {before : List ℕ} {at : ℕ} (ns : List ℕ) {mid : List ℕ} {m : ℕ} (n : ℕ) {after : List ℕ} {k : ℕ}
-    → 4608 ≤ length before → Puts before at (spacedNumbers ns) mid m → Puts mid m (32 ∷ decimal n) after k
-    → Puts before at (spacedNumbers (ns ++ (n ∷ []))) after k
+    → 4608 ≤ length before → PutsText before at (spacedNumbers ns) mid m → PutsText mid m (32 ∷ decimal n) after k
+    → PutsText before at (spacedNumbers (ns ++ (n ∷ []))) after k
 numbers-more ns n enough first second = puts-same (numbers-snoc ns n) (appends-more enough first second)
 
 -- a line of numbers, from its three parts
 numbers-put : {before : List ℕ} {at : ℕ} (word : Text) (ns : List ℕ) {one : List ℕ} {l : ℕ} {two : List ℕ} {m : ℕ}
-    {after : List ℕ} {n : ℕ} → 4608 ≤ length before → Puts before at word one l → Puts one l (spacedNumbers ns) two m
-    → Puts two m (10 ∷ []) after n → Puts before at (line word (map decimal ns)) after n
+    {after : List ℕ} {n : ℕ} → 4608 ≤ length before → PutsText before at word one l → PutsText one l (spacedNumbers ns) two m
+    → PutsText two m (10 ∷ []) after n → PutsText before at (line word (map decimal ns)) after n
 numbers-put word ns enough first second third =
     puts-same (numbers-line word ns) (appends-more enough (appends-more enough first second) third)
 
@@ -61,17 +61,17 @@ numbers-put word ns enough first second third =
 
 module _ (order : List ℕ) where
   pub orders-more : {before : List ℕ} {at : ℕ} (k : ℕ) {mid : List ℕ} {m : ℕ} {after : List ℕ} {n : ℕ}
-      → 4608 ≤ length before → k < length order → Puts before at (spacedNumbers (take k order)) mid m
-      → Puts mid m (32 ∷ decimal (getD order k 0)) after n → Puts before at (spacedNumbers (take (k + 1) order)) after n
+      → 4608 ≤ length before → k < length order → PutsText before at (spacedNumbers (take k order)) mid m
+      → PutsText mid m (32 ∷ decimal (getD order k 0)) after n → PutsText before at (spacedNumbers (take (k + 1) order)) after n
   orders-more k enough lt first second =
       let more : take k order ++ (getD order k 0 ∷ []) ≡ take (k + 1) order =
       sym (take-suc order k 0 lt) ∙ ap (λ (j : ℕ). take j order) (sym (add-one k)) in
       puts-same (ap spacedNumbers more) (numbers-more (take k order) (getD order k 0) enough first second)
 
 pub order-put : {before : List ℕ} {at : ℕ} (order : List ℕ) (k : ℕ) {one : List ℕ} {l : ℕ} {two : List ℕ} {m : ℕ}
-    {after : List ℕ} {n : ℕ} → 4608 ≤ length before → length order ≤ k → Puts before at orderWord one l
-    → Puts one l (spacedNumbers (take k order)) two m → Puts two m (10 ∷ []) after n
-    → Puts before at (orderLine order) after n
+    {after : List ℕ} {n : ℕ} → 4608 ≤ length before → length order ≤ k → PutsText before at orderWord one l
+    → PutsText one l (spacedNumbers (take k order)) two m → PutsText two m (10 ∷ []) after n
+    → PutsText before at (orderLine order) after n
 unfolding orderLine
 order-put order k enough all first second third =
     numbers-put orderWord order enough first (puts-same (ap spacedNumbers (take-all k order all)) second) third
@@ -80,12 +80,12 @@ order-put order k enough all first second third =
 
 -- a job's part is written where its flag is set, and nothing where it is not
 pub failed-set : {flag : Bool} (x : ℕ) {before : List ℕ} {at : ℕ} {after : List ℕ} {n : ℕ} → flag ≡ true
-    → Puts before at (32 ∷ decimal x) after n → Puts before at (failedPart flag x) after n
+    → PutsText before at (32 ∷ decimal x) after n → PutsText before at (failedPart flag x) after n
 unfolding failedPart
 failed-set x set puts = rw set puts
 
 pub failed-clear : {flag : Bool} (x : ℕ) {before : List ℕ} {at : ℕ} → flag ≡ false
-    → Puts before at (failedPart flag x) before at
+    → PutsText before at (failedPart flag x) before at
 unfolding failedPart
 failed-clear x {before} {at} clear = rw clear (appends-none 4608 before at)
 
@@ -117,21 +117,21 @@ module _ (failed : List Bool) where
       append-nil (spacedNumbers (failedTo failed x))
       ∙ ap spacedNumbers (sym (ap (only test) (upTo-snoc x) ∙ only-drops test (upTo x) x e))
 
-  pub failed-none : (before : List ℕ) (at : ℕ) → Puts before at (spacedNumbers (failedTo failed 0)) before at
+  pub failed-none : (before : List ℕ) (at : ℕ) → PutsText before at (spacedNumbers (failedTo failed 0)) before at
   unfolding failedTo upTo from only
   failed-none before at = spaced-none before at
 
   pub failed-more : {before : List ℕ} {at : ℕ} (x : ℕ) {mid : List ℕ} {m : ℕ} {after : List ℕ} {n : ℕ}
-      → 4608 ≤ length before → Puts before at (spacedNumbers (failedTo failed x)) mid m
-      → Puts mid m (failedPart (getD failed x false) x) after n
-      → Puts before at (spacedNumbers (failedTo failed (x + 1))) after n
+      → 4608 ≤ length before → PutsText before at (spacedNumbers (failedTo failed x)) mid m
+      → PutsText mid m (failedPart (getD failed x false) x) after n
+      → PutsText before at (spacedNumbers (failedTo failed (x + 1))) after n
   failed-more x enough first second =
       puts-same (failed-next x (getD failed x false) refl) (appends-more enough first second)
 
   pub failed-put : {before : List ℕ} {at : ℕ} (k x : ℕ) {one : List ℕ} {l : ℕ} {two : List ℕ} {m : ℕ}
-      {after : List ℕ} {n : ℕ} → 4608 ≤ length before → x ≤ k → k ≤ x → Puts before at failedWord one l
-      → Puts one l (spacedNumbers (failedTo failed x)) two m → Puts two m (10 ∷ []) after n
-      → Puts before at (line failedWord (map decimal (only (λ j. getD failed j false) (upTo k)))) after n
+      {after : List ℕ} {n : ℕ} → 4608 ≤ length before → x ≤ k → k ≤ x → PutsText before at failedWord one l
+      → PutsText one l (spacedNumbers (failedTo failed x)) two m → PutsText two m (10 ∷ []) after n
+      → PutsText before at (line failedWord (map decimal (only (λ j. getD failed j false) (upTo k)))) after n
   unfolding failedTo
   failed-put k x enough le ge first second third =
       let same : x ≡ k = omega arith in
@@ -145,18 +145,18 @@ unfoldable pub roundsTo : List ℕ → ℕ → ℕ → List ℕ
 roundsTo marks x n = map (λ j. stepMarked marks x j .round .0) (upTo n)
 
 module _ (marks : List ℕ) (x : ℕ) where
-  pub job-rounds-none : (before : List ℕ) (at : ℕ) → Puts before at (spacedNumbers (roundsTo marks x 0)) before at
+  pub job-rounds-none : (before : List ℕ) (at : ℕ) → PutsText before at (spacedNumbers (roundsTo marks x 0)) before at
   unfolding roundsTo upTo from
   job-rounds-none before at = spaced-none before at
 
   pub job-rounds-more : {before : List ℕ} {at : ℕ} (n : ℕ) {mid : List ℕ} {m : ℕ} {after : List ℕ} {k : ℕ} {r : Round}
-      → 4608 ≤ length before → r ≡ stepMarked marks x n .round → Puts before at (spacedNumbers (roundsTo marks x n)) mid m
-      → Puts mid m (32 ∷ decimal (r .0)) after k → Puts before at (spacedNumbers (roundsTo marks x (n + 1))) after k
+      → 4608 ≤ length before → r ≡ stepMarked marks x n .round → PutsText before at (spacedNumbers (roundsTo marks x n)) mid m
+      → PutsText mid m (32 ∷ decimal (r .0)) after k → PutsText before at (spacedNumbers (roundsTo marks x (n + 1))) after k
   unfolding roundsTo
   job-rounds-more n {mid} {m} {after} {k} enough round first second =
       puts-same (ap spacedNumbers (sym (values-snoc (λ j. stepMarked marks x j .round .0) n)))
       (numbers-more (roundsTo marks x n) (stepMarked marks x n .round .0) enough first
-      (subst (λ (q : Round). Puts mid m (32 ∷ decimal (q .0)) after k) round second))
+      (subst (λ (q : Round). PutsText mid m (32 ∷ decimal (q .0)) after k) round second))
 
   words-are : map (λ r. decimal (r .0)) (roundsIn marks x) ≡ map decimal (roundsTo marks x (stepCount marks x))
   unfolding roundsIn stepsMarked roundsTo
@@ -181,10 +181,10 @@ module _ (marks : List ℕ) (x : ℕ) where
 
   pub job-rounds-put : {before : List ℕ} {at : ℕ} (count n : ℕ) {one : List ℕ} {l : ℕ} {two : List ℕ} {m : ℕ}
       {three : List ℕ} {p : ℕ} {four : List ℕ} {q : ℕ} {after : List ℕ} {k : ℕ} → 4608 ≤ length before
-      → count ≡ stepCount marks x → n ≤ count → count ≤ n → Puts before at jobWord one l
-      → Puts one l (32 ∷ decimal x) two m → Puts two m (32 ∷ roundsWord) three p
-      → Puts three p (spacedNumbers (roundsTo marks x n)) four q → Puts four q (10 ∷ []) after k
-      → Puts before at (jobLine marks x) after k
+      → count ≡ stepCount marks x → n ≤ count → count ≤ n → PutsText before at jobWord one l
+      → PutsText one l (32 ∷ decimal x) two m → PutsText two m (32 ∷ roundsWord) three p
+      → PutsText three p (spacedNumbers (roundsTo marks x n)) four q → PutsText four q (10 ∷ []) after k
+      → PutsText before at (jobLine marks x) after k
   job-rounds-put count n enough counted le ge first second third fourth fifth =
       let same : n ≡ stepCount marks x = omega (arith, counted) in
       puts-same job-line-is
@@ -195,18 +195,18 @@ module _ (marks : List ℕ) (x : ℕ) where
 -- ---- part after part
 
 module _ (part : ℕ → Text) where
-  pub texts-none : (before : List ℕ) (at : ℕ) → Puts before at (each (upTo 0) part) before at
+  pub texts-none : (before : List ℕ) (at : ℕ) → PutsText before at (each (upTo 0) part) before at
   unfolding upTo from each
   texts-none before at = appends-none 4608 before at
 
   pub texts-more : {before : List ℕ} {at : ℕ} (x : ℕ) {mid : List ℕ} {m : ℕ} {after : List ℕ} {n : ℕ}
-      → 4608 ≤ length before → Puts before at (each (upTo x) part) mid m → Puts mid m (part x) after n
-      → Puts before at (each (upTo (x + 1)) part) after n
+      → 4608 ≤ length before → PutsText before at (each (upTo x) part) mid m → PutsText mid m (part x) after n
+      → PutsText before at (each (upTo (x + 1)) part) after n
   texts-more x enough first second =
       puts-same (sym (each-snoc x part) ∙ ap (λ (k : ℕ). each (upTo k) part) (sym (add-one x)))
       (appends-more enough first second)
 
   pub texts-put : {before : List ℕ} {at : ℕ} (k x : ℕ) {after : List ℕ} {n : ℕ} → x ≤ k → k ≤ x
-      → Puts before at (each (upTo x) part) after n → Puts before at (each (upTo k) part) after n
+      → PutsText before at (each (upTo x) part) after n → PutsText before at (each (upTo k) part) after n
   texts-put k x le ge puts =
       let same : x ≡ k = omega arith in puts-same (ap (λ (j : ℕ). each (upTo j) part) same) puts

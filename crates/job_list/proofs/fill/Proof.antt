@@ -55,8 +55,8 @@ use Rattle.timing.proofs.ListAnswer as Answer
 use Rattle.timing.proofs.JobRecord as J
 use Rattle.timing.proofs.JobRecord.Laws as J′
 use Rattle.job_list.specs.declared.Listed.{Listed}
-use Rattle.job_list.specs.Filled.{recordOf, filled}
-use Rattle.job_list.specs.Laws.FilledLaws.{filled-length, filled-none, filled-next}
+use Rattle.job_list.specs.Filled.{jobRecordOf, listFilled}
+use Rattle.job_list.specs.Laws.FilledLaws.{filled-length, listFilled-none, filled-next}
 use Rattle.job_list.proofs.Listed as L
 use Rattle.job_list.proofs.Listed.Laws as L′
 use Rattle.job_list.proofs.record_of as record-of
@@ -105,8 +105,8 @@ module _ {M : Type 1} (𝓤 : URA M) (H : Heap 𝓤) (A : Atoms 𝓤) (at-mem : 
   abbrev RecordOf : Contract 𝓤
   RecordOf = tripleOf 𝓤 H A record-of.signature (record-of.spec 𝓤 H A at-mem run)
 
-  got-of : (x : Listed) (i : ℕ) (r : JobRecord) → ent 𝓤 (ensured 𝓤 H A record-of.ended (record-of.clauses 𝓤 H A at-mem run) tt (x, (i, tt)) tt r) (fact 𝓤 (r ≡ recordOf x i))
-  got-of x i r = exE 𝓤 _ (λ ws. snd∗ 𝓤 (sem 𝓤 H A (lasts record-of.ended tt (x, (i, tt)) ws)) (fact 𝓤 (r ≡ recordOf x i)))
+  got-of : (x : Listed) (i : ℕ) (r : JobRecord) → ent 𝓤 (ensured 𝓤 H A record-of.ended (record-of.clauses 𝓤 H A at-mem run) tt (x, (i, tt)) tt r) (fact 𝓤 (r ≡ jobRecordOf x i))
+  got-of x i r = exE 𝓤 _ (λ ws. snd∗ 𝓤 (sem 𝓤 H A (lasts record-of.ended tt (x, (i, tt)) ws)) (fact 𝓤 (r ≡ jobRecordOf x i)))
 
 module _ {M : Type 1} (𝓤 : URA M) (H : Heap 𝓤) (A : Atoms 𝓤) (W : Given 𝓤 H A) (at-mem : Memory → SProp 𝓤) (run : Routine → Fun 𝓤) (κ : Lft) (q : Share) (b o : ℕ) (γ : GName) (ys : List JobRecord) (x : Listed) (w : Val) (is-x : Is L.the-row x (w ∷ [])) (c : ℕ) (c-fits : c < 2 ^ 64) (gn : Room J.the-row (length ys)) where
   abbrev n : ℕ
@@ -119,7 +119,7 @@ module _ {M : Type 1} (𝓤 : URA M) (H : Heap 𝓤) (A : Atoms 𝓤) (W : Given
   a = (record { ptr = (b, o); name = γ; now = ys }, (x, (c, tt)))
 
   abbrev zs : List JobRecord
-  zs = filled x c ys
+  zs = listFilled x c ys
 
   abbrev y : RefT (List JobRecord)
   y = record { ptr = (b, o); name = γ; now = zs }
@@ -169,7 +169,7 @@ module _ {M : Type 1} (𝓤 : URA M) (H : Heap 𝓤) (A : Atoms 𝓤) (W : Given
 
     -- i records are stored
     abbrev At : ℕ → List (Item 𝓤)
-    At i = ‵ (row R fullShare (filled x i ys) b o) ∷ ‵ (fat fullShare word l₄ 0 (vint w64 i)) ∷ ‵ (froom tyBool l₅ 0) ∷ ‵ (froom recordTy l₆ 0) ∷ ‵ (froom word l₇ 0) ∷ ‵ (froom tyPtr l₈ 0) ∷ Frame
+    At i = ‵ (row R fullShare (listFilled x i ys) b o) ∷ ‵ (fat fullShare word l₄ 0 (vint w64 i)) ∷ ‵ (froom tyBool l₅ 0) ∷ ‵ (froom recordTy l₆ 0) ∷ ‵ (froom word l₇ 0) ∷ ‵ (froom tyPtr l₈ 0) ∷ Frame
 
     -- the invariant, where t records are left
     abbrev Inv : ℕ → SProp 𝓤
@@ -199,7 +199,7 @@ module _ {M : Type 1} (𝓤 : URA M) (H : Heap 𝓤) (A : Atoms 𝓤) (W : Given
 
     -- the machine value that lies at a place
     abbrev was : ℕ → Val
-    was i = LL.val J.the-type J′.the-laws (getD (filled x i ys) i noJob)
+    was i = LL.val J.the-type J′.the-laws (getD (listFilled x i ys) i noJob)
 
     -- a turn that stores one record
     more : (i : ℕ) (X : SProp 𝓤) → i < c → ent 𝓤 (⋆ 𝓤 H A (At (suc i))) X → ent 𝓤 (⋆ 𝓤 H A (At i)) (Wp 𝓤 H C Λ En piece.turn-1 (afterTurn 𝓤 H X Left))
@@ -213,18 +213,18 @@ module _ {M : Type 1} (𝓤 : URA M) (H : Heap 𝓤) (A : Atoms 𝓤) (W : Given
         owned ! L.the-row (Is L.the-row) ((LL.makes L.the-type L′.the-plain) 𝓤 H A) x (w ∷ []) is-x $ use1 W (raw (RecordOf 𝓤 H A at-mem run .pre (to-record-of i))) (goes i i-fits i-few) $
         calls-at ! fm (RecordOf 𝓤 H A at-mem run) known (to-record-of i) (and-then ! (load ! (from ! (stop !)) (look ! 8 refl)) (and-then ! (load ! (from ! (stop !)) (look ! 2 refl)) (no-more !))) (λ v.
         use1 W (later (some (λ (r : JobRecord). (‵ ftrue ⊛ ‵ (R .own r (v ∷ []))) ⊛ raw (ensured 𝓤 H A record-of.ended (record-of.clauses 𝓤 H A at-mem run) tt (x, (i, tt)) tt r)))) (id⊢ 𝓤 _) $ await ! tt $ pick ! (λ r.
-        split ! $ move ! (1 ∷ []) $ use1 W (raw (fact 𝓤 (r ≡ recordOf x i))) (got-of 𝓤 H A at-mem run x i r) $ heard ! (r ≡ recordOf x i) (λ e. split ! $ drop ! $
+        split ! $ move ! (1 ∷ []) $ use1 W (raw (fact 𝓤 (r ≡ jobRecordOf x i))) (got-of 𝓤 H A at-mem run x i r) $ heard ! (r ≡ jobRecordOf x i) (λ e. split ! $ drop ! $
         peeks ! R (Is R) (shows 𝓤 H A R) r (v ∷ []) (λ is. land ! (from ! (stop !)) (init ! 4 refl (LL.lawful J.the-type J′.the-laws 𝓤 H A W .typed r _ is .0)) $
         -- [what the record owns; the row; _4; _5; _6; _7; _8; _1; _2; _3; ..]: the place is computed
         assigns ! (bin ! (load ! (from ! (stop !)) (look ! 2 refl)) (lit ! tt) (record { fits = place-fits })) (from ! (stop !)) (init ! 5 refl (tt, record { fits = place-fits })) $
         assigns ! (bin ! (load ! (from ! (fld ! refl (stop !))) (look-in ! 7 (sub ! 0 refl (whole !)))) (load ! (from ! (stop !)) (look ! 5 refl)) tt) (from ! (stop !)) (init ! 6 refl (tt, tt)) $
         rewrite ! 6 (λ (p : ℕ). ‵ (fat fullShare tyPtr l₈ 0 (vptr b p))) (sym (place-is 24 o i)) refl $
         -- the element is taken out of the row, stored to, and put back
-        move ! (1 ∷ []) $ elem-out ! R (Is R) (shows 𝓤 H A R) (LL.vals J.the-type J′.the-laws) (LL.tells J.the-type J′.the-laws) fullShare (filled x i ys) i noJob b o in-row (λ _.
+        move ! (1 ∷ []) $ elem-out ! R (Is R) (shows 𝓤 H A R) (LL.vals J.the-type J′.the-laws) (LL.tells J.the-type J′.the-laws) fullShare (listFilled x i ys) i noJob b o in-row (λ _.
         use1 W (‵ (fat fullShare recordTy b (place 24 o i) (was i))) (W .laws .raw-at fullShare recordTy b (place 24 o i) (was i)) $
         assigns ! (of-opd ! (load ! (from ! (stop !)) (look ! 6 refl))) (from ! (hop ! (look ! 8 refl) (stop !))) (store ! 0 refl (LL.lawful J.the-type J′.the-laws 𝓤 H A W .typed r _ is .0)) $
         use1 W (‵ (cellAt fullShare (R .mir) (v ∷ []) b (place 24 o i))) (W .laws .at-raw fullShare recordTy b (place 24 o i) v) $
-        move ! (1 ∷ []) $ drop ! $ move ! (0 ∷ 2 ∷ []) $ elem-put ! R fullShare (filled x i ys) i r (v ∷ []) b o in-row $
+        move ! (1 ∷ []) $ drop ! $ move ! (0 ∷ 2 ∷ []) $ elem-put ! R fullShare (listFilled x i ys) i r (v ∷ []) b o in-row $
         assigns-last ! (bin ! (load ! (from ! (stop !)) (look ! 1 refl)) (lit ! tt) (record { fits = next-fits })) (from ! (stop !)) (store ! 1 refl (tt, record { fits = next-fits })) $
         forget ! 2 refl $ forget ! 3 refl $ forget ! 4 refl $ forget ! 5 refl $
         rewrite ! 1 (λ (j : ℕ). ‵ (fat fullShare word l₄ 0 (vint w64 j))) (one-more i) refl $ rewrite ! 0 (λ (us : List JobRecord). ‵ (row R fullShare us b o)) (filled-next x i ys e) refl $ by ! k)))))
@@ -241,7 +241,7 @@ module _ {M : Type 1} (𝓤 : URA M) (H : Heap 𝓤) (A : Atoms 𝓤) (W : Given
         place-fits : i * 24 < 2 ^ 64
         place-fits = lt-of-lt-of-le (let z : i * 24 < 768 = omega (arith, i-few) in z) (lit≤ tt)
 
-        in-row : i < length (filled x i ys)
+        in-row : i < length (listFilled x i ys)
         in-row = subst (λ (m : ℕ). i < m) (sym (filled-length x i ys)) (lt-of-lt-of-le small within)
 
     below : (t i : ℕ) → suc i + t ≡ c → ent 𝓤 (⋆ 𝓤 H A (At (suc i))) (Below (suc t))
@@ -273,7 +273,7 @@ module _ {M : Type 1} (𝓤 : URA M) (H : Heap 𝓤) (A : Atoms 𝓤) (W : Given
     starts =
         assigns ! (of-opd ! (lit ! tt)) (from ! (stop !)) (init ! 8 refl (tt, record { fits = lit< tt })) $
         move ! (19 ∷ []) $ fsplit ! $ move ! (1 ∷ []) $ drop ! $ fsplit ! $ drop ! $ fsplit ! $ move ! (20 ∷ []) $ split ! $ move ! (2 ∷ 3 ∷ 0 ∷ []) $
-        opens-slice ! tt R ys b o $ rewrite ! 0 (λ (us : List JobRecord). ‵ (row R fullShare us b o)) (filled-none x ys) refl $
+        opens-slice ! tt R ys b o $ rewrite ! 0 (λ (us : List JobRecord). ‵ (row R fullShare us b o)) (listFilled-none x ys) refl $
         keep ! (0 ∷ 13 ∷ 11 ∷ 9 ∷ 7 ∷ 5 ∷ 19 ∷ 17 ∷ 15 ∷ 21 ∷ 1 ∷ 2 ∷ 3 ∷ 22 ∷ 20 ∷ 18 ∷ 16 ∷ 14 ∷ 12 ∷ 10 ∷ 8 ∷ 6 ∷ []) $ by ! loops
 
   walk : (𝓣 : Tables 𝓤 H) → FmC 𝓤 H (W .laws) (𝓣 .C) → Triple 𝓤 (𝓣 .C #job-list·record-of) (RecordOf 𝓤 H A at-mem run) → (c ≤ 32) × (c ≤ length ys)

@@ -48,7 +48,7 @@ use Rattle.timing.proofs.JobRecord as J
 use Rattle.timing.proofs.ListAnswer as Answer
 use Rattle.timing.proofs.ListAnswer.Laws as Answer′
 use Rattle.job_list.specs.declared.Listed.{Listed}
-use Rattle.job_list.specs.Filled.{filled, ListedAs}
+use Rattle.job_list.specs.Filled.{listFilled, ListedAs}
 use Rattle.job_list.proofs.Listed as L
 use Rattle.job_list.proofs.Listed.Laws as L′
 use Rattle.job_list.proofs.jobs_for as jobs-for
@@ -210,8 +210,8 @@ module _ {M : Type 1} (𝓤 : URA M) (H : Heap 𝓤) (A : Atoms 𝓤) (W : Given
           use2 W (raw (Fill 𝓤 H A at-mem run .pre (to-fill x w is-x m))) (goes-fill x w is-x m m-fits (subst (λ (k : ℕ). k ≤ 32) (sym e) (found .most)) (subst (λ (k : ℕ). k ≤ n) (sym e) (found .within))) $
           calls-at ! fm (Fill 𝓤 H A at-mem run) known-fill (to-fill x w is-x m) (and-then ! (load ! (from ! (stop !)) (look ! 3 refl)) (and-then ! (load ! (from ! (stop !)) (look ! 11 refl)) (and-then ! (load ! (from ! (stop !)) (look ! 9 refl)) (no-more !)))) (λ v.
           use1 W (later (some (λ (r : Unit {0}). ((‵ (flft κ′ q′) ⊛ ‵ ftrue) ⊛ ‵ (unit .own r (v ∷ []))) ⊛ raw (ensured 𝓤 H A fill.ended (fill.clauses 𝓤 H A at-mem run) (κ′, tt) (list, (x, (m, tt))) tt r)))) (id⊢ 𝓤 _) $ await ! tt $ pick ! (λ r.
-          split ! $ move ! (1 ∷ []) $ use1 W (some (λ (zs : List JobRecord × (Unit {0} × (Unit {0} × Unit {0}))). ‵ (lasts fill.ended (κ′, tt) (list, (x, (m, tt))) zs) ⊛ raw (fact 𝓤 (zs .0 ≡ filled x m ys)))) (id⊢ 𝓤 _) $ pick ! (λ zs.
-          split ! $ move ! (1 ∷ []) $ heard ! (zs .0 ≡ filled x m ys) (λ e₂. fsplit ! $ fsplit ! $ move ! (1 ∷ []) $ feqL ! (λ long.
+          split ! $ move ! (1 ∷ []) $ use1 W (some (λ (zs : List JobRecord × (Unit {0} × (Unit {0} × Unit {0}))). ‵ (lasts fill.ended (κ′, tt) (list, (x, (m, tt))) zs) ⊛ raw (fact 𝓤 (zs .0 ≡ listFilled x m ys)))) (id⊢ 𝓤 _) $ pick ! (λ zs.
+          split ! $ move ! (1 ∷ []) $ heard ! (zs .0 ≡ listFilled x m ys) (λ e₂. fsplit ! $ fsplit ! $ move ! (1 ∷ []) $ feqL ! (λ long.
           -- [the last list; …; the tokens and the result; the file's token; the file; _7; ..]
           move ! (2 ∷ []) $ split ! $ move ! (1 ∷ []) $ feqL ! (λ is. split ! $ keep ! (0 ∷ 2 ∷ 4 ∷ 5 ∷ 6 ∷ 7 ∷ 8 ∷ 9 ∷ 10 ∷ 11 ∷ 12 ∷ 13 ∷ 14 ∷ 15 ∷ 16 ∷ 17 ∷ 18 ∷ 19 ∷ 20 ∷ 21 ∷ []) $
           land ! (from ! (stop !)) (init ! 8 refl (subst (λ (u : Val). T (hasTy tyUnit u) × WT u) (sym (ap only is)) (tt, tt))) $
@@ -225,7 +225,7 @@ module _ {M : Type 1} (𝓤 : URA M) (H : Heap 𝓤) (A : Atoms 𝓤) (W : Given
           returns ! (look ! 19 refl) $ forget ! 5 refl $ forget ! 7 refl $ forget ! 9 refl $ forget ! 11 refl $ forget ! 13 refl $ forget ! 15 refl $ forget ! 17 refl $ forget ! 19 refl $
           move ! (19 ∷ 20 ∷ []) $ free1 ! $ move ! (17 ∷ 18 ∷ []) $ free1 ! $ move ! (15 ∷ 16 ∷ []) $ free1 ! $ move ! (13 ∷ 14 ∷ []) $ free1 ! $
           move ! (11 ∷ 12 ∷ []) $ free1 ! $ move ! (9 ∷ 10 ∷ []) $ free1 ! $ move ! (7 ∷ 8 ∷ []) $ free1 ! $ move ! (5 ∷ 6 ∷ []) $ free1 ! $ free0 ! $
-          by ! (exits v′ r′ (zs .0) long (e₃ ∙ found .answer ys refl) (e₂ ∙ ap (λ (k : ℕ). filled x k ys) e ∙ found .after ys refl))))))))))))
+          by ! (exits v′ r′ (zs .0) long (e₃ ∙ found .answer ys refl) (e₂ ∙ ap (λ (k : ℕ). listFilled x k ys) e ∙ found .after ys refl))))))))))))
 
       -- up to `fill`
       starts : Sq W (‵ (froom (sliceTy lent) l₇ 0) ∷ ‵ (fdies (sliceTy lent) l₇) ∷ ‵ (froom lent l₆ 0) ∷ ‵ (fdies lent l₆) ∷ ‵ (froom tyUnit l₅ 0) ∷ ‵ (fdies tyUnit l₅)

@@ -1,4 +1,4 @@
--- Laws of the filled list: its length, its steps, and that it is the records before what was there.
+-- Laws of the listFilled list: its length, its steps, and that it is the records before what was there.
 -- Assumes nothing.
 use mathlib.Core.Path.{_≡_, refl, sym, ap, _∙_}
 use Prim.Native.Nat.{ℕ, zero, suc, _≤_, _<_}
@@ -10,32 +10,32 @@ use lib.Seq.{paste, paste-zero, paste-suc, take-length}
 use Rattle.timing.specs.declared.JobRecord.{JobRecord}
 use Rattle.timing.specs.Relations.{noJob}
 use Rattle.job_list.specs.declared.Listed.{Listed}
-use Rattle.job_list.specs.Filled.{recordOf, filled}
+use Rattle.job_list.specs.Filled.{jobRecordOf, listFilled}
 
-pub filled-length : (from : Listed) (n : ℕ) (list : List JobRecord) → length (filled from n list) ≡ length list
-unfolding filled
+pub filled-length : (from : Listed) (n : ℕ) (list : List JobRecord) → length (listFilled from n list) ≡ length list
+unfolding listFilled
 filled-length from zero list = refl
-filled-length from (suc n) list = length-set (filled from n list) n (recordOf from n) ∙ filled-length from n list
+filled-length from (suc n) list = length-set (listFilled from n list) n (jobRecordOf from n) ∙ filled-length from n list
 
 -- nothing is stored
-pub filled-none : (from : Listed) (list : List JobRecord) → list ≡ filled from 0 list
-unfolding filled
-filled-none from list = refl
+pub listFilled-none : (from : Listed) (list : List JobRecord) → list ≡ listFilled from 0 list
+unfolding listFilled
+listFilled-none from list = refl
 
 -- one record more is stored
-pub filled-next : (from : Listed) (n : ℕ) (list : List JobRecord) {r : JobRecord} → r ≡ recordOf from n
-    → set (filled from n list) n r ≡ filled from (suc n) list
-unfolding filled
-filled-next from n list e = ap (λ (r : JobRecord). set (filled from n list) n r) e
+pub filled-next : (from : Listed) (n : ℕ) (list : List JobRecord) {r : JobRecord} → r ≡ jobRecordOf from n
+    → set (listFilled from n list) n r ≡ listFilled from (suc n) list
+unfolding listFilled
+filled-next from n list e = ap (λ (r : JobRecord). set (listFilled from n list) n r) e
 
 -- the records are a list's
-abbrev pub Holds : Listed → List JobRecord → Type 0
-Holds from jobs = (i : ℕ) → i < length jobs → recordOf from i ≡ getD jobs i noJob
+abbrev pub HoldsRecords : Listed → List JobRecord → Type 0
+HoldsRecords from jobs = (i : ℕ) → i < length jobs → jobRecordOf from i ≡ getD jobs i noJob
 
 -- the first n of that list stand before what was there
-filled-part : (from : Listed) (jobs list : List JobRecord) → Holds from jobs → length jobs ≤ length list
-    → (n : ℕ) → n ≤ length jobs → filled from n list ≡ paste list 0 jobs n
-unfolding filled
+filled-part : (from : Listed) (jobs list : List JobRecord) → HoldsRecords from jobs → length jobs ≤ length list
+    → (n : ℕ) → n ≤ length jobs → listFilled from n list ≡ paste list 0 jobs n
+unfolding listFilled
 filled-part from jobs list held room zero le = paste-zero list 0 jobs
 filled-part from jobs list held room (suc n) le =
     let small : n < length jobs = omega (arith, le) in
@@ -45,8 +45,8 @@ filled-part from jobs list held room (suc n) le =
     ∙ paste-suc list 0 jobs n noJob (omega (arith, small, room)) small
 
 -- the whole of it
-pub filled-whole : (from : Listed) (jobs list : List JobRecord) → Holds from jobs → length jobs ≤ length list
-    → filled from (length jobs) list ≡ jobs ++ drop (length jobs) list
+pub filled-whole : (from : Listed) (jobs list : List JobRecord) → HoldsRecords from jobs → length jobs ≤ length list
+    → listFilled from (length jobs) list ≡ jobs ++ drop (length jobs) list
 filled-whole from jobs list held room =
     filled-part from jobs list held room (length jobs) (omega arith)
     ∙ (λ i. take-length jobs i ++ drop (zero-add (length jobs) i) list)

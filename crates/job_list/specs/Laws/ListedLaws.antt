@@ -25,8 +25,8 @@ use Rattle.timing.specs.Laws.JobFacts.{jobs-few}
 use Rattle.timing.specs.ReadEntries.{listed, listAnswer, listAnswerOf, listAfter, listAfterOf}
 use Rattle.timing.specs.Relations.{noJob}
 use Rattle.job_list.specs.declared.Listed.{Listed}
-use Rattle.job_list.specs.Filled.{filled, ListedAs}
-use Rattle.job_list.specs.Laws.FilledLaws.{Holds, filled-none, filled-whole}
+use Rattle.job_list.specs.Filled.{listFilled, ListedAs}
+use Rattle.job_list.specs.Laws.FilledLaws.{HoldsRecords, listFilled-none, filled-whole}
 
 -- every list with this room is answered so
 abbrev Decided : File → ℕ → Checked ℕ (List JobRecord) → Type 0
@@ -47,7 +47,7 @@ refused-as {x} decided e =
     record {
       answer = λ list long. e ∙ sym (ap listAnswerOf (decided list long));
       after = λ list long.
-          ap (λ (n : ℕ). filled x n list) none ∙ sym (filled-none x list) ∙ after-decided _ decided list long;
+          ap (λ (n : ℕ). listFilled x n list) none ∙ sym (listFilled-none x list) ∙ after-decided _ decided list long;
       most = omega (arith, none);
       within = omega (arith, none);
     }
@@ -59,12 +59,12 @@ passed-as : {x : Listed} {f : File} {room : ℕ} (jobs : List JobRecord) → Dec
 unfolding listAnswer listAnswerOf listAfterOf
 passed-as {x} jobs decided e array few room =
     let count : x .answer .jobs ≡ length jobs = ap (λ (y : ListAnswer). y .jobs) e in
-    let held : Holds x jobs = λ i small.
+    let held : HoldsRecords x jobs = λ i small.
     ap (λ (l : List JobRecord). getD l i noJob) array ∙ padded-at mostJobs noJob jobs i (omega (arith, small, few)) in
     record {
       answer = λ list long. e ∙ sym (ap listAnswerOf (decided list long));
       after = λ list long.
-          ap (λ (n : ℕ). filled x n list) count
+          ap (λ (n : ℕ). listFilled x n list) count
           ∙ filled-whole x jobs list held (omega (arith, few, room, long)) ∙ after-decided _ decided list long;
       most = omega (arith, count, few);
       within = omega (arith, count, few, room);

@@ -14,16 +14,16 @@ use Rattle.sheets.specs.Texts.{Text, digit, decimal, spaced, line}
 use Rattle.sheets.specs.Laws.DecimalLaws.{decimal-digit, decimal-more}
 
 -- what was written from a place on, into a text with room for a sheet
-abbrev pub Puts : Text → ℕ → Text → Text → ℕ → Type 0
-Puts before at bytes after n = Appends 4608 before at bytes after n
+abbrev pub PutsText : Text → ℕ → Text → Text → ℕ → Type 0
+PutsText before at bytes after n = Appends 4608 before at bytes after n
 
 pub puts-same : {before : Text} {at : ℕ} {bytes other after : Text} {n : ℕ} → bytes ≡ other
-    → Puts before at bytes after n → Puts before at other after n
-puts-same {before} {at} {bytes} {other} {after} {n} e puts = subst (λ (l : Text). Puts before at l after n) e puts
+    → PutsText before at bytes after n → PutsText before at other after n
+puts-same {before} {at} {bytes} {other} {after} {n} e puts = subst (λ (l : Text). PutsText before at l after n) e puts
 
 -- the text still has room for a sheet
 pub puts-enough : {before : Text} {at : ℕ} {bytes after : Text} {n : ℕ} → 4608 ≤ length before
-    → Puts before at bytes after n → 4608 ≤ length after
+    → PutsText before at bytes after n → 4608 ≤ length after
 puts-enough enough puts = omega (arith, appends-length puts enough)
 
 -- ---- words with a space between two of them
@@ -52,19 +52,19 @@ line-each word words =
 -- ---- a line that is being written
 
 -- the words of a line up to one of them were written, into a text with room for a sheet
-pub record Begun (before : Text) (at : ℕ) (word : Text) (words : List Text) (after : Text) (n : ℕ) : Type 0 where
+pub record LineBegun (before : Text) (at : ℕ) (word : Text) (words : List Text) (after : Text) (n : ℕ) : Type 0 where
   pub enough : 4608 ≤ length before
-  pub puts : Puts before at (spaced word words) after n
+  pub puts : PutsText before at (spaced word words) after n
 
 pub line-begun : {before : Text} {at : ℕ} {word after : Text} {n : ℕ} → 4608 ≤ length before
-    → Puts before at word after n → Begun before at word [] after n
+    → PutsText before at word after n → LineBegun before at word [] after n
 unfolding spaced
 line-begun enough puts = record { enough = enough; puts = puts }
 
 -- one word more
 pub line-more : {before : Text} {at : ℕ} {word : Text} {words : List Text} {mid : Text} {m : ℕ} {last after : Text}
-    {n : ℕ} → Begun before at word words mid m → Puts mid m (32 ∷ last) after n
-    → Begun before at word (words ++ (last ∷ [])) after n
+    {n : ℕ} → LineBegun before at word words mid m → PutsText mid m (32 ∷ last) after n
+    → LineBegun before at word (words ++ (last ∷ [])) after n
 line-more {word = word} {words} {last = last} begun puts = record {
   enough = begun .enough;
   puts = puts-same (spaced-snoc word words last) (appends-more (begun .enough) (begun .puts) puts);
@@ -72,12 +72,12 @@ line-more {word = word} {words} {last = last} begun puts = record {
 
 -- the text still has room for a sheet
 pub line-enough : {before : Text} {at : ℕ} {word : Text} {words : List Text} {after : Text} {n : ℕ}
-    → Begun before at word words after n → 4608 ≤ length after
+    → LineBegun before at word words after n → 4608 ≤ length after
 line-enough begun = puts-enough (begun .enough) (begun .puts)
 
 -- the newline
 pub line-ended : {before : Text} {at : ℕ} {word : Text} {words : List Text} {mid : Text} {m : ℕ} {after : Text} {n : ℕ}
-    → Begun before at word words mid m → Puts mid m (10 ∷ []) after n → Puts before at (line word words) after n
+    → LineBegun before at word words mid m → PutsText mid m (10 ∷ []) after n → PutsText before at (line word words) after n
 unfolding line
 line-ended begun puts = appends-more (begun .enough) (begun .puts) puts
 
@@ -86,14 +86,14 @@ line-ended begun puts = appends-more (begun .enough) (begun .puts) puts
 -- the first k bytes of a word were written
 pub record Worded (before : Text) (at : ℕ) (word : Text) (k : ℕ) (after : Text) (n : ℕ) : Type 0 where
   pub few : k ≤ length word
-  pub puts : Puts before at (take k word) after n
+  pub puts : PutsText before at (take k word) after n
 
 pub word-none : (before : Text) (at : ℕ) (word : Text) → Worded before at word 0 before at
 word-none before at word = record { few = omega arith; puts = appends-none 4608 before at }
 
 pub word-more : {before : Text} {at : ℕ} {word : Text} {k : ℕ} {mid : Text} {m : ℕ} {after : Text} {n : ℕ}
     → Worded before at word k mid m → 4608 ≤ length before → k < length word
-    → Puts mid m (getD word k 0 ∷ []) after n → Worded before at word (k + 1) after n
+    → PutsText mid m (getD word k 0 ∷ []) after n → Worded before at word (k + 1) after n
 word-more {word = word} {k} worded enough inside puts = record {
   few = omega arith;
   puts =
@@ -110,21 +110,21 @@ pub word-length : {before : Text} {at : ℕ} {word : Text} {k : ℕ} {after : Te
 word-length worded enough = appends-length (worded .puts) enough
 
 pub word-all : {before : Text} {at : ℕ} {word : Text} {k : ℕ} {after : Text} {n : ℕ}
-    → Worded before at word k after n → length word ≤ k → Puts before at word after n
+    → Worded before at word k after n → length word ≤ k → PutsText before at word after n
 word-all {word = word} {k} worded all = puts-same (take-all k word all) (worded .puts)
 
 -- ---- the digits of a number
 
 pub number-one : {before : Text} {at x d : ℕ} {after : Text} {n : ℕ} → x < 10 → d ≡ 48 + x % 10
-    → Puts before at (d ∷ []) after n → Puts before at (decimal x) after n
+    → PutsText before at (d ∷ []) after n → PutsText before at (decimal x) after n
 unfolding digit
 number-one {x = x} small is puts =
     let same : x % 10 ≡ x = omega arith in
     puts-same (ap (λ (y : ℕ). y ∷ []) (is ∙ ap (λ (y : ℕ). 48 + y) same) ∙ sym (decimal-digit x small)) puts
 
 pub number-more : {before : Text} {at x d : ℕ} {mid : Text} {m : ℕ} {after : Text} {n : ℕ} → 4608 ≤ length before
-    → 10 ≤ x → x < 2 ^ 64 → d ≡ 48 + x % 10 → Puts before at (decimal (x / 10)) mid m
-    → Puts mid m (d ∷ []) after n → Puts before at (decimal x) after n
+    → 10 ≤ x → x < 2 ^ 64 → d ≡ 48 + x % 10 → PutsText before at (decimal (x / 10)) mid m
+    → PutsText mid m (d ∷ []) after n → PutsText before at (decimal x) after n
 unfolding digit
 number-more {x = x} enough large fits is first second =
     puts-same (ap (λ (y : ℕ). decimal (x / 10) ++ (y ∷ [])) is ∙ sym (decimal-more x large fits))

@@ -8,7 +8,7 @@ use borrow.Author.Needs.{needs}
 use Rattle.notation.specs.Lists.{upTo, each}
 use Rattle.timing.specs.Laws.TimeableLaws.{period-read}
 use Rattle.writing.specs.Laws.WritingLaws.{appends-length}
-use Rattle.printing.specs.Laws.LineLaws.{Puts, puts-enough}
+use Rattle.printing.specs.Laws.LineLaws.{PutsText, puts-enough}
 use Rattle.failing_lines.specs.Laws.FailingLines.{texts-none, texts-more, texts-put}
 use Rattle.sheet_lines.specs.Code.SheetParts.{taskText}
 use Rattle.sheet_lines.specs.Laws.TaskLines.{task-put}
@@ -17,7 +17,7 @@ use Rattle.sheet_lines.proofs.put_tasks.Tie as tie
 
 abbrev Inv-loop : tie.InvT-loop
 Inv-loop at out₀ t responses next₀ i₀ out next i =
-    (4608 ≤ length out) × (i ≤ t .tasks) × Puts out₀ next₀ (each (upTo i) (taskText t responses)) out next
+    (4608 ≤ length out) × (i ≤ t .tasks) × PutsText out₀ next₀ (each (upTo i) (taskText t responses)) out next
 
 abbrev μ-loop : tie.MeasureT-loop
 μ-loop at out₀ t responses next₀ i₀ out next i = t .tasks - i

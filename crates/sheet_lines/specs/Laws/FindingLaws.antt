@@ -35,7 +35,7 @@ use Rattle.walk.specs.declared.WalkAnswer.{WalkAnswer}
 use Rattle.writing.specs.Laws.WritingLaws.{appends-more}
 use Rattle.sheets.specs.Sheets.{sheetAllowance, refusedLine, orderLine, failedLine, verdictLines, findings}
 use Rattle.sheets.specs.Texts.{Text, decimal, line, failedWord, verdictWord, holdsWord, failsWord}
-use Rattle.printing.specs.Laws.LineLaws.{Puts, puts-same}
+use Rattle.printing.specs.Laws.LineLaws.{PutsText, puts-same}
 use Rattle.failing_lines.specs.Code.LineParts.{jobLine}
 use Rattle.sheet_lines.specs.Code.SheetParts.{findingsIn, roundsText, PartsOf, OrderParts, FailingParts, MarksOf}
 
@@ -127,7 +127,7 @@ module _ {f : File} {t : Table} {list : JobList} (p : PartsOf f t list) where
 
     -- a number: its line
     pub findings-refused : (w .number ≡ 0 → ⊥) → {before : List ℕ} {at : ℕ} {text : List ℕ} {n : ℕ}
-        → Puts before at (refusedLine (w .number) (w .place)) text n → Puts before at (findingsIn (accept f)) text n
+        → PutsText before at (refusedLine (w .number) (w .place)) text n → PutsText before at (findingsIn (accept f)) text n
     findings-refused some-number puts = puts-same (sym (refused-case shows some-number)) puts
 
     holds-case : Shows a w after buffer → w .number ≡ 0 → (w .verdict ≡ Fails → ⊥)
@@ -142,8 +142,8 @@ module _ {f : File} {t : Table} {list : JobList} (p : PartsOf f t list) where
 
     -- no number and no failure: the verdict that it holds
     pub findings-holds : w .number ≡ 0 → (w .verdict ≡ Fails → ⊥) → {before : List ℕ} {at : ℕ} {text : List ℕ} {n : ℕ}
-        → Puts before at (line verdictWord (holdsWord ∷ decimal (w .count) ∷ [])) text n
-        → Puts before at (findingsIn (accept f)) text n
+        → PutsText before at (line verdictWord (holdsWord ∷ decimal (w .count) ∷ [])) text n
+        → PutsText before at (findingsIn (accept f)) text n
     findings-holds clean no-failure puts = puts-same (sym (holds-case shows clean no-failure)) puts
 
     fails-case : Shows a w after buffer → w .verdict ≡ Fails
@@ -245,11 +245,11 @@ module _ {f : File} {t : Table} {list : JobList} {w : WalkAnswer} {order : List 
 
   pub failure-put : {marks : List ℕ} → MarksOf f list order marks → {before : List ℕ} {at : ℕ} {one : List ℕ} {l : ℕ}
       {two : List ℕ} {m : ℕ} {three : List ℕ} {k : ℕ} {after : List ℕ} {n : ℕ} → 4608 ≤ length before
-      → Puts before at (line verdictWord (failsWord ∷ decimal (w .count) ∷ [])) one l
-      → Puts one l (orderLine order) two m
-      → Puts two m (line failedWord (map decimal (only (λ x. getD (w .failed) x false) (upTo (list .count))))) three k
-      → Puts three k (each (upTo (list .count)) (jobLine marks)) after n
-      → Puts before at (findingsIn (accept f)) after n
+      → PutsText before at (line verdictWord (failsWord ∷ decimal (w .count) ∷ [])) one l
+      → PutsText one l (orderLine order) two m
+      → PutsText two m (line failedWord (map decimal (only (λ x. getD (w .failed) x false) (upTo (list .count))))) three k
+      → PutsText three k (each (upTo (list .count)) (jobLine marks)) after n
+      → PutsText before at (findingsIn (accept f)) after n
   failure-put marked enough first second third fourth =
       puts-same (failure-is marked)
       (appends-more enough (appends-more enough (appends-more enough first second) third) fourth)

@@ -34,7 +34,7 @@ use Rattle.sheets.specs.Laws.SheetSizes.{sheet-fits}
 use Rattle.sheets.specs.Sheets.{refusedLine, totalsLine, taskLine, findings, tableSheet, sheetFrom, sheetOf}
 use Rattle.sheets.specs.Sheets.{printed, sheetAnswerOf, sheetAfterOf, sheetAnswer, sheetAfter}
 use Rattle.sheets.specs.Texts.{Text, decimal, line, tasksWord, jobsWord}
-use Rattle.printing.specs.Laws.LineLaws.{Puts, puts-same}
+use Rattle.printing.specs.Laws.LineLaws.{PutsText, puts-same}
 use Rattle.sheet_lines.specs.Code.SheetParts.{taskText, findingsIn, PartsOf}
 use Rattle.sheet_lines.specs.Laws.TaskLines.{accepted-timeable, task-lines-held}
 
@@ -43,8 +43,8 @@ use Rattle.sheet_lines.specs.Laws.TaskLines.{accepted-timeable, task-lin
 module _ (f : File) (x : AcceptAnswer) (says : AcceptedAs x (accept f)) where
   -- a refused file's sheet is the line of its refusal
   pub sheet-refused : {number place : ℕ} → x .check ≡ Refused number place
-      → {before : List ℕ} {text : List ℕ} {n : ℕ} → Puts before 0 (refusedLine number place) text n
-      → Puts before 0 (sheetOf f) text n
+      → {before : List ℕ} {text : List ℕ} {n : ℕ} → PutsText before 0 (refusedLine number place) text n
+      → PutsText before 0 (sheetOf f) text n
   unfolding sheetOf sheetFrom
   sheet-refused e puts = puts-same (sym (ap sheetFrom (accepted-refused x (accept f) says e))) puts
 
@@ -96,9 +96,9 @@ module _ (f : File) (x : AcceptAnswer) (says : AcceptedAs x (accept f)) where
     -- an accepted file's sheet: totals, tasks, findings
     pub sheet-put : {before : List ℕ} {one : List ℕ} {l : ℕ} {two : List ℕ} {m : ℕ} {after : List ℕ} {n : ℕ}
         → 4608 ≤ length before
-        → Puts before 0 (line tasksWord (decimal (x .table .tasks) ∷ jobsWord ∷ decimal (x .list .count) ∷ [])) one l
-        → Puts one l (each (upTo (x .table .tasks)) (taskText (x .table) (x .responses))) two m
-        → Puts two m (findingsIn (accept f)) after n → Puts before 0 (sheetOf f) after n
+        → PutsText before 0 (line tasksWord (decimal (x .table .tasks) ∷ jobsWord ∷ decimal (x .list .count) ∷ [])) one l
+        → PutsText one l (each (upTo (x .table .tasks)) (taskText (x .table) (x .responses))) two m
+        → PutsText two m (findingsIn (accept f)) after n → PutsText before 0 (sheetOf f) after n
     sheet-put enough first second third =
         puts-same sheet-is (appends-more enough (appends-more enough first second) third)
 
@@ -113,7 +113,7 @@ module _ (f : File) (text : List ℕ) where
       let is = require-fails {P = ℕ} (leb 4608 (length text)) 20 0 (passed (sheetOf f)) (lt-leb 4608 (length text) short) in
       (sym (ap sheetAnswerOf is), sym (ap (λ (c : Checked ℕ Text). sheetAfterOf c text) is))
 
-  module _ (enough : 4608 ≤ length text) {after : List ℕ} {n : ℕ} (puts : Puts text 0 (sheetOf f) after n) where
+  module _ (enough : 4608 ≤ length text) {after : List ℕ} {n : ℕ} (puts : PutsText text 0 (sheetOf f) after n) where
     -- the sheet's length fits the answer
     pub sheet-within : n ≤ 4608
     sheet-within = appends-within puts (omega arith)

@@ -29,7 +29,7 @@ use Rattle.timing.specs.Laws.TimeableLaws.{task-read}
 use Rattle.timing.specs.declared.AcceptAnswer.{AcceptAnswer}
 use Rattle.sheets.specs.Sheets.{taskLine}
 use Rattle.sheets.specs.Texts.{Text, decimal, line, taskWord, responseWord, jobsWord}
-use Rattle.printing.specs.Laws.LineLaws.{Puts}
+use Rattle.printing.specs.Laws.LineLaws.{PutsText}
 use Rattle.sheet_lines.specs.Code.SheetParts.{taskText}
 
 -- ---- one line
@@ -42,11 +42,11 @@ lineWith i response jobs =
 -- the jobs of the entry that stands in the table's array are those of the task
 pub task-put : {t : Table} → Shaped t → (responses : List ℕ) (i : ℕ) (d : TaskEntry) → i < t .tasks → {jobs : ℕ}
     → jobs ≡ jobsWithin (t .window) (getD (t .entries) i d) → {mid : List ℕ} {m : ℕ} {after : List ℕ} {n : ℕ}
-    → Puts mid m (lineWith i (getD responses i 0) jobs) after n → Puts mid m (taskText t responses i) after n
+    → PutsText mid m (lineWith i (getD responses i 0) jobs) after n → PutsText mid m (taskText t responses i) after n
 unfolding taskText
 task-put {t} shaped responses i d lt is {mid} {m} {after} {n} puts =
     let jobs-are = is ∙ ap (jobsWithin (t .window)) (task-read shaped i d lt) in
-    subst (λ (k : ℕ). Puts mid m (lineWith i (getD responses i 0) k) after n) jobs-are puts
+    subst (λ (k : ℕ). PutsText mid m (lineWith i (getD responses i 0) k) after n) jobs-are puts
 
 -- ---- all lines
 

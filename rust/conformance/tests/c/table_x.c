@@ -1,7 +1,7 @@
 /*
  * Table X of document 01 through the C interface: read, replayed, walked with allowances 23 and 22,
- * its order converted to its plan and back, its sheet printed. Says the first result that is not
- * document 01's, and returns 1.
+ * its order converted to its plan and back, its sheet printed, its jobs listed. Says the first
+ * result that is not document 01's, and returns 1.
  */
 #include "adqurim.h"
 #include "table_x.h"
@@ -268,6 +268,46 @@ static void sheet_refused(void) {
     expect("a refusal's sheet differs", (uint64_t)(memcmp(text, line, strlen(line)) != 0), 0);
 }
 
+/* The jobs, printed; records past them are unchanged. */
+static void jobs_of_table_x(void) {
+    adqurim_jobs_answer answer;
+    adqurim_job jobs[ADQURIM_JOB_LIST_ROOM + 1];
+    memset(&answer, FILL, sizeof answer);
+    memset(jobs, FILL, sizeof jobs);
+    uint64_t number = adqurim_list_jobs(table_x, sizeof table_x, jobs, ADQURIM_JOB_LIST_ROOM + 1,
+                                        &answer);
+    expect("jobs", number, ADQURIM_ACCEPTED);
+    expect("place of the jobs", answer.place, 0);
+    expect("how many jobs", answer.jobs, 2);
+    expect("task of job 1", jobs[1].task, 1);
+    expect("arrival of job 1", jobs[1].arrival, 1);
+    expect("latest finish of job 1", jobs[1].latest, 2);
+    expect_untouched((const uint8_t *)(jobs + 2), sizeof jobs - 2 * sizeof jobs[0]);
+    for (size_t job = 0; job < answer.jobs; job++) {
+        printf("job %d task %d arrival %d latest %d\n", (int)job, jobs[job].task,
+               (int)jobs[job].arrival, (int)jobs[job].latest);
+    }
+}
+
+/* No bytes, a list a record too short and an answer a word too short change no record. */
+static void jobs_refused(void) {
+    adqurim_jobs_answer answer;
+    adqurim_job jobs[ADQURIM_JOB_LIST_ROOM];
+    uint64_t words[ADQURIM_JOBS_WORDS] = {7};
+    memset(jobs, FILL, sizeof jobs);
+    uint64_t number = adqurim_list_jobs(table_x, sizeof table_x, jobs, ADQURIM_JOB_LIST_ROOM - 1,
+                                        &answer);
+    expect("list of 31 records", number, ADQURIM_ROOM);
+    expect("jobs without room", answer.jobs, 0);
+    number = adqurim_list_jobs(table_x, 0, jobs, ADQURIM_JOB_LIST_ROOM, &answer);
+    expect("jobs of no bytes", number, ADQURIM_SIZE);
+    bool room = adqurim_jobs(table_x, sizeof table_x, jobs, ADQURIM_JOB_LIST_ROOM, words,
+                             ADQURIM_JOBS_WORDS - 1);
+    expect("room for 2 words of a job list", room, false);
+    expect("word 0 without room", words[0], 7);
+    expect_untouched((const uint8_t *)jobs, sizeof jobs);
+}
+
 int main(void) {
     read_x();
     read_refused();
@@ -281,5 +321,7 @@ int main(void) {
     plan_words();
     sheet_of_table_x();
     sheet_refused();
+    jobs_of_table_x();
+    jobs_refused();
     return 0;
 }

@@ -1,6 +1,6 @@
 // The C interface called from C++: table X of document 01 read, replayed, walked, its order
-// converted to its plan and back, its sheet printed. Says what differs from document 01, and
-// returns 1.
+// converted to its plan and back, its sheet printed, its jobs listed. Says what differs from
+// document 01, and returns 1.
 #include "adqurim.h"
 #include "table_x.h"
 
@@ -46,6 +46,22 @@ static bool sheet() {
                        ADQURIM_ROOM;
 }
 
+// Whether the jobs are those of document 01; they are printed.
+static bool jobs() {
+    adqurim_jobs_answer answer = {};
+    adqurim_job jobs[ADQURIM_JOB_LIST_ROOM] = {};
+    bool same = adqurim_list_jobs(table_x, sizeof table_x, jobs, ADQURIM_JOB_LIST_ROOM, &answer) ==
+                ADQURIM_ACCEPTED;
+    same = same && answer.place == 0 && answer.jobs == 2 && jobs[0].latest == 3 &&
+           jobs[1].task == 1 && jobs[1].arrival == 1 && jobs[2].latest == 0;
+    for (uint64_t job = 0; job < answer.jobs; job++) {
+        std::printf("job %d task %d arrival %d latest %d\n", int(job), int(jobs[job].task),
+                    int(jobs[job].arrival), int(jobs[job].latest));
+    }
+    return same && adqurim_list_jobs(table_x, sizeof table_x, jobs, ADQURIM_JOB_LIST_ROOM - 1,
+                                     &answer) == ADQURIM_ROOM;
+}
+
 int main() {
     adqurim_read_answer read = {};
     adqurim_run run = {};
@@ -63,7 +79,7 @@ int main() {
            walk.length == sizeof order_of_x && order[1] == order_of_x[1];
     same = same && adqurim_walk_orders(table_x, sizeof table_x, 22, order, sizeof order,
                                        &walk) == ADQURIM_UNDECIDED;
-    same = same && there_and_back() && sheet();
+    same = same && there_and_back() && sheet() && jobs();
     if (!same) {
         std::fprintf(stderr, "table X differs from document 01 through C++\n");
     }

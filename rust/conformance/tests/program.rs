@@ -1,0 +1,241 @@
+//! The built check program and the script `check` at the root, run on files and pipes, against the
+//! interpreter's sheet.
+
+use conformance::cases::{edited, table_x};
+use conformance::families::{long, nest_of_four, refused_files, small};
+use generator::files::{damaged, random_bytes, random_records};
+use generator::{random_race, Random};
+use interpreter::sheet;
+use std::fs::{self, File};
+use std::io::{self, Write};
+use std::path::{Path, PathBuf};
+use std::process::{ChildStdin, Command, Output, Stdio};
+use std::time::Duration;
+use std::{iter, thread};
+
+const README: &str = include_str!("../../../README.md");
+
+/// Statuses of the script.
+const HOLDS: i32 = 0;
+const FAILS: i32 = 1;
+const NO_FILE: i32 = 2;
+const REFUSED: i32 = 3;
+
+/// The greatest length that is tried: some bytes above a file's most, 4,096.
+const LONGEST_TRIED: usize = 4_200;
+
+/// What a pipe is tried with: far more than it can hold, and than the program has to read.
+const ENDLESS: usize = 8 << 20;
+const PIECE: [u8; 4_096] = [1; 4_096];
+
+/// The repository's root.
+fn root() -> PathBuf {
+    Path::new(env!("CARGO_MANIFEST_DIR")).join("../..")
+}
+
+/// The check program. It is built with the proofs, before these tests.
+fn program() -> Command {
+    let built = root().join("target/bin/sheet");
+    assert!(built.is_file(), "{} is missing: run `rt check sheet`", built.display());
+    Command::new(built)
+}
+
+/// The script, with these words.
+fn script(words: &[&str]) -> Command {
+    program();
+    let mut command = Command::new(root().join("check"));
+    command.args(words);
+    command
+}
+
+/// Runs a command on what `write` gives to its standard input.
+fn run(mut command: Command, write: impl FnOnce(&mut ChildStdin)) -> Output {
+    command.stdin(Stdio::piped()).stdout(Stdio::piped()).stderr(Stdio::piped());
+    let mut child = command.spawn().expect("the program starts");
+    let mut input = child.stdin.take().expect("it has an input");
+    write(&mut input);
+    drop(input);
+    child.wait_with_output().expect("the program ends")
+}
+
+/// Runs a command on bytes. One that does not read all of them may end before they are written.
+fn run_on(command: Command, bytes: &[u8]) -> Output {
+    run(command, |input| input.write_all(bytes).unwrap_or_default())
+}
+
+fn text(bytes: &[u8]) -> &str {
+    std::str::from_utf8(bytes).expect("it writes text")
+}
+
+/// Asserts that a run printed this sheet, nothing else, and ended with status 0.
+fn assert_program(output: &Output, sheet: &str) {
+    assert_eq!((text(&output.stdout), text(&output.stderr)), (sheet, ""));
+    assert_eq!(output.status.code(), Some(0));
+}
+
+/// A file's bytes for each way in which the program is tried.
+fn files() -> Vec<Vec<u8>> {
+    let mut random = Random::new(820);
+    let mut files: Vec<Vec<u8>> = samples::all().iter().map(|sample| sample.file()).collect();
+    files.extend(refused_files());
+    for make in [small, long, random_race, nest_of_four] {
+        for _ in 0..50 {
+            let file = make(&mut random).write_shuffled(&mut random).0;
+            files.extend([damaged(&mut random, &file), file]);
+        }
+    }
+    files.extend((0..40).map(|_| random_bytes(&mut random)));
+    files.extend((0..40).map(|_| random_records(&mut random)));
+    files
+}
+
+#[test]
+fn the_program_prints_the_sheet_of_every_file() {
+    let files = files();
+    assert!(files.len() >= 300);
+    for file in files {
+        assert_program(&run_on(program(), &file), &sheet(&file));
+    }
+}
+
+/// The bytes come from a file on disk.
+#[test]
+fn the_program_reads_every_length() {
+    let x = table_x().write();
+    let path = Path::new(env!("CARGO_TARGET_TMPDIR")).join("length.task");
+    for length in 0..=LONGEST_TRIED {
+        let file: Vec<u8> = x.iter().copied().cycle().take(length).collect();
+        fs::write(&path, &file).expect("the file can be written");
+        let mut command = program();
+        command.stdin(File::open(&path).expect("the file is there"));
+        assert_program(&command.output().expect("the program starts"), &sheet(&file));
+    }
+}
+
+/// Writes bytes one at a time, so that a reader gets them one at a time.
+fn write_slowly(input: &mut ChildStdin, bytes: &[u8]) {
+    for byte in bytes {
+        input.write_all(&[*byte]).expect("the program reads on");
+        thread::sleep(Duration::from_micros(200));
+    }
+}
+
+#[test]
+fn input_in_single_bytes() {
+    let x = table_x().write();
+    let sheet = sheet(&x);
+    assert_program(&run(program(), |input| write_slowly(input, &x)), &sheet);
+    let output = run(script(&[]), |input| write_slowly(input, &x));
+    assert_eq!((text(&output.stdout), output.status.code()), (&sheet[..], Some(FAILS)));
+}
+
+/// Writes until nobody reads any more. Returns how many bytes went into the pipe.
+fn write_on(input: &mut ChildStdin) -> usize {
+    let pieces = iter::repeat_with(|| input.write_all(&PIECE)).take(ENDLESS / PIECE.len());
+    pieces.take_while(io::Result::is_ok).count() * PIECE.len()
+}
+
+#[test]
+fn input_that_is_too_long_is_not_read_to_its_end() {
+    for (command, status) in [(program(), 0), (script(&["-"]), REFUSED)] {
+        let mut written = 0;
+        let output = run(command, |input| written = write_on(input));
+        assert!(written < ENDLESS, "all was read");
+        assert_eq!((text(&output.stdout), output.status.code()), ("refused 1 0\n", Some(status)));
+    }
+}
+
+#[test]
+fn the_script_on_every_sample() {
+    let statuses = [FAILS, HOLDS, FAILS, HOLDS, REFUSED, REFUSED];
+    for (sample, status) in iter::zip(samples::all(), statuses) {
+        let name = format!("{}.task", sample.name);
+        let mut by_name = script(&[&name]);
+        by_name.current_dir(samples::directory());
+        for output in [
+            run_on(by_name, &[]),
+            run_on(script(&[]), &sample.file()),
+            run_on(script(&["-"]), &sample.file()),
+        ] {
+            assert_eq!(text(&output.stdout), sample.sheet(), "{name}");
+            assert_eq!(output.status.code(), Some(status), "{name}");
+            assert_eq!(output.stderr.is_empty(), status != REFUSED, "{name}");
+        }
+    }
+}
+
+/// What the script writes to standard error of a file that is refused, after its sheet.
+fn explained(file: &[u8]) -> String {
+    let output = run_on(script(&["-"]), file);
+    assert_eq!((text(&output.stdout), output.status.code()), (&sheet(file)[..], Some(REFUSED)));
+    text(&output.stderr).to_string()
+}
+
+#[test]
+fn the_script_explains_each_number() {
+    for (at, file) in refused_files().iter().enumerate() {
+        let refusal = binding::read(file).expect_err("the file is refused");
+        assert_eq!(refusal.number, at as u64 + 1);
+        let says = explained(file);
+        let nowhere = refusal.rule().and_then(|rule| rule.place().noun()).is_none();
+        let begins = match nowhere {
+            true => "check: the".to_string(),
+            false => format!("check: record {} ", refusal.place),
+        };
+        assert!(says.starts_with(&begins), "{says}");
+        assert!(says.ends_with(&format!(" ({})\n", refusal.number)), "{says}");
+        assert_eq!(says.lines().count(), 1);
+    }
+    let undecided = samples::all().pop().expect("there are samples");
+    assert!(explained(&undecided.file()).ends_with("more than 1,000,000 moves (21)\n"));
+}
+
+#[test]
+fn the_script_says_what_a_record_is() {
+    let mut table = table_x();
+    table.ceilings = vec![1, 0];
+    let file = table.write();
+    let names = [
+        (0, "the header"),
+        (1, "task 0"),
+        (2, "instruction 0 of task 0"),
+        (6, "instruction 4 of task 0"),
+        (7, "task 1"),
+        (10, "instruction 2 of task 1"),
+        (11, "lock 0"),
+        (12, "lock 1"),
+    ];
+    for (record, name) in names {
+        let says = explained(&edited(&file, &[(record * 16, 9)]));
+        let rule = "has the wrong kind for its chain (2)";
+        assert_eq!(says, format!("check: record {record} ({name}) {rule}\n"));
+    }
+    let stray = explained(&[&file[..], &[0; 16]].concat());
+    assert_eq!(stray, "check: record 13 is never reached (6)\n");
+}
+
+#[test]
+fn the_script_without_a_file_that_can_be_read() {
+    for name in ["no-such.task", "no such file", env!("CARGO_TARGET_TMPDIR")] {
+        let output = run_on(script(&[name]), &[]);
+        let says = format!("check: {name}: no such file, or it cannot be read\n");
+        assert_eq!((text(&output.stdout), text(&output.stderr)), ("", &says[..]));
+        assert_eq!(output.status.code(), Some(NO_FILE));
+    }
+}
+
+#[test]
+fn the_script_says_how_it_is_used() {
+    let (asked, wrong) = (run_on(script(&["--help"]), &[]), run_on(script(&["a", "b"]), &[]));
+    assert!(text(&asked.stdout).starts_with("usage: ./check [FILE]"));
+    assert_eq!((&asked.stdout, &asked.stderr), (&wrong.stderr, &wrong.stdout));
+    assert_eq!((asked.status.code(), wrong.status.code()), (Some(0), Some(NO_FILE)));
+}
+
+#[test]
+fn the_readme_shows_the_sheet_of_its_command() {
+    let sample = samples::all().swap_remove(0);
+    let command = format!("    ./check samples/{}.task\n", sample.name);
+    let lines: String = sample.sheet().lines().map(|line| format!("    {line}\n")).collect();
+    assert!(README.contains(&command) && README.contains(&lines));
+}
