@@ -26,7 +26,8 @@ ghost use mathlib.Core.Path.{_≡_};
 ghost use lib.Dec.{leb};
 ghost use lib.ListN.{length};
 ghost use Rattle.notation.specs.Lists.{if_then_else_};
-ghost use Rattle.adqurim.specs.JobWords.{GivenAs, writtenTo, wordsAfter, entryAfter};
+ghost use Rattle.adqurim.specs.Code.GivenJobs.{GivenAs};
+ghost use Rattle.adqurim.specs.JobWords.{writtenTo, wordsAfter, entryAfter};
 ghost use Rattle.timing.specs.ReadEntries.{readAnswer};
 ghost use Rattle.order.specs.Replay.{replayAnswer};
 ghost use Rattle.walk.specs.WalkEntry.{walkAnswer, walkAfter};
@@ -139,9 +140,9 @@ pub extern "C" fn adqurim_order_to_plan(
     true
 }
 
-// The entry from a plan to an order. The words are as the replay's, word 42 being the order's length. The order buffer's
-// first 512 bytes hold the order and zeros after it; a refusal leaves it as it was. It answers whether there was room
-// for the words; without room nothing changes, the order buffer neither.
+// The entry from a plan to an order. The words are as the replay's, word 42 being the order's length. The order
+// buffer's first 512 bytes hold the order and zeros after it; a refusal leaves it as it was. It answers whether there
+// was room for the words; without room nothing changes, the order buffer neither.
 #[no_mangle]
 pub extern "C" fn adqurim_plan_to_order(
     file: &[u8],
@@ -213,8 +214,8 @@ pub fn put_list(answer: &mut [u64], from: Listed) -> bool
 }
 
 // The job list's entry. Words 0 and 1 are number and place, word 2 how many records were written to the front of the
-// list; the records after them keep their contents, and a refusal writes none. It answers whether there was room for the
-// words; without room nothing changes, the list neither.
+// list; the records after them keep their contents, and a refusal writes none. It answers whether there was room for
+// the words; without room nothing changes, the list neither.
 #[no_mangle]
 pub extern "C" fn adqurim_jobs(file: &[u8], jobs: &mut [JobRecord], answer: &mut [u64]) -> bool
     ensures { λ r. ⌜ (r ≡ leb 3 (length (now (answer .entry))))

@@ -1,7 +1,7 @@
--- Demand 3 of the entries: what a caller sees of both conversions, the replay and the plan check of a file that earns no
--- number, with buffers that have room. Document 01: "For an accepted table, and 20 aside, the conversions accept exactly
--- the complete orders and the legal plans. What is turned back is the bytes written up to the returned length, without
--- the zero fill." The contracts of the entries say that their answers and buffers are those named here.
+-- Demand 3 of the entries: what a caller sees of both conversions, the replay and the plan check of a file that earns
+-- no number, with buffers that have room. Document 01: "For an accepted table, and 20 aside, the conversions accept
+-- exactly the complete orders and the legal plans. What is turned back is the bytes written up to the returned length,
+-- without the zero fill." The contracts of the entries say that their answers and buffers are those named here.
 -- Assumes nothing.
 use mathlib.Core.Path.{_≡_}
 use mathlib.Core.Logic.{_↔_}

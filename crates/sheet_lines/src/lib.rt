@@ -78,7 +78,8 @@ pub fn put_failure(
 ) -> usize
     requires { ⌜ Shaped t × (list .count ≤ 32) × FailingParts (now file) t list w (now order)
         × (4608 ≤ length (now out)) ⌝ }
-    ensures { λ n. ⌜ Appends 4608 (now (out .entry)) at (findingsIn (accept (now (file .entry)))) (now (out .exit)) n ⌝ }
+    ensures { λ n. ⌜ Appends 4608 (now (out .entry)) at (findingsIn (accept (now (file .entry))))
+        (now (out .exit)) n ⌝ }
 {
     let verdict = put_fails(w.count, at, out);
     let ordered = put_order(order, verdict, out);
@@ -91,7 +92,8 @@ pub fn put_failure(
 // Writes what the walk found.
 pub fn put_findings(file: &[u8], t: Table, list: JobList, at: usize, out: &mut [u8]) -> usize
     requires { ⌜ Shaped t × (list .count ≤ 32) × PartsOf (now file) t list × (4608 ≤ length (now out)) ⌝ }
-    ensures { λ n. ⌜ Appends 4608 (now (out .entry)) at (findingsIn (accept (now (file .entry)))) (now (out .exit)) n ⌝ }
+    ensures { λ n. ⌜ Appends 4608 (now (out .entry)) at (findingsIn (accept (now (file .entry))))
+        (now (out .exit)) n ⌝ }
 {
     let mut order = [0u8; ORDER_ROOM];
     let w = walk_file(file, ALLOWANCE, &mut order);

@@ -88,6 +88,15 @@ pub fn conversion_rows() -> Vec<Row> {
     rows
 }
 
+/// The job list's rows, and the sheet's of table X, whose walk is short.
+pub fn file_rows() -> Vec<Row> {
+    vec![
+        plain("job list: table X", Input::of(Entry::Jobs, table_x().write())),
+        plain("job list: 145 records, 32 jobs", Input::of(Entry::Jobs, full_table().write())),
+        plain("sheet: table X, 23 moves", Input::of(Entry::Sheet, table_x().write())),
+    ]
+}
+
 /// The periods of the family that is measured whole, longest first.
 const PERIODS: [u32; 6] = [1807, 43, 7, 3, 2, 1];
 /// The largest number of tasks above the lowest.

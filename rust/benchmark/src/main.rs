@@ -53,17 +53,19 @@ fn main() -> std::io::Result<()> {
     let replays = measure_rows(files::replay_rows())?;
     let plans = measure_rows(files::plan_rows())?;
     let conversions = measure_rows(files::conversion_rows())?;
+    let files = measure_rows(files::file_rows())?;
     let walks: Vec<WalkTiming> = walks::walk_rows().into_iter().map(walks::time_walks).collect();
     let tables = Tables {
         reads: report::read_table(&reads),
         replays: report::replay_table(&replays),
         plans: report::plan_table(&plans),
         conversions: report::conversion_table(&conversions),
+        files: report::file_table(&files),
         walks: report::walk_table(&walks),
         stack: report::stack(stack::least_kib()?),
     };
-    let Tables { reads, replays, plans, conversions, walks, stack } = &tables;
-    print!("{reads}\n{replays}\n{plans}\n{conversions}\n{walks}\n{stack}");
+    let Tables { reads, replays, plans, conversions, files, walks, stack } = &tables;
+    print!("{reads}\n{replays}\n{plans}\n{conversions}\n{files}\n{walks}\n{stack}");
     let page = report::page(&tables, &load);
     std::fs::write(PAGE, page + &report::history(&std::fs::read_to_string(PAGE)?))
 }

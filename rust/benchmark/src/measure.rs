@@ -1,10 +1,10 @@
 //! How long the proved entries and the interpreter take on an input.
 
-use binding::raw::{self, ReadAnswer, RunAnswer};
-use binding::{ORDER_ROOM, PLAN_ROOM};
+use binding::raw::{self, Job, JobsAnswer, ReadAnswer, RunAnswer, SheetAnswer};
+use binding::{JOB_LIST_ROOM, ORDER_ROOM, PLAN_ROOM, SHEET_ROOM};
 use conformance::proved::{
-    expected_check_plan, expected_order_to_plan, expected_plan_to_order, expected_read,
-    expected_replay,
+    expected_check_plan, expected_jobs, expected_order_to_plan, expected_plan_to_order,
+    expected_read, expected_replay, expected_sheet,
 };
 use std::hint::black_box;
 use std::io::{Read, Result, Write};
@@ -33,11 +33,20 @@ pub enum Entry {
     CheckPlan,
     OrderToPlan,
     PlanToOrder,
+    Jobs,
+    Sheet,
 }
 
 /// In the order of their numbers, by which a child is told the entry.
-const ENTRIES: [Entry; 5] =
-    [Entry::Read, Entry::Replay, Entry::CheckPlan, Entry::OrderToPlan, Entry::PlanToOrder];
+const ENTRIES: [Entry; 7] = [
+    Entry::Read,
+    Entry::Replay,
+    Entry::CheckPlan,
+    Entry::OrderToPlan,
+    Entry::PlanToOrder,
+    Entry::Jobs,
+    Entry::Sheet,
+];
 
 /// What an entry is called on.
 #[derive(Debug, Clone)]
@@ -54,6 +63,8 @@ pub struct Input {
 enum Answer {
     Read(ReadAnswer),
     Run(RunAnswer),
+    Jobs(JobsAnswer),
+    Sheet(SheetAnswer),
 }
 
 /// Calls a conversion with a buffer of its own, which counts as used.
@@ -68,10 +79,31 @@ fn with_buffer<const ROOM: usize>(
     Answer::Run(answer)
 }
 
+/// Calls the job list with a list of its own, which counts as used.
+fn with_list(list_jobs: fn(&[u8], &mut [Job]) -> JobsAnswer, file: &[u8]) -> Answer {
+    let mut list = [Job::default(); JOB_LIST_ROOM];
+    let answer = list_jobs(file, &mut list);
+    black_box(&list);
+    Answer::Jobs(answer)
+}
+
+/// Calls the sheet with a text of its own, which counts as used.
+fn with_text(print: fn(&[u8], &mut [u8]) -> SheetAnswer, file: &[u8]) -> Answer {
+    let mut text = [0; SHEET_ROOM];
+    let answer = print(file, &mut text);
+    black_box(&text);
+    Answer::Sheet(answer)
+}
+
 impl Input {
     /// A reader's input.
     pub fn read(file: Vec<u8>) -> Input {
-        Input { entry: Entry::Read, file, bytes: Vec::new() }
+        Input::of(Entry::Read, file)
+    }
+
+    /// The input of an entry that takes a file alone.
+    pub fn of(entry: Entry, file: Vec<u8>) -> Input {
+        Input { entry, file, bytes: Vec::new() }
     }
 
     /// What the interpreter answers.
@@ -83,6 +115,8 @@ impl Input {
             Entry::CheckPlan => Answer::Run(expected_check_plan(file, bytes)),
             Entry::OrderToPlan => with_buffer::<PLAN_ROOM>(expected_order_to_plan, file, bytes),
             Entry::PlanToOrder => with_buffer::<ORDER_ROOM>(expected_plan_to_order, file, bytes),
+            Entry::Jobs => with_list(expected_jobs, file),
+            Entry::Sheet => with_text(expected_sheet, file),
         }
     }
 
@@ -95,6 +129,8 @@ impl Input {
             Entry::CheckPlan => Answer::Run(raw::check_plan(file, bytes)),
             Entry::OrderToPlan => with_buffer::<PLAN_ROOM>(raw::order_to_plan, file, bytes),
             Entry::PlanToOrder => with_buffer::<ORDER_ROOM>(raw::plan_to_order, file, bytes),
+            Entry::Jobs => with_list(raw::jobs, file),
+            Entry::Sheet => with_text(raw::sheet, file),
         }
     }
 
@@ -103,6 +139,8 @@ impl Input {
         match self.expected() {
             Answer::Read(answer) => answer.number,
             Answer::Run(answer) => answer.number,
+            Answer::Jobs(answer) => answer.number,
+            Answer::Sheet(answer) => answer.number,
         }
     }
 

@@ -80,6 +80,11 @@ pub fn conversion_table(timings: &[Timing]) -> String {
     table("file and what is converted", timings)
 }
 
+/// The table of the job list and the sheet.
+pub fn file_table(timings: &[Timing]) -> String {
+    table("entry and file", timings)
+}
+
 /// The walk's table, and below it the median of its ratios.
 pub fn walk_table(timings: &[WalkTiming]) -> String {
     let mut text = String::new();
@@ -147,6 +152,7 @@ pub struct Tables {
     pub replays: String,
     pub plans: String,
     pub conversions: String,
+    pub files: String,
     pub walks: String,
     pub stack: String,
 }
@@ -185,7 +191,7 @@ by the interpreter's.
 
 /// The entries beside the interpreter.
 fn runs_part(tables: &Tables) -> String {
-    let Tables { reads, replays, plans, conversions, .. } = tables;
+    let Tables { reads, replays, plans, conversions, files, .. } = tables;
     format!(
         "## Reading a file
 
@@ -212,6 +218,12 @@ The same orders to their plans, and these plans to their orders. The file is rea
 side; the buffer is lent anew for each call, and filling it with zeros before is part of the time.
 
 {conversions}
+## The job list and the sheet
+
+The file is read first, by either side; list and text are lent anew for each call. The sheet has the walk
+of the table and the plan of its failing order in it.
+
+{files}
 "
     )
 }

@@ -47,7 +47,8 @@ use Rattle.timing.proofs.JobRecord as J
 use Rattle.timing.proofs.ListAnswer as Answer
 use Rattle.job_list.specs.declared.Listed.{Listed}
 use Rattle.job_list.specs.Filled.{listFilled}
-use Rattle.adqurim.specs.JobWords.{GivenAs, writtenTo, wordsAfter, entryAfter}
+use Rattle.adqurim.specs.Code.GivenJobs.{GivenAs}
+use Rattle.adqurim.specs.JobWords.{writtenTo, wordsAfter, entryAfter}
 use Rattle.job_list.proofs.Listed as L
 use Rattle.job_list.proofs.Listed.Laws as L′
 use Rattle.job_list.proofs.count_of as count-of

@@ -16,7 +16,8 @@ use Rattle.timing.specs.ReadEntries.{listAnswer, listAfter}
 use Rattle.job_list.specs.declared.Listed.{Listed}
 use Rattle.job_list.specs.Filled.{listFilled, ListedAs}
 use Rattle.job_list.specs.Laws.FilledLaws.{listFilled-none}
-use Rattle.adqurim.specs.JobWords.{GivenAs, writtenTo, wordsAfter, entryAfter}
+use Rattle.adqurim.specs.Code.GivenJobs.{GivenAs}
+use Rattle.adqurim.specs.JobWords.{writtenTo, wordsAfter, entryAfter}
 
 -- without room the words stay as they were
 unwritten : (a : ListAnswer) (words : List ℕ) → leb 3 (length words) ≡ false → words ≡ writtenTo a words

@@ -15,7 +15,8 @@ orderByte task value = if ltb task 16 && ltb value 16 then 16 * task + value els
 -- the bytes of job x in round r
 unfoldable pub jobRow : Program → List ℕ → ℕ → ℕ → List ℕ
 jobRow program marks r x =
-    map (λ step. orderByte (ownerIn program x) (step .value)) (only (λ step. eqb (step .round .0) r) (stepsMarked marks x))
+    map (λ step. orderByte (ownerIn program x) (step .value))
+    (only (λ step. eqb (step .round .0) r) (stepsMarked marks x))
 
 -- the bytes of round r, of k jobs
 unfoldable pub roundRow : Program → List ℕ → ℕ → ℕ → List ℕ
