@@ -27,7 +27,7 @@ ghost use lib.Dec.{leb};
 ghost use lib.ListN.{length};
 ghost use Rattle.notation.specs.Lists.{if_then_else_};
 ghost use Rattle.adqurim.specs.Code.GivenJobs.{GivenAs};
-ghost use Rattle.adqurim.specs.JobWords.{writtenTo, wordsAfter, entryAfter};
+ghost use Rattle.adqurim.specs.JobWords.{wordsAfter, entryAfter};
 ghost use Rattle.timing.specs.ReadEntries.{readAnswer};
 ghost use Rattle.order.specs.Replay.{replayAnswer};
 ghost use Rattle.walk.specs.WalkEntry.{walkAnswer, walkAfter};
@@ -36,7 +36,7 @@ ghost use Rattle.matching.specs.ConversionEntries.{orderToPlanAnswer, orderToPl
 ghost use Rattle.matching.specs.ConversionEntries.{planToOrderAnswer, planToOrderAfter};
 ghost use Rattle.sheets.specs.Sheets.{sheetAnswer, sheetAfter};
 ghost use Rattle.words.specs.Words.{wordsOfRead, wordsOfRun, wordsOfWalk, readWords, runWords, walkWords, filledWith};
-ghost use Rattle.words.specs.Words.{wordsOfSheet, sheetWords};
+ghost use Rattle.words.specs.Words.{wordsOfList, wordsOfSheet, listWords, sheetWords};
 
 // The reader's entry. Words 0 and 1 are number and place, words 2 to 9 the response times of tasks 0 to 7 (0 past
 // the last task), word 10 the number of jobs. It answers whether there was room; without room no word changes.
@@ -201,8 +201,8 @@ pub fn jobs_given(file: &[u8], room: usize, words: usize) -> Listed
 
 // The words of the job list's answer, if there is room for them.
 pub fn put_list(answer: &mut [u64], from: Listed) -> bool
-    ensures { λ r. ⌜ (r ≡ leb 3 (length (now (answer .entry))))
-        × (now (answer .exit) ≡ writtenTo (from .answer) (now (answer .entry))) ⌝ }
+    ensures { λ r. ⌜ (r ≡ leb wordsOfList (length (now (answer .entry))))
+        × (now (answer .exit) ≡ filledWith (listWords (from .answer)) (now (answer .entry))) ⌝ }
 {
     if answer.len() < LIST_WORDS {
         return false;
@@ -218,7 +218,7 @@ pub fn put_list(answer: &mut [u64], from: Listed) -> bool
 // the words; without room nothing changes, the list neither.
 #[no_mangle]
 pub extern "C" fn adqurim_jobs(file: &[u8], jobs: &mut [JobRecord], answer: &mut [u64]) -> bool
-    ensures { λ r. ⌜ (r ≡ leb 3 (length (now (answer .entry))))
+    ensures { λ r. ⌜ (r ≡ leb wordsOfList (length (now (answer .entry))))
         × (now (jobs .exit) ≡ entryAfter (now (file .entry)) (now (jobs .entry)) (now (answer .entry)))
         × (now (answer .exit) ≡ wordsAfter (now (file .entry)) (now (jobs .entry)) (now (answer .entry))) ⌝ }
 {

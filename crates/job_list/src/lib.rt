@@ -12,7 +12,7 @@ ghost use mathlib.Core.Path.{_≡_};
 ghost use Prim.Native.Nat.{_≤_, _<_};
 ghost use lib.ListN.{length};
 ghost use Rattle.timing.specs.ReadEntries.{listAnswer, listAfter};
-ghost use Rattle.job_list.specs.Filled.{jobRecordOf, listFilled, ListedAs};
+ghost use Rattle.job_list.specs.Code.Filled.{jobRecordOf, listFilled, ListedAs};
 
 // What the entry answers, and the records that go into the list: the first of the 32, as many as the answer says.
 pub struct Listed {

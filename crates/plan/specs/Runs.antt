@@ -10,6 +10,7 @@ use lib.ListN.{length, getD, set, take, drop}
 use lib.Dec.{leb, ltb, eqb}
 use Rattle.taskfile.specs.Chains.{mostInstructions}
 use Rattle.notation.specs.Checked.{Checked, passed, require, _>>=_, _>>_}
+use Rattle.taskfile.specs.declared.Instruction.{Instruction}
 use Rattle.taskfile.specs.Judgement.{instructionOf}
 use Rattle.notation.specs.Lists.{if_then_else_, upTo, member}
 use Rattle.taskfile.specs.Tables.{ceilingsOf}
@@ -73,14 +74,18 @@ pub record JobRun : Type 0 where
 abbrev pub roundAt : Plan → ℕ → Round
 roundAt plan offset = record { 0 = getD plan offset 0 }
 
--- One step's two bytes, checked in the order 40, 42, 41. "40 SHAPE: .. bytes run out"; "42 ROUND: at least k, or
--- below the job's previous step"; "41 VALUE: not a value its instruction allows".
-unfoldable pub stepBytes : Accepted → Plan → Job → Local → Round → ℕ → Checked ℕ (Unit {0})
-stepBytes a plan x local previous offset = do
+-- One step's two bytes for its instruction, of k rounds, checked in the order 40, 42, 41. "40 SHAPE: .. bytes run out";
+-- "42 ROUND: at least k, or below the job's previous step"; "41 VALUE: not a value its instruction allows".
+unfoldable pub stepBytesFor : ℕ → Instruction → Plan → Round → ℕ → Checked ℕ (Unit {0})
+stepBytesFor k instruction plan previous offset = do
   require (ltb (offset + 1) (length plan)) 40 (length plan)
-  require (ltb (roundAt plan offset .0) (jobTotal a) && notLater previous (roundAt plan offset)) 42 offset
-  require (member (getD plan (offset + 1) 0) (values (instructionOf (a .table) (jobAt a x .task) (local .next))))
-      41 (offset + 1)
+  require (ltb (roundAt plan offset .0) k && notLater previous (roundAt plan offset)) 42 offset
+  require (member (getD plan (offset + 1) 0) (values instruction)) 41 (offset + 1)
+
+-- those of job x's next step
+unfoldable pub stepBytes : Accepted → Plan → Job → Local → Round → ℕ → Checked ℕ (Unit {0})
+stepBytes a plan x local previous offset =
+    stepBytesFor (jobTotal a) (instructionOf (a .table) (jobAt a x .task) (local .next)) plan previous offset
 
 -- what the step does: its instruction, on the store of its round
 unfoldable pub stepEffect : Accepted → Plan → Job → Local → RunState → Effect

@@ -24,7 +24,7 @@ ghost use Rattle.machine.specs.Held.{priority};
 ghost use Rattle.machine.specs.Instructions.{perform};
 ghost use Rattle.plan.specs.Runs.{roundAt};
 ghost use Rattle.marks.specs.Code.Marks.{faultOf, storeAt, withStore, withMark};
-ghost use Rattle.marks.specs.Code.RunParts.{stepBytesFor};
+ghost use Rattle.plan.specs.Runs.{stepBytesFor};
 
 // The fault of the step whose bytes are at an offset, for its instruction and the round of the job's previous step: 40,
 // 42 or 41.

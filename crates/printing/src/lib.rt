@@ -7,7 +7,6 @@ ghost use mathlib.Core.List.{[], _∷_};
 ghost use lib.ListN.{length};
 ghost use Rattle.writing.specs.Code.Writing.{Appends};
 ghost use Rattle.sheets.specs.Texts.{decimal, line, tasksWord, taskWord, jobsWord, responseWord, verdictWord};
-ghost use Rattle.sheets.specs.Texts.{holdsWord, failsWord};
 ghost use Rattle.sheets.specs.Sheets.{refusedLine};
 
 // The bytes between two words and after a line, and the first digit.
@@ -110,26 +109,14 @@ pub fn put_task(i: u64, response: u64, jobs: u64, at: usize, out: &mut [u8]) -> 
     end_line(fifth, out)
 }
 
-// Writes the line of a verdict that holds: `verdict holds 23`.
-pub fn put_holds(count: u64, at: usize, out: &mut [u8]) -> usize
+// Writes the line of a verdict: `verdict holds 23`.
+pub fn put_verdict(verdict: &[u8], count: u64, at: usize, out: &mut [u8]) -> usize
     requires { ⌜ 4608 ≤ length (now out) ⌝ }
     ensures { λ n. ⌜ Appends 4608 (now (out .entry)) at
-        (line verdictWord (holdsWord ∷ decimal count ∷ [])) (now (out .exit)) n ⌝ }
+        (line verdictWord (now (verdict .entry) ∷ decimal count ∷ [])) (now (out .exit)) n ⌝ }
 {
     let word = put_word(b"verdict", at, out);
-    let first = then_word(b"holds", word, out);
-    let second = then_number(count, first, out);
-    end_line(second, out)
-}
-
-// Writes the line of a verdict that fails: `verdict fails 23`.
-pub fn put_fails(count: u64, at: usize, out: &mut [u8]) -> usize
-    requires { ⌜ 4608 ≤ length (now out) ⌝ }
-    ensures { λ n. ⌜ Appends 4608 (now (out .entry)) at
-        (line verdictWord (failsWord ∷ decimal count ∷ [])) (now (out .exit)) n ⌝ }
-{
-    let word = put_word(b"verdict", at, out);
-    let first = then_word(b"fails", word, out);
+    let first = then_word(verdict, word, out);
     let second = then_number(count, first, out);
     end_line(second, out)
 }

@@ -8,11 +8,10 @@ use marks::MARKS;
 use marks::PLAN_ROOM;
 use order_plan::entries::order_to_plan;
 use plan_check::entries::check_table;
-use printing::put_fails;
-use printing::put_holds;
 use printing::put_refused;
 use printing::put_task;
 use printing::put_totals;
+use printing::put_verdict;
 use sheets::ALLOWANCE;
 use sheets::SHEET_ROOM;
 use sheets::SheetAnswer;
@@ -81,7 +80,7 @@ pub fn put_failure(
     ensures { λ n. ⌜ Appends 4608 (now (out .entry)) at (findingsIn (accept (now (file .entry))))
         (now (out .exit)) n ⌝ }
 {
-    let verdict = put_fails(w.count, at, out);
+    let verdict = put_verdict(b"fails", w.count, at, out);
     let ordered = put_order(order, verdict, out);
     let flags = w.failed;
     let noted = put_failed(flags, list.count, ordered, out);
@@ -105,7 +104,7 @@ pub fn put_findings(file: &[u8], t: Table, list: JobList, at: usize, out: &mut [
         let size = w.length as usize;
         return put_failure(file, t, list, w, &order[..size], at, out);
     }
-    put_holds(w.count, at, out)
+    put_verdict(b"holds", w.count, at, out)
 }
 
 // Writes the sheet of a file at the front of the text.

@@ -6,6 +6,7 @@ use mathlib.Core.List.{List, [], _∷_, _++_, map}
 use lib.ListN.{length, drop}
 use lib.Dec.{leb}
 use Rattle.notation.specs.Lists.{if_then_else_}
+use Rattle.timing.specs.declared.ListAnswer.{ListAnswer}
 use Rattle.timing.specs.declared.ReadAnswer.{ReadAnswer}
 use Rattle.machine.specs.declared.RunAnswer.{RunAnswer}
 use Rattle.sheets.specs.declared.SheetAnswer.{SheetAnswer}
@@ -23,9 +24,16 @@ wordsOfRun = 43
 abbrev pub wordsOfWalk : ℕ
 wordsOfWalk = 45
 
--- and the sheet
+-- and the job list and the sheet
+abbrev pub wordsOfList : ℕ
+wordsOfList = 3
+
 abbrev pub wordsOfSheet : ℕ
 wordsOfSheet = 3
+
+-- number, place, how many records the job list has
+unfoldable pub listWords : ListAnswer → List ℕ
+listWords a = a .number ∷ a .place ∷ a .jobs ∷ []
 
 -- number, place, how many bytes the sheet has
 unfoldable pub sheetWords : SheetAnswer → List ℕ

@@ -46,9 +46,10 @@ use Rattle.timing.specs.declared.JobRecord.{JobRecord}
 use Rattle.timing.proofs.JobRecord as J
 use Rattle.timing.proofs.ListAnswer as Answer
 use Rattle.job_list.specs.declared.Listed.{Listed}
-use Rattle.job_list.specs.Filled.{listFilled}
+use Rattle.job_list.specs.Code.Filled.{listFilled}
 use Rattle.adqurim.specs.Code.GivenJobs.{GivenAs}
-use Rattle.adqurim.specs.JobWords.{writtenTo, wordsAfter, entryAfter}
+use Rattle.adqurim.specs.JobWords.{wordsAfter, entryAfter}
+use Rattle.words.specs.Words.{listWords, filledWith}
 use Rattle.job_list.proofs.Listed as L
 use Rattle.job_list.proofs.Listed.Laws as L′
 use Rattle.job_list.proofs.count_of as count-of
@@ -236,8 +237,8 @@ module _ {M : Type 1} (𝓤 : URA M) (H : Heap 𝓤) (A : Atoms 𝓤) (W : Given
           move ! (3 ∷ 4 ∷ []) $ use2 W (raw (PutList 𝓤 H A at-mem run .pre (to-put-list x w is-x))) (goes-put-list x w is-x) $
           calls-at ! fm (PutList 𝓤 H A at-mem run) known-put-list (to-put-list x w is-x) (and-then ! (load ! (from ! (stop !)) (look ! 5 refl)) (and-then ! (load ! (from ! (stop !)) (look ! 19 refl)) (no-more !))) (λ v′.
           use1 W (later (some (λ (r′ : Bool). ((‵ (flft κ″ q″) ⊛ ‵ ftrue) ⊛ ‵ (Boolean .own r′ (v′ ∷ []))) ⊛ raw (ensured 𝓤 H A put-list.ended (put-list.clauses 𝓤 H A at-mem run) (κ″, tt) (words, (x, tt)) tt r′)))) (id⊢ 𝓤 _) $ await ! tt $ pick ! (λ r′.
-          split ! $ move ! (1 ∷ []) $ use1 W (some (λ (ws : List ℕ × (Unit {0} × Unit {0})). ‵ (lasts put-list.ended (κ″, tt) (words, (x, tt)) ws) ⊛ raw (fact 𝓤 ((r′ ≡ leb 3 k) × (ws .0 ≡ writtenTo (x .answer) us))))) (id⊢ 𝓤 _) $ pick ! (λ ws.
-          split ! $ move ! (1 ∷ []) $ heard ! ((r′ ≡ leb 3 k) × (ws .0 ≡ writtenTo (x .answer) us)) (λ e₃. fsplit ! $ fsplit ! $ move ! (1 ∷ []) $ feqL ! (λ long′.
+          split ! $ move ! (1 ∷ []) $ use1 W (some (λ (ws : List ℕ × (Unit {0} × Unit {0})). ‵ (lasts put-list.ended (κ″, tt) (words, (x, tt)) ws) ⊛ raw (fact 𝓤 ((r′ ≡ leb 3 k) × (ws .0 ≡ filledWith (listWords (x .answer)) us))))) (id⊢ 𝓤 _) $ pick ! (λ ws.
+          split ! $ move ! (1 ∷ []) $ heard ! ((r′ ≡ leb 3 k) × (ws .0 ≡ filledWith (listWords (x .answer)) us)) (λ e₃. fsplit ! $ fsplit ! $ move ! (1 ∷ []) $ feqL ! (λ long′.
           move ! (2 ∷ []) $ split ! $ move ! (1 ∷ []) $ peeks ! Boolean (Is Boolean) (shows 𝓤 H A Boolean) r′ (v′ ∷ []) (λ is′. move ! (1 ∷ []) $ split ! $
           keep ! (2 ∷ 0 ∷ 3 ∷ 5 ∷ 6 ∷ 7 ∷ 8 ∷ 9 ∷ 10 ∷ 11 ∷ 12 ∷ 13 ∷ 14 ∷ 15 ∷ 16 ∷ 17 ∷ 18 ∷ 19 ∷ 20 ∷ 21 ∷ 22 ∷ 23 ∷ 24 ∷ 25 ∷ 26 ∷ 27 ∷ 28 ∷ 29 ∷ 30 ∷ 31 ∷ 32 ∷ []) $
           land ! (from ! (stop !)) (init ! 29 refl (bool-lawful 𝓤 H A W .typed r′ _ is′ .0)) $

@@ -7,13 +7,14 @@ use lib.ListN.{length}
 use Rattle.taskfile.specs.Records.{File}
 use Rattle.timing.specs.declared.JobRecord.{JobRecord}
 use Rattle.job_list.specs.declared.Listed.{Listed}
-use Rattle.job_list.specs.Filled.{listFilled}
-use Rattle.adqurim.specs.JobWords.{writtenTo, wordsAfter, entryAfter}
+use Rattle.job_list.specs.Code.Filled.{listFilled}
+use Rattle.adqurim.specs.JobWords.{wordsAfter, entryAfter}
+use Rattle.words.specs.Words.{listWords, filledWith}
 
 -- for a list with this room and so many words: they lead to what the entry leaves in both
 pub record GivenAs (x : Listed) (f : File) (room words : ℕ) : Type 0 where
   pub answer : (list : List JobRecord) (ws : List ℕ) → length list ≡ room → length ws ≡ words
-      → writtenTo (x .answer) ws ≡ wordsAfter f list ws
+      → filledWith (listWords (x .answer)) ws ≡ wordsAfter f list ws
   pub after : (list : List JobRecord) (ws : List ℕ) → length list ≡ room → length ws ≡ words
       → listFilled x (x .answer .jobs) list ≡ entryAfter f list ws
   pub most : x .answer .jobs ≤ 32

@@ -14,27 +14,28 @@ use Rattle.timing.specs.declared.JobRecord.{JobRecord}
 use Rattle.timing.specs.declared.ListAnswer.{ListAnswer}
 use Rattle.timing.specs.ReadEntries.{listAnswer, listAfter}
 use Rattle.job_list.specs.declared.Listed.{Listed}
-use Rattle.job_list.specs.Filled.{listFilled, ListedAs}
+use Rattle.job_list.specs.Code.Filled.{listFilled, ListedAs}
 use Rattle.job_list.specs.Laws.FilledLaws.{listFilled-none}
 use Rattle.adqurim.specs.Code.GivenJobs.{GivenAs}
-use Rattle.adqurim.specs.JobWords.{writtenTo, wordsAfter, entryAfter}
+use Rattle.adqurim.specs.JobWords.{wordsAfter, entryAfter}
+use Rattle.words.specs.Words.{listWords, filledWith}
+use Rattle.words.specs.Laws.WordsLaws.{three-stored}
 
 -- without room the words stay as they were
-unwritten : (a : ListAnswer) (words : List ℕ) → leb 3 (length words) ≡ false → words ≡ writtenTo a words
-unfolding writtenTo if_then_else_
+unwritten : (a : ListAnswer) (words : List ℕ) → leb 3 (length words) ≡ false → words ≡ filledWith (listWords a) words
+unfolding filledWith listWords if_then_else_
 unwritten a words e = rw e
 
-pub stays : (a : ListAnswer) (words : List ℕ) → length words < 3 → (false ≡ leb 3 (length words)) × (words ≡ writtenTo a words)
+pub stays : (a : ListAnswer) (words : List ℕ) → length words < 3
+    → (false ≡ leb 3 (length words)) × (words ≡ filledWith (listWords a) words)
 stays a words low = let e = lt-leb _ _ low in (sym e, unwritten a words e)
 
 -- with room the first three are stored
 pub stores : (a : ListAnswer) (words : List ℕ) → 3 ≤ length words
-    → (true ≡ leb 3 (length words)) × (set (set (set words 0 (a .number)) 1 (a .place)) 2 (a .jobs) ≡ writtenTo a words)
-unfolding writtenTo if_then_else_
-stores a [] high = absurd (omega (arith, high))
-stores a (x ∷ []) high = absurd (omega (arith, high))
-stores a (x ∷ y ∷ []) high = absurd (omega (arith, high))
-stores a (x ∷ y ∷ z ∷ words) high = let e = le-leb _ _ high in (sym e, rw e)
+    → (true ≡ leb 3 (length words))
+    × (set (set (set words 0 (a .number)) 1 (a .place)) 2 (a .jobs) ≡ filledWith (listWords a) words)
+unfolding listWords
+stores a words high = (sym (le-leb _ _ high), three-stored words _ _ _ high)
 
 module _ {x : Listed} {f : File} {room words : ℕ} where
   pub given-none : words < 3 → x .answer ≡ record { number = 0; place = 0; jobs = 0 } → GivenAs x f room words
@@ -54,7 +55,7 @@ module _ {x : Listed} {f : File} {room words : ℕ} where
   given-listed high found =
       let wide : (ws : List ℕ) → length ws ≡ words → leb 3 (length ws) ≡ true = λ ws long. le-leb _ _ (subst (λ (m : ℕ). 3 ≤ m) (sym long) high) in
       record {
-        answer = λ list ws long long′. ap (λ (a : ListAnswer). writtenTo a ws) (found .answer list long);
+        answer = λ list ws long long′. ap (λ (a : ListAnswer). filledWith (listWords a) ws) (found .answer list long);
         after = λ list ws long long′. found .after list long ∙ rw (wide ws long′);
         most = found .most;
         within = found .within;

@@ -55,7 +55,7 @@ use Rattle.timing.proofs.ListAnswer as Answer
 use Rattle.timing.proofs.JobRecord as J
 use Rattle.timing.proofs.JobRecord.Laws as J′
 use Rattle.job_list.specs.declared.Listed.{Listed}
-use Rattle.job_list.specs.Filled.{jobRecordOf, listFilled}
+use Rattle.job_list.specs.Code.Filled.{jobRecordOf, listFilled}
 use Rattle.job_list.specs.Laws.FilledLaws.{filled-length, listFilled-none, filled-next}
 use Rattle.job_list.proofs.Listed as L
 use Rattle.job_list.proofs.Listed.Laws as L′

@@ -48,7 +48,7 @@ use Rattle.timing.proofs.JobRecord as J
 use Rattle.timing.proofs.ListAnswer as Answer
 use Rattle.timing.proofs.ListAnswer.Laws as Answer′
 use Rattle.job_list.specs.declared.Listed.{Listed}
-use Rattle.job_list.specs.Filled.{listFilled, ListedAs}
+use Rattle.job_list.specs.Code.Filled.{listFilled, ListedAs}
 use Rattle.job_list.proofs.Listed as L
 use Rattle.job_list.proofs.Listed.Laws as L′
 use Rattle.job_list.proofs.jobs_for as jobs-for

@@ -10,7 +10,7 @@ use lib.Seq.{paste, paste-zero, paste-suc, take-length}
 use Rattle.timing.specs.declared.JobRecord.{JobRecord}
 use Rattle.timing.specs.Relations.{noJob}
 use Rattle.job_list.specs.declared.Listed.{Listed}
-use Rattle.job_list.specs.Filled.{jobRecordOf, listFilled}
+use Rattle.job_list.specs.Code.Filled.{jobRecordOf, listFilled}
 
 pub filled-length : (from : Listed) (n : ℕ) (list : List JobRecord) → length (listFilled from n list) ≡ length list
 unfolding listFilled

@@ -25,7 +25,7 @@ use Rattle.timing.specs.Laws.JobFacts.{jobs-few}
 use Rattle.timing.specs.ReadEntries.{listed, listAnswer, listAnswerOf, listAfter, listAfterOf}
 use Rattle.timing.specs.Relations.{noJob}
 use Rattle.job_list.specs.declared.Listed.{Listed}
-use Rattle.job_list.specs.Filled.{listFilled, ListedAs}
+use Rattle.job_list.specs.Code.Filled.{listFilled, ListedAs}
 use Rattle.job_list.specs.Laws.FilledLaws.{HoldsRecords, listFilled-none, filled-whole}
 
 -- every list with this room is answered so

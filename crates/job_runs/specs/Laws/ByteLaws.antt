@@ -15,7 +15,7 @@ use Rattle.plan.specs.declared.Round.{Round}
 use Rattle.plan.specs.Runs.{Plan, notLater, roundAt}
 use Rattle.marks.specs.declared.Fault.{Fault}
 use Rattle.marks.specs.Code.Marks.{faultOf}
-use Rattle.marks.specs.Code.RunParts.{stepBytesFor}
+use Rattle.plan.specs.Runs.{stepBytesFor}
 
 -- three tests in turn, with the numbers that they refuse by
 record Tried (p q : Bool) (c : Checked ℕ (Unit {0})) : Type 0 where

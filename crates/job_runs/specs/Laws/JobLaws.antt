@@ -25,7 +25,8 @@ use Rattle.snapshots.specs.Code.SnapshotSteps.{ownerIn, instructionIn}
 use Rattle.marks.specs.declared.Fault.{Fault}
 use Rattle.marks.specs.declared.JobRan.{JobRan}
 use Rattle.marks.specs.Code.Marks.{faultOf, storeAt, withStore, runStateIn, stepMarked, stepCount, stepsMarked, withMark, IsMarks}
-use Rattle.marks.specs.Code.RunParts.{Holds, stepBytesFor, NoFault, JobRanAs, JobRanOf}
+use Rattle.marks.specs.Code.RunParts.{Holds, NoFault, JobRanAs, JobRanOf}
+use Rattle.plan.specs.Runs.{stepBytesFor}
 use Rattle.marks.specs.Laws.MarkLaws.{count-here, mark-added, mark-others, mark-whole}
 use Rattle.marks.specs.Laws.StoreLaws.{put-length}
 use Rattle.job_runs.specs.Laws.ByteLaws.{bytes-refused, bytes-passed, bytes-round}

@@ -28,7 +28,8 @@ use Rattle.plan.specs.declared.Round.{Round}
 use Rattle.plan.specs.Runs.{Plan, Step, jobTotal, roundAt, stepBytes, stepEffect, stepMade, runningAfter}
 use Rattle.snapshots.specs.Code.SnapshotSteps.{ownerIn, instructionIn}
 use Rattle.marks.specs.Code.Marks.{runStateIn, storeAt, withStore}
-use Rattle.marks.specs.Code.RunParts.{Holds, stepBytesFor}
+use Rattle.marks.specs.Code.RunParts.{Holds}
+use Rattle.plan.specs.Runs.{stepBytesFor}
 use Rattle.marks.specs.Laws.StoreLaws.{stores-at, put-among}
 use Rattle.job_runs.specs.Laws.FlagLaws.{flag-twice}
 

@@ -3,22 +3,19 @@
 -- Assumes nothing.
 use mathlib.Core.Path.{_≡_}
 use Prim.Native.Nat.{ℕ, _+_, _*_, _≤_, _<_}
-use mathlib.Core.Bool.{_&&_}
 use mathlib.Core.List.{List}
-use lib.ListN.{length, getD}
-use lib.Dec.{ltb, eqb}
-use Rattle.notation.specs.Checked.{Checked, refused, passed, require, _>>_}
-use Rattle.notation.specs.Lists.{if_then_else_, member}
+use lib.ListN.{length}
+use lib.Dec.{eqb}
+use Rattle.notation.specs.Checked.{Checked, refused, passed}
+use Rattle.notation.specs.Lists.{if_then_else_}
 use Rattle.taskfile.specs.Chains.{mostInstructions}
 use Rattle.taskfile.specs.declared.Ceilings.{Ceilings}
-use Rattle.taskfile.specs.declared.Instruction.{Instruction}
 use Rattle.timing.specs.Accepted.{Accepted}
 use Rattle.timing.specs.Code.IsAccepted.{IsAccepted}
 use Rattle.timing.specs.Relations.{IsJob, jobNumbers}
 use Rattle.machine.specs.Ends.{Flags, flagged, noFlags}
-use Rattle.machine.specs.Instructions.{fresh, values}
-use Rattle.plan.specs.declared.Round.{Round}
-use Rattle.plan.specs.Runs.{Plan, JobRun, JobRuns, firstRound, notLater, roundAt, runJob, runJobs, runPlan}
+use Rattle.machine.specs.Instructions.{fresh}
+use Rattle.plan.specs.Runs.{Plan, JobRun, JobRuns, firstRound, runJob, runJobs, runPlan}
 use Rattle.snapshots.specs.Code.Shows.{Lends}
 use Rattle.marks.specs.declared.Fault.{Fault}
 use Rattle.marks.specs.declared.JobRan.{JobRan}
@@ -31,13 +28,6 @@ pub record Holds (a : Accepted) (program times : List ℕ) (locks : Ceilings) (k
   pub ok : IsAccepted a
   pub lends : Lends a program times locks
   pub total : length (a .jobs) ≡ k
-
--- a step's two bytes for an instruction, where there are k rounds: 40, 42, 41
-unfoldable pub stepBytesFor : ℕ → Instruction → Plan → Round → ℕ → Checked ℕ (Unit {0})
-stepBytesFor k instruction plan previous offset = do
-  require (ltb (offset + 1) (length plan)) 40 (length plan)
-  require (ltb (roundAt plan offset .0) k && notLater previous (roundAt plan offset)) 42 offset
-  require (member (getD plan (offset + 1) 0) (values instruction)) 41 (offset + 1)
 
 -- a fault is this refusal
 pub record FaultIs (fault : Fault) (number place : ℕ) : Type 0 where

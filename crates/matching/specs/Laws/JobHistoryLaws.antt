@@ -24,7 +24,7 @@ use Rattle.machine.specs.Ends.{Flags, flagged}
 use Rattle.machine.specs.Instructions.{Store, fresh}
 use Rattle.order.specs.Laws.LengthLaws.{body-short}
 use Rattle.plan.specs.Runs as runs
-use Rattle.plan.specs.Runs.{Plan, JobRun, jobTotal, firstRound, stepBytes, stepEffect, stepMade, runningAfter, runJob}
+use Rattle.plan.specs.Runs.{Plan, JobRun, jobTotal, firstRound, stepBytesFor, stepBytes, stepEffect, stepMade, runningAfter, runJob}
 use Rattle.matching.specs.Laws.Histories.{Mark, ColumnRun, job, round, unbegun, effectOf, stepped, markStep, runMarks}
 use Rattle.matching.specs.Laws.PlanReading.{marksBytes, markOf, stepOf, Allowed, Whole, standing}
 
@@ -50,7 +50,7 @@ mark-stands plan o inside =
 bytes-say : (a : Accepted) (plan : Plan) (x : ℕ) (c : ColumnRun) (previous o : ℕ) {u : Unit {0}}
     → stepBytes a plan (job x) (c .column .local) (round previous) o ≡ passed u
     → (o + 1 < length plan) × Allowed a x previous (markAt plan o) c
-unfolding stepBytes markAt
+unfolding stepBytes stepBytesFor markAt
 bytes-say a plan x c previous o e =
     let first = then-passed (require (ltb (o + 1) (length plan)) 40 (length plan)) _ e in
     let second = then-passed (require (ltb (getD plan o 0) (jobTotal a) && leb previous (getD plan o 0)) 42 o) _ (first .2) in

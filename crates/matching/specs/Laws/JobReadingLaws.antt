@@ -29,7 +29,7 @@ use Rattle.machine.specs.Ends.{Flags, flagged}
 use Rattle.machine.specs.Instructions.{Store, fresh, values}
 use Rattle.order.specs.Laws.LengthLaws.{body-short}
 use Rattle.plan.specs.declared.Round.{Round}
-use Rattle.plan.specs.Runs.{Plan, Step, JobRun, jobTotal, firstRound, stepBytes, stepEffect, stepMade, runningAfter, runJob}
+use Rattle.plan.specs.Runs.{Plan, Step, JobRun, jobTotal, firstRound, stepBytesFor, stepBytes, stepEffect, stepMade, runningAfter, runJob}
 use Rattle.matching.specs.Laws.Histories.{Mark, ColumnRun, job, round, unbegun, effectOf, stepped, markStep, runMarks}
 use Rattle.matching.specs.Laws.PlanReading.{marksBytes, stepOf, Allowed, Whole, standing}
 
@@ -91,7 +91,7 @@ module _ (a : Accepted) (plan : Plan) (x : ℕ) (o : ℕ) {m : Mark} {rest : Lis
   -- the mark's two bytes are allowed
   mark-passes : {previous : ℕ} → Allowed a x previous m c
       → stepBytes a plan (job x) (c .column .local) (round previous) o ≡ passed tt
-  unfolding stepBytes
+  unfolding stepBytes stepBytesFor
   mark-passes {previous} allowed =
       let below : getD plan o 0 < jobTotal a = omega (arith, two .first, allowed .inPlan) in
       let offer = values (instructionOf (a .table) (jobAt a (job x) .task) (c .column .local .next)) in

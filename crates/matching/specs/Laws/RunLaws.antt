@@ -28,7 +28,7 @@ use Rattle.machine.specs.Instructions.{fresh}
 use Rattle.plan.specs.declared.Round.{Round}
 use Rattle.plan.specs.Legality.{stepsOf, roundsOf, start, end}
 use Rattle.plan.specs.Plans.{Legal}
-use Rattle.plan.specs.Runs.{Plan, Step, RunState, JobRun, JobRuns, jobTotal, firstRound, stepBytes, stepEffect, stepMade, runningAfter, runJob, runJobs, runStart, runPlan}
+use Rattle.plan.specs.Runs.{Plan, Step, RunState, JobRun, JobRuns, jobTotal, firstRound, stepBytesFor, stepBytes, stepEffect, stepMade, runningAfter, runJob, runJobs, runStart, runPlan}
 use Rattle.notation.specs.Laws.CountLaws.{Distinct, Bounded, countBelow, countBelow-is, every-value}
 use Rattle.matching.specs.Laws.Histories.{job}
 use Rattle.matching.specs.Laws.LegalLaws.{roundOf, Rising, legal-run, ends-tell}
@@ -84,7 +84,7 @@ module _ (a : Accepted) (plan : Plan) where
   step-round : (x : Job) (local : Local) (previous : Round) (offset : ℕ) {u : Unit {0}}
       → stepBytes a plan x local previous offset ≡ passed u
       → (previous .0 ≤ getD plan offset 0) × (getD plan offset 0 < jobTotal a)
-  unfolding stepBytes
+  unfolding stepBytes stepBytesFor
   step-round x local previous offset e =
       let first = then-passed (require (ltb (offset + 1) (length plan)) 40 (length plan)) _ e in
       let test : Bool = ltb (getD plan offset 0) (jobTotal a) && leb (previous .0) (getD plan offset 0) in

@@ -5,7 +5,7 @@ use Rattle.plan.specs.Plans
 use Rattle.plan.specs.Runs
 
 unfoldable pub plansOpened : Unit {0}
-unfolding Runs.guess Runs.jobTotal Runs.roundNumbers Runs.stepBytes Runs.stepEffect Runs.stepMade Runs.runningAfter Runs.runJob
+unfolding Runs.guess Runs.jobTotal Runs.roundNumbers Runs.stepBytesFor Runs.stepBytes Runs.stepEffect Runs.stepMade Runs.runningAfter Runs.runJob
     Runs.runJobs Runs.runStart Runs.runPlan Legality.stepsOf Legality.roundsOf Legality.start Legality.end
     Legality.beforeRule Legality.apart Legality.nested Legality.noStepWithin Legality.preemptRule
     Legality.priorityAt Legality.lockRule Legality.pairs Legality.orderFault Legality.lockFault

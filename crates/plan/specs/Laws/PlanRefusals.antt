@@ -12,12 +12,12 @@ use Rattle.machine.specs.declared.Local.{Local}
 use Rattle.plan.specs.declared.Round.{Round}
 use Rattle.plan.specs.Legality.{legality}
 use Rattle.plan.specs.Plans.{legalRun, checkPlan}
-use Rattle.plan.specs.Runs.{Plan, RunState, JobRuns, stepBytes, runJob, runJobs, runPlan}
+use Rattle.plan.specs.Runs.{Plan, RunState, JobRuns, stepBytesFor, stepBytes, runJob, runJobs, runPlan}
 
 module _ (a : Accepted) (plan : Plan) where
   bytes-numbered : (x : Job) (local : Local) (previous : Round) (offset : ℕ)
       → Numbered (stepBytes a plan x local previous offset)
-  unfolding stepBytes
+  unfolding stepBytes stepBytesFor
   bytes-numbered x local previous offset =
       then-numbered (require _ 40 _) (require-numbered _ 40 _ (omega arith))
       (then-numbered (require _ 42 offset) (require-numbered _ 42 offset (omega arith))

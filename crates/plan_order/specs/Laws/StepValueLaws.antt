@@ -27,7 +27,7 @@ use Rattle.matching.specs.Laws.OfferedLaws.{job-offered}
 use Rattle.plan.specs.declared.Round.{Round}
 use Rattle.plan.specs.Plans.{Legal}
 use Rattle.plan.specs.Runs as runs
-use Rattle.plan.specs.Runs.{Plan, Step, RunState, JobRun, JobRuns, jobTotal, firstRound, roundAt, notLater, stepBytes, runJob, runJobs, runStart, runPlan}
+use Rattle.plan.specs.Runs.{Plan, Step, RunState, JobRun, JobRuns, jobTotal, firstRound, roundAt, notLater, stepBytesFor, stepBytes, runJob, runJobs, runStart, runPlan}
 
 -- a step's value is below 16
 abbrev pub Small : Step → Type 0
@@ -37,7 +37,7 @@ module _ {a : Accepted} (ok : IsAccepted a) (plan : Plan) where
   -- a value that passed is on offer
   bytes-small : (x : Job) → IsJob a x → (local : Local) (previous : Round) (offset : ℕ) {u : Unit {0}}
       → stepBytes a plan x local previous offset ≡ passed u → getD plan (offset + 1) 0 < 16
-  unfolding stepBytes
+  unfolding stepBytes stepBytesFor
   bytes-small x isJob local previous offset e =
       let first = then-passed (require (ltb (offset + 1) (length plan)) 40 (length plan)) _ e in
       let second = then-passed

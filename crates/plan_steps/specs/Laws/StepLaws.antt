@@ -17,7 +17,7 @@ use Rattle.plan.specs.declared.Round.{Round}
 use Rattle.plan.specs.Runs.{Plan}
 use Rattle.marks.specs.declared.Fault.{Fault}
 use Rattle.marks.specs.Code.Marks.{faultOf, withMark}
-use Rattle.marks.specs.Code.RunParts.{stepBytesFor}
+use Rattle.plan.specs.Runs.{stepBytesFor}
 
 -- ---- the step's two bytes, judged in the order 40, 42, 41
 

@@ -5,6 +5,7 @@ use lib.Seq.{length-take-le}
 use borrow.Author.Needs.{needs}
 use denote.Enum.Declared.{tagOf}
 use Rattle.walk.proofs.Verdict.{the-type}
+use Rattle.sheets.specs.Texts.{holdsWord}
 use Rattle.sheet_lines.specs.Laws.FindingLaws.{order-room, other-verdict, findings-refused}
 use Rattle.sheet_lines.specs.Laws.FindingLaws.{findings-fail, findings-holds}
 use Rattle.sheet_lines.proofs.put_findings.Statement.{statement}
@@ -66,18 +67,22 @@ same-length-2 c = search needs
 returns-2 : tie.Need-returns-2
 returns-2 c = search needs
 
-put-holds-requires : tie.Need-put-holds-requires
-put-holds-requires c κs = search needs
+slice-aggregate-put-verdict : tie.Need-slice-aggregate-put-verdict
+slice-aggregate-put-verdict c = search needs
+
+put-verdict-requires : tie.Need-put-verdict-requires
+put-verdict-requires c κs = search needs
 
 same-length-3 : tie.Need-same-length-3
 same-length-3 c = search needs
 
 returns-3 : tie.Need-returns-3
+unfolding holdsWord
 returns-3 c =
-    let start = c .before .before .before .before .before .before .before .before .before .before .before .before .pre in
-    let walked = c .before .before .before .before .before .before .before .before in
-    findings-holds (start .2) _ order-room (walked .walk-file .ensures .0) (walked .walk-file .ensures .1) (c .before .before .before .before .before .if1 .left)
-    (λ e. other-verdict (ap (tagOf the-type) e) (c .before .before .before .before .match .keys2)) (c .before .before .put-holds .ensures)
+    let start = c .before .before .before .before .before .before .before .before .before .before .before .before .before .pre in
+    let walked = c .before .before .before .before .before .before .before .before .before in
+    findings-holds (start .2) _ order-room (walked .walk-file .ensures .0) (walked .walk-file .ensures .1) (c .before .before .before .before .before .before .if1 .left)
+    (λ e. other-verdict (ap (tagOf the-type) e) (c .before .before .before .before .before .match .keys2)) (c .before .before .put-verdict .ensures)
 
 pub put-findings-spec : {M : Type 1} → statement M
 put-findings-spec =
@@ -97,6 +102,7 @@ put-findings-spec =
     put-failure-requires
     same-length-2
     returns-2
-    put-holds-requires
+    slice-aggregate-put-verdict
+    put-verdict-requires
     same-length-3
     returns-3)

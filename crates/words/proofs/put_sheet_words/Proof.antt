@@ -3,6 +3,7 @@
 use native.Mathlib.Omega.{arith}
 use lib.ListN.{length-set}
 use borrow.Author.Needs.{needs}
+use Rattle.words.specs.Words.{sheetWords}
 use Rattle.words.specs.Laws.WordsLaws.{three-stored}
 use Rattle.words.proofs.put_sheet_words.Statement.{statement}
 use Rattle.words.proofs.put_sheet_words.Tie as tie
@@ -29,7 +30,8 @@ same-length : tie.Need-same-length
 same-length c = search needs
 
 returns : tie.Need-returns
-returns c = three-stored _ _ (c .before .before .before .pre)
+unfolding sheetWords
+returns c = three-stored _ _ _ _ (c .before .before .before .pre)
 
 pub put-sheet-words-spec : {M : Type 1} → statement M
 put-sheet-words-spec =

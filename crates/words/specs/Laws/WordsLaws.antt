@@ -15,9 +15,8 @@ use Rattle.notation.specs.Lists.{if_then_else_}
 use Rattle.notation.specs.Laws.QuantifierLaws.{map-length, map-at}
 use Rattle.timing.specs.declared.ReadAnswer.{ReadAnswer}
 use Rattle.machine.specs.declared.RunAnswer.{RunAnswer}
-use Rattle.sheets.specs.declared.SheetAnswer.{SheetAnswer}
 use Rattle.walk.specs.declared.WalkAnswer.{WalkAnswer}
-use Rattle.words.specs.Words.{wordsOfSheet, sheetWords, wordsOfRead, wordsOfRun, wordsOfWalk, flag, readWords, verdictNumber, runPart, runWords, walkWords, filledWith}
+use Rattle.words.specs.Words.{wordsOfRead, wordsOfRun, wordsOfWalk, flag, readWords, verdictNumber, runPart, runWords, walkWords, filledWith}
 
 -- ---- words stored one by one
 
@@ -178,13 +177,13 @@ module _ (x : WalkAnswer) (variables : length (x .store) ≡ 8) (jobs : length (
       let verdict-put = stored-more run-put (omega (arith, walk-length)) (verdict-at is) in
       stored-all (stored-more verdict-put (omega (arith, walk-length)) count-at) (omega (arith, walk-length))
 
--- ---- the sheet's words
+-- ---- three words
 
 -- three stores at the front
-pub three-stored : (lent : List ℕ) (x : SheetAnswer) → wordsOfSheet ≤ length lent
-    → set (set (set lent 0 (x .number)) 1 (x .place)) 2 (x .length) ≡ filledWith (sheetWords x) lent
-unfolding filledWith sheetWords if_then_else_
-three-stored [] x room = absurd (omega arith)
-three-stored (a ∷ []) x room = absurd (omega arith)
-three-stored (a ∷ b ∷ []) x room = absurd (omega arith)
-three-stored (a ∷ b ∷ c ∷ rest) x room = rw (le-leb 3 (length (a ∷ b ∷ c ∷ rest)) room) refl
+pub three-stored : (lent : List ℕ) (x y z : ℕ) → 3 ≤ length lent
+    → set (set (set lent 0 x) 1 y) 2 z ≡ filledWith (x ∷ y ∷ z ∷ []) lent
+unfolding filledWith if_then_else_
+three-stored [] x y z room = absurd (omega arith)
+three-stored (a ∷ []) x y z room = absurd (omega arith)
+three-stored (a ∷ b ∷ []) x y z room = absurd (omega arith)
+three-stored (a ∷ b ∷ c ∷ rest) x y z room = rw (le-leb 3 (length (a ∷ b ∷ c ∷ rest)) room) refl
