@@ -4,6 +4,7 @@
 use Prim.Native.Nat.{ℕ}
 use mathlib.Core.Bool.{Bool, true, false}
 use mathlib.Core.List.{List, [], _∷_}
+use mathlib.Core.Option.{Option, none, some}
 use Rattle.notation.specs.Lists.{if_then_else_}
 
 -- `P` is what a place is: a record, a step's index, an offset, a job or a round.
@@ -23,6 +24,11 @@ _>>_ (passed value) rest = rest
 unfoldable pub require : {P : Type 0} → Bool → ℕ → P → Checked P (Unit {0})
 require true number place = passed tt
 require false number place = refused number place
+
+-- refuses unless there is a value, and passes it on
+unfoldable pub given : {P A : Type 0} → Option A → ℕ → P → Checked P A
+given none number place = refused number place
+given (some value) number place = passed value
 
 -- refuses at the first of the listed places where the fault stands
 unfoldable pub noneOf : {P : Type 0} → ℕ → (P → Bool) → List P → Checked P (Unit {0})

@@ -3,14 +3,13 @@
 -- Assumes nothing.
 use Prim.Native.Nat.{ℕ}
 use mathlib.Core.List.{List, [], _∷_}
-use mathlib.Core.Option.{Option, none, some}
 use lib.ListN.{length, getD}
 use lib.Dec.{leb}
 use Rattle.taskfile.specs.declared.Site.{Site}
 use Rattle.taskfile.specs.declared.Site.the-variants.{AtHeader, AtTask}
 use Rattle.taskfile.specs.declared.Table.{Table}
 use Rattle.taskfile.specs.declared.Task.{Task}
-use Rattle.notation.specs.Checked.{Checked, refused, passed, require, placedBy, _>>=_, _>>_}
+use Rattle.notation.specs.Checked.{Checked, passed, require, given, placedBy, _>>=_, _>>_}
 use Rattle.taskfile.specs.File.{load, recordAt}
 use Rattle.taskfile.specs.Judgement.{taskNumbers}
 use Rattle.taskfile.specs.Records.{File}
@@ -23,14 +22,10 @@ abbrev pub mostJobs : ℕ
 mostJobs = 32
 
 -- "10 OVERLOAD: no R ≤ P; the lowest such task's record."
-unfoldable pub bounded : Task → Option ℕ → Checked Site ℕ
-bounded i none = refused 10 (AtTask i)
-bounded i (some R) = passed R
-
 unfoldable pub responsesOf : Table → List Task → Checked Site (List ℕ)
 responsesOf t [] = passed []
 responsesOf t (i ∷ others) = do
-  R ← bounded i (responseOf t i)
+  R ← given (responseOf t i) 10 (AtTask i)
   Rs ← responsesOf t others
   passed (R ∷ Rs)
 

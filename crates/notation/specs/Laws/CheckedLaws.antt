@@ -5,9 +5,10 @@ use native.Mathlib.Omega.{arith}
 use mathlib.Core.Path.{_≡_, refl, ap, _∙_}
 use mathlib.Core.Bool.{Bool, true, false}
 use mathlib.Core.List.{List, List·Memᴰ, List·Memᴰ·head, List·Memᴰ·tail, [], _∷_}
+use mathlib.Core.Option.{Option, none, some}
 use lib.ListN.{length, getD}
 use lib.Dec.{T}
-use Rattle.notation.specs.Checked.{Checked, refused, passed, require, noneOf, placedBy, _>>=_, _>>_}
+use Rattle.notation.specs.Checked.{Checked, refused, passed, require, given, noneOf, placedBy, _>>=_, _>>_}
 use Rattle.notation.specs.Lists.{if_then_else_, same}
 use Rattle.notation.specs.Laws.ListLaws.{getD-member}
 use mathlib.Core.Logic.{_⊎_, inl, inr}
@@ -47,6 +48,13 @@ pub require-of : {P : Type 0} (test : Bool) (number : ℕ) (place : P) → T tes
 unfolding require
 require-of true number place t = refl
 require-of false number place t = absurd t
+
+-- a value that was asked for and passed on was there
+pub given-passed : {P A : Type 0} (o : Option A) (number : ℕ) (place : P) {x : A} → given o number place ≡ passed x
+    → o ≡ some x
+unfolding given
+given-passed none number place e = refused-passed e
+given-passed (some y) number place e = ap some (passed-same e)
 
 -- a check that passed with its places renamed passed
 pub placed-passed : {P Q A : Type 0} (f : P → Q) (c : Checked P A) {x : A} → placedBy f c ≡ passed x → c ≡ passed x
@@ -106,6 +114,13 @@ unfolding _>>_
 then-goes d e = rw e
 
 -- ---- what a refusal says
+
+-- it stands where a value was asked for
+pub given-refused : {P A : Type 0} (o : Option A) (number : ℕ) (place : P) {n : ℕ} {p : P}
+    → given o number place ≡ refused n p → p ≡ place
+unfolding given
+given-refused none number place e = cc
+given-refused (some x) number place e = absurd (let z : _≡_ {A = ℕ} 0 1 = cc in omega arith)
 
 -- the place of a refusal is a listed one
 pub first-listed : {P : Type 0} (number : ℕ) (b : Bool) (q : P) (places : List P) (rest : Checked P (Unit {0}))

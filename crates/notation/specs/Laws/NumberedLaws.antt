@@ -3,7 +3,8 @@
 use Prim.Native.Nat.{ℕ, _≤_}
 use mathlib.Core.Bool.{Bool, true, false}
 use mathlib.Core.List.{List, [], _∷_}
-use Rattle.notation.specs.Checked.{Checked, refused, passed, require, noneOf, placedBy, _>>=_, _>>_}
+use mathlib.Core.Option.{Option, none, some}
+use Rattle.notation.specs.Checked.{Checked, refused, passed, require, given, noneOf, placedBy, _>>=_, _>>_}
 use Rattle.notation.specs.Lists.{if_then_else_}
 
 pub data Numbered {P A : Type 0} : Checked P A → Type 0 where
@@ -26,6 +27,12 @@ pub require-numbered : {P : Type 0} (test : Bool) (number : ℕ) (place : P) →
 unfolding require
 require-numbered true number place h = none-asked
 require-numbered false number place h = by-number h
+
+pub given-numbered : {P A : Type 0} (o : Option A) (number : ℕ) (place : P) → 1 ≤ number
+    → Numbered (given o number place)
+unfolding given
+given-numbered none number place h = by-number h
+given-numbered (some value) number place h = none-asked
 
 pub choice-numbered : {P A : Type 0} (test : Bool) {c d : Checked P A} → Numbered c → Numbered d
     → Numbered (if test then c else d)

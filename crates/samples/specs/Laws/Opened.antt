@@ -20,7 +20,7 @@ use Rattle.machine.specs.Held
 use Rattle.machine.specs.Instructions
 
 unfoldable pub notationOpened : Unit {0}
-unfolding Checked._>>=_ Checked._>>_ Checked.require Checked.noneOf Checked.placedBy Lists.if_then_else_
+unfolding Checked._>>=_ Checked._>>_ Checked.require Checked.given Checked.noneOf Checked.placedBy Lists.if_then_else_
     Lists.from Lists.upTo Lists.member Lists.all Lists.any Lists.only Lists.firstWith Lists.each Lists.same
     Lists.firstOr Lists.lastOr Lists.sum Lists.padded
 notationOpened = tt
@@ -53,8 +53,8 @@ fileOpened = tt
 
 unfoldable pub timingOpened : Unit {0}
 unfolding Response.roundedUp Response.tasksAbove Response.interference Response.demand Response.smallest
-    Jobs.arrivalOf Jobs.jobsWithin Jobs.jobCount Jobs.jobOf Jobs.jobsOfTask Jobs.jobsOf Accepted.bounded
-    Accepted.responsesOf Accepted.timed Accepted.accept Relations.jobAt Relations.jobNumbers Relations.base
+    Jobs.arrivalOf Jobs.jobsWithin Jobs.jobCount Jobs.jobOf Jobs.jobsOfTask Jobs.jobsOf Accepted.responsesOf
+    Accepted.timed Accepted.accept Relations.jobAt Relations.jobNumbers Relations.base
     Relations.before Relations.mayPreempt ReadEntries.readAnswerOf ReadEntries.readAnswer ReadEntries.listed
     ReadEntries.listAnswerOf ReadEntries.listAfterOf ReadEntries.listAnswer ReadEntries.listAfter
 timingOpened = tt

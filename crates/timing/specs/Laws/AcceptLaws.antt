@@ -5,7 +5,6 @@ use mathlib.Core.Logic.{inl, inr}
 use Prim.Native.Nat.{ℕ, suc, _≤_, _<_}
 use native.Mathlib.Omega.{arith}
 use mathlib.Core.List.{List, [], _∷_, map, List·Memᴰ, List·Memᴰ·head, List·Memᴰ·tail}
-use mathlib.Core.Option.{Option, none, some}
 use lib.ListN.{length, getD, replicate}
 use lib.Dec.{leb}
 use borrow.Author.Tests.{le-leb, lt-leb}
@@ -18,8 +17,8 @@ use Rattle.taskfile.specs.declared.Table.{Table}
 use Rattle.taskfile.specs.declared.Task.{Task}
 use Rattle.taskfile.specs.Chains.{Chains}
 use Rattle.taskfile.specs.Laws.ChainLaws.{chains-linked, InTable, in-table-sited, site-record, table-shaped}
-use Rattle.notation.specs.Checked.{Checked, refused, passed, placedBy, _>>=_}
-use Rattle.notation.specs.Laws.CheckedLaws.{passed-same, bind-passed, require-holds, require-fails, bind-refused, bind-goes, bind-refuses}
+use Rattle.notation.specs.Checked.{Checked, refused, passed, given, placedBy, _>>=_}
+use Rattle.notation.specs.Laws.CheckedLaws.{passed-same, bind-passed, require-holds, require-fails, bind-refused, bind-goes, bind-refuses, given-refused}
 use Rattle.taskfile.specs.File.{Loaded, load, recordAt}
 use Rattle.taskfile.specs.Judgement.{numbered, taskNumbers}
 use Rattle.taskfile.specs.Laws.LoadLaws.{load-parts, task-in}
@@ -35,7 +34,7 @@ use Rattle.timing.specs.declared.AcceptAnswer.{AcceptAnswer}
 use Rattle.timing.specs.declared.JobList.{JobList}
 use Rattle.timing.specs.declared.JobRecord.{JobRecord}
 use Rattle.timing.specs.declared.Responses.{Responses}
-use Rattle.timing.specs.Accepted.{Accepted, mostJobs, bounded, responsesOf, timed, accept}
+use Rattle.timing.specs.Accepted.{Accepted, mostJobs, responsesOf, timed, accept}
 use Rattle.timing.specs.Code.AcceptParts.{AcceptedParts, AcceptedAs}
 use Rattle.timing.specs.Laws.JobLaws.{responses-found}
 use Rattle.timing.specs.Code.JobParts.{jobListOf, WithinPeriods}
@@ -74,19 +73,14 @@ loaded-passed x (passed loaded) h e = (loaded, refl, h .1)
 
 -- ---- response times that were looked for
 
-bounded-refused : (i : Task) (o : Option ℕ) {n : ℕ} {s : Site} → bounded i o ≡ refused n s → s ≡ AtTask i
-unfolding bounded
-bounded-refused i none e = cc
-bounded-refused i (some R) e = absurd (let z : _≡_ {A = ℕ} 0 1 = cc in omega arith)
-
 -- the refusal stands at one of the tasks
 responses-refused : (t : Table) (is : List Task) {n : ℕ} {s : Site} → responsesOf t is ≡ refused n s
     → (i : Task) × List·Memᴰ i is × (s ≡ AtTask i)
 unfolding responsesOf
 responses-refused t [] e = absurd (let z : _≡_ {A = ℕ} 0 1 = cc in omega arith)
 responses-refused t (i ∷ is) {n} {s} e =
-    elim (bind-refuses (bounded i (responseOf t i)) _ e) [
-      | inl here ↦ (i, List·Memᴰ·head refl, bounded-refused i (responseOf t i) here)
+    elim (bind-refuses (given (responseOf t i) 10 (AtTask i)) _ e) [
+      | inl here ↦ (i, List·Memᴰ·head refl, given-refused (responseOf t i) 10 (AtTask i) here)
       | inr goes ↦
           elim (bind-refuses (responsesOf t is) (λ Rs. passed (goes .0 ∷ Rs)) (goes .1)) [
             | inl later ↦ let task = responses-refused t is later in (task .0, List·Memᴰ·tail (task .1), task .2)
@@ -110,7 +104,7 @@ pub responses-length : (t : Table) (is : List Task) {Rs : List ℕ} → response
 unfolding responsesOf
 responses-length t [] e = ap length (sym (passed-same e))
 responses-length t (i ∷ is) e =
-    let first = bind-passed (bounded i (responseOf t i)) (λ R. _>>=_ (responsesOf t is) (λ Qs. passed (R ∷ Qs))) e in
+    let first = bind-passed (given (responseOf t i) 10 (AtTask i)) (λ R. _>>=_ (responsesOf t is) (λ Qs. passed (R ∷ Qs))) e in
     let others = bind-passed (responsesOf t is) (λ Qs. passed (first .0 ∷ Qs)) (first .2) in
     ap length (sym (passed-same (others .2))) ∙ ap suc (responses-length t is (others .1))
 

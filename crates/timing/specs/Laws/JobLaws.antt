@@ -7,14 +7,14 @@ use Prim.Native.Nat.{ℕ, zero, suc, _+_, _≤_, _<_}
 use native.Mathlib.Nat.{mul-lt-mul-of-pos-right}
 use native.Mathlib.Omega.{arith}
 use mathlib.Core.List.{List, [], _∷_}
-use mathlib.Core.Option.{Option, none, some}
+use mathlib.Core.Option.{some}
 use lib.ListN.{length, getD}
 use lib.Dec.{leb, leb→le}
-use Rattle.taskfile.specs.declared.Site.the-variants.{AtHeader}
+use Rattle.taskfile.specs.declared.Site.the-variants.{AtHeader, AtTask}
 use Rattle.taskfile.specs.declared.Table.{Table}
 use Rattle.taskfile.specs.declared.Task.{Task}
-use Rattle.notation.specs.Checked.{passed, require, _>>=_, _>>_}
-use Rattle.notation.specs.Laws.CheckedLaws.{refused-passed, passed-same, bind-passed, then-passed, require-passed}
+use Rattle.notation.specs.Checked.{passed, require, given, _>>=_, _>>_}
+use Rattle.notation.specs.Laws.CheckedLaws.{passed-same, bind-passed, then-passed, require-passed, given-passed}
 use Rattle.taskfile.specs.Judgement.{taskNumbers}
 use Rattle.notation.specs.Lists.{from, upTo}
 use Rattle.notation.specs.Laws.PairLaws.{every-of, every-imp, every-map, ordered-map, ordered-imp, every-each, ordered-each, from-rises}
@@ -22,7 +22,7 @@ use Rattle.notation.specs.Ordered.{Every, Ordered}
 use Rattle.taskfile.specs.Laws.TableLaws.{taskNumbers-length, taskNumbers-at, every-task, tasks-rise}
 use Rattle.taskfile.specs.Tables.{tasksOf, taskOf}
 use Rattle.timing.specs.declared.JobRecord.{JobRecord}
-use Rattle.timing.specs.Accepted.{Accepted, mostJobs, timed, bounded, responsesOf}
+use Rattle.timing.specs.Accepted.{Accepted, mostJobs, timed, responsesOf}
 use Rattle.timing.specs.Jobs.{arrivalOf, jobsWithin, jobOf, jobsOfTask, jobsOf, jobCount}
 use Rattle.timing.specs.Response.{IsResponse, responseOf}
 use Rattle.timing.specs.Laws.ResponseLaws.{response-found}
@@ -30,19 +30,14 @@ use Rattle.timing.specs.Code.IsAccepted.{Timed}
 
 -- ---- what acceptance says of the response times
 
-bounded-passed : (i : Task) (o : Option ℕ) {R : ℕ} → bounded i o ≡ passed R → o ≡ some R
-unfolding bounded
-bounded-passed i none e = refused-passed e
-bounded-passed i (some Q) e = cc
-
 -- the response times of a list of tasks are that of the first, and those of the others
 responses-cons : (t : Table) (i : Task) (is : List Task) {Rs : List ℕ} → responsesOf t (i ∷ is) ≡ passed Rs
     → (R : ℕ) × (Qs : List ℕ) × (responseOf t i ≡ some R) × (responsesOf t is ≡ passed Qs) × (R ∷ Qs ≡ Rs)
 unfolding responsesOf
 responses-cons t i is {Rs} e =
-    let first = bind-passed (bounded i (responseOf t i)) (λ R. _>>=_ (responsesOf t is) (λ Qs. passed (R ∷ Qs))) e in
+    let first = bind-passed (given (responseOf t i) 10 (AtTask i)) (λ R. _>>=_ (responsesOf t is) (λ Qs. passed (R ∷ Qs))) e in
     let others = bind-passed (responsesOf t is) (λ Qs. passed (first .0 ∷ Qs)) (first .2) in
-    (first .0, others .0, bounded-passed i (responseOf t i) (first .1), others .1, passed-same (others .2))
+    (first .0, others .0, given-passed (responseOf t i) 10 (AtTask i) (first .1), others .1, passed-same (others .2))
 
 -- each listed task's response time stands at the task's place in the list
 pub responses-found : (t : Table) (is : List Task) {Rs : List ℕ} → responsesOf t is ≡ passed Rs

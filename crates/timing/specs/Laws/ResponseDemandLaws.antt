@@ -14,7 +14,7 @@ use Rattle.taskfile.specs.declared.Site.{Site}
 use Rattle.taskfile.specs.declared.Site.the-variants.{AtHeader, AtTask}
 use Rattle.taskfile.specs.declared.Table.{Table}
 use Rattle.taskfile.specs.declared.Task.{Task}
-use Rattle.notation.specs.Checked.{Checked, refused, passed, require, placedBy, _>>=_, _>>_}
+use Rattle.notation.specs.Checked.{Checked, refused, passed, require, given, placedBy, _>>=_, _>>_}
 use Rattle.notation.specs.Laws.CheckedLaws.{bind-refused, bind-goes, bind-passes, placed-refused}
 use Rattle.taskfile.specs.File.{Loaded, load, recordAt}
 use Rattle.taskfile.specs.Judgement.{numbered, taskNumbers}
@@ -23,7 +23,7 @@ use Rattle.taskfile.specs.Laws.NumberLaws.{load-number}
 use Rattle.notation.specs.Laws.PaddedLaws.{padded-any}
 use Rattle.taskfile.specs.Records.{File}
 use Rattle.taskfile.specs.Laws.TableLaws.{taskNumbers-length, taskNumbers-at}
-use Rattle.timing.specs.Accepted.{Accepted, mostJobs, bounded, responsesOf, timed, accept}
+use Rattle.timing.specs.Accepted.{Accepted, mostJobs, responsesOf, timed, accept}
 use Rattle.timing.specs.Laws.AcceptedLaws.{file-accepted}
 use Rattle.timing.specs.Laws.AcceptLaws.{loaded-timeable, responses-length}
 use Rattle.timing.specs.Laws.JobLaws.{response-of}
@@ -66,12 +66,12 @@ record FirstLate (t : Table) (is : List Task) (site : Site) : Type 0 where
   named : AtTask (getD is place (numbered 0)) ≡ site
 
 responses-late : (t : Table) (is : List Task) {n : ℕ} {s : Site} → responsesOf t is ≡ refused n s → FirstLate t is s
-unfolding responsesOf bounded _>>=_
+unfolding responsesOf given _>>=_
 responses-late t [] e = absurd (let z : _≡_ {A = ℕ} 0 1 = cc in omega arith)
 responses-late t (i ∷ is) {n} {s} e = go (responseOf t i) refl e (λ later. responses-late t is later)
   where
     go : (o : Option ℕ) → responseOf t i ≡ o
-        → _>>=_ (bounded i o) (λ R. _>>=_ (responsesOf t is) (λ Rs. passed (R ∷ Rs))) ≡ refused n s
+        → _>>=_ (given o 10 (AtTask i)) (λ R. _>>=_ (responsesOf t is) (λ Rs. passed (R ∷ Rs))) ≡ refused n s
         → (responsesOf t is ≡ refused n s → FirstLate t is s) → FirstLate t (i ∷ is) s
     go none o e later =
         record { place = 0; inside = omega arith; late = o; before = λ k lt. absurd (omega arith); named = cc }
@@ -95,7 +95,7 @@ late-responses : (t : Table) (is : List Task) (place : ℕ) → place < length i
     → responseOf t (getD is place (numbered 0)) ≡ none
     → ((k : ℕ) → k < place → (R : ℕ) × (responseOf t (getD is k (numbered 0)) ≡ some R))
     → responsesOf t is ≡ refused 10 (AtTask (getD is place (numbered 0)))
-unfolding responsesOf bounded _>>=_
+unfolding responsesOf given _>>=_
 late-responses t [] place inside late before = absurd (omega arith)
 late-responses t (i ∷ is) zero inside late before = rw late
 late-responses t (i ∷ is) (suc place) inside late before =

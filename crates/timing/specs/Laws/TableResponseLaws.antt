@@ -11,7 +11,7 @@ use lib.ListN.{length, drop, set, replicate, length-set, drop-of-length-le}
 use lib.Seq.{drop-cons, drop-set-lt, getD-set-same}
 use Rattle.taskfile.specs.declared.Site.the-variants.{AtTask}
 use Rattle.taskfile.specs.declared.Table.{Table}
-use Rattle.notation.specs.Checked.{refused, passed, _>>=_}
+use Rattle.notation.specs.Checked.{refused, passed, given, _>>=_}
 use Rattle.taskfile.specs.Judgement.{numbered, taskNumbers}
 use Rattle.taskfile.specs.Code.JudgingParts.{Shaped}
 use Rattle.notation.specs.Lists.{padded}
@@ -19,7 +19,7 @@ use Rattle.notation.specs.Laws.PaddedLaws.{padded-cons, padded-nil}
 use Rattle.taskfile.specs.Laws.TableLaws.{taskNumbers-length, taskNumbers-at}
 use Rattle.taskfile.specs.Tables.{tasksOf}
 use Rattle.timing.specs.declared.Bound.the-variants.{Within, Overload}
-use Rattle.timing.specs.Accepted.{bounded, responsesOf}
+use Rattle.timing.specs.Accepted.{responsesOf}
 use Rattle.timing.specs.Response.{tasksAbove, responseOf}
 use Rattle.timing.specs.Code.ResponseParts.{Timeable, boundOf, AllFit}
 use Rattle.timing.specs.Laws.HalvingLaws.{response-done}
@@ -102,7 +102,7 @@ module _ {t : Table} (timeable : Timeable t) {i : ℕ} (lt : i < t .tasks) {time
 
   -- where task i has a response time
   pub found-more : {R : ℕ} → boundOf (responseOf t (numbered i)) ≡ Within R → FoundFrom t i (set times i R) fit lowest
-  unfolding responsesOf bounded _>>=_ tasksAbove
+  unfolding responsesOf given _>>=_ tasksAbove
   found-more {R} b =
       let response = bound-some _ b in
       record {
@@ -121,7 +121,7 @@ module _ {t : Table} (timeable : Timeable t) {i : ℕ} (lt : i < t .tasks) {time
 
   -- where it has none, it is the lowest so far
   pub found-refused : boundOf (responseOf t (numbered i)) ≡ Overload → FoundFrom t i times false i
-  unfolding responsesOf bounded _>>=_
+  unfolding responsesOf given _>>=_
   found-refused b =
       record {
         all = λ e. absurd (false≢true e);
