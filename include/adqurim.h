@@ -50,7 +50,7 @@ extern "C" {
 
 /*
  * The numbers of an answer. A refusal has its number, its place, and every other field zero.
- * 30 to 32 come from entries that take an order, 40 to 45 from entries that take a plan.
+ * 30 to 34 come from entries that take an order, 40 to 45 from entries that take a plan.
  */
 enum adqurim_number {
     ADQURIM_ACCEPTED = 0, /* no refusal; place 0 */
@@ -78,10 +78,15 @@ enum adqurim_number {
                                below 32, a sheet's text below 4,608; place 0 */
     ADQURIM_UNDECIDED = 21, /* the walk's count exceeds the allowance; place 0 */
 
-    /* The author of an order. The place is a step's index. */
-    ADQURIM_STEP = 30,  /* not a legal step; that step */
+    /* The author of an order. The place is a step's index. For 30, 33 and 34 the order's byte at
+       the place tells the step's task, byte / 16, and its value, byte % 16. A byte is tried for 32,
+       33, 30, 34 in this order. */
+    ADQURIM_STEP = 30,  /* no job of the task has its turn; that step */
     ADQURIM_SHORT = 31, /* bytes end with jobs unfinished; the order's length */
     ADQURIM_EXTRA = 32, /* bytes remain after all jobs ended; the first of them */
+    ADQURIM_TASK = 33,  /* the task is not in the table; that step */
+    ADQURIM_OFFER = 34, /* the value is not on offer: above a Pick's largest, or not 0 where there
+                           is no Pick; that step */
 
     /* The author of a plan. */
     ADQURIM_SHAPE = 40, /* first byte not the number of jobs, bytes run out, or bytes left over;
@@ -195,7 +200,7 @@ bool adqurim_read(const uint8_t *file, size_t file_len, uint64_t *answer, size_t
  * Replays an order of a task file's jobs and fills the first 43 words of the answer:
  *
  *   word 0           the number: 0 if the order is complete, else the number of the refusal,
- *                    1 to 11 for the file, 30 to 32 for the order
+ *                    1 to 11 for the file, 30 to 34 for the order
  *   word 1           the place of the refusal, a record's index for the file, a step's for the
  *                    order; 0 if the order is complete
  *   words 2 to 9     the end store, variables 0 to 7
@@ -266,7 +271,7 @@ bool adqurim_check_plan(const uint8_t *file, size_t file_len, const uint8_t *pla
  * Converts an order of a task file's jobs to its plan and fills the first 43 words of the answer:
  *
  *   word 0           the number: 0 if the order is complete, else the number of the refusal,
- *                    1 to 11 for the file, 20 if the plan buffer is below 1,281 bytes, 30 to 32
+ *                    1 to 11 for the file, 20 if the plan buffer is below 1,281 bytes, 30 to 34
  *                    for the order
  *   word 1           the place of the refusal, a record's index for the file, a step's for the
  *                    order; else 0

@@ -3,4 +3,5 @@ pub mod Examples
 pub mod LengthLaws
 pub mod Opened
 pub mod ProgressLaws
+pub mod SlipLaws
 pub mod StepLaws

@@ -2,4 +2,5 @@ pub mod Code
 pub mod Laws
 pub mod Orders
 pub mod Replay
+pub mod Slips
 pub mod States

@@ -59,9 +59,13 @@ performed a s v turn =
       active = if effect .ended then turn .under else record { job = job; local = effect .local } ∷ turn .under;
     }
 
+-- is the value v on offer to the job whose turn it is?
+abbrev pub isOffered : Accepted → Turn → ℕ → Bool
+isOffered a turn v = member v (values (nextOf a (turn .frame)))
+
 -- the turn's step with the value v, if that value is on offer
 unfoldable pub stepWith : Accepted → State → ℕ → Turn → Option State
-stepWith a s v turn = if member v (values (nextOf a (turn .frame))) then some (performed a s v turn) else none
+stepWith a s v turn = if isOffered a turn v then some (performed a s v turn) else none
 
 -- "An order byte is 16 × task + value": the state after that byte, if it is an allowed step
 unfoldable pub step : Accepted → State → ℕ → Option State

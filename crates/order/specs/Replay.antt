@@ -1,23 +1,33 @@
--- The replay of an order, numbers 30 to 32, and its entry's answer for every input. Document 01, "Numbers by who causes
--- them": "A replay checks 32, 30 at each byte, 31 at the end."
+-- The replay of an order, numbers 30 to 34, and its entry's answer for every input. Document 01, "Numbers by who causes
+-- them": "A replay checks 32, 30 at each byte, 31 at the end." Document 02, E1, sets 33 and 34 beside 30.
 -- Assumes nothing.
-use Prim.Native.Nat.{ℕ, suc}
+use Prim.Native.Nat.{ℕ, suc, _/_, _%_}
 use mathlib.Core.Bool.{Bool, not}
 use mathlib.Core.List.{List, [], _∷_}
-use mathlib.Core.Option.{Option, none, some}
-use Rattle.notation.specs.Checked.{Checked, refused, passed, require, _>>=_, _>>_}
+use lib.ListN.{length}
+use lib.Dec.{ltb}
+use Rattle.notation.specs.Checked.{Checked, passed, require, given, _>>=_, _>>_}
 use Rattle.taskfile.specs.Records.{File}
+use Rattle.taskfile.specs.Tables.{tasksOf}
 use Rattle.timing.specs.Accepted.{Accepted, accept}
 use Rattle.machine.specs.declared.RunAnswer.{RunAnswer}
 use Rattle.machine.specs.Ends.{End}
 use Rattle.machine.specs.Buffers.{runAnswer, unwritten}
 use Rattle.order.specs.States.{State, initial, allEnded}
-use Rattle.order.specs.Orders.{step, orderEnd}
+use Rattle.order.specs.Orders.{turnOf, isOffered, performed, orderEnd}
 
--- "30 STEP: not a legal step."
-unfoldable pub legal : ℕ → Option State → Checked ℕ State
-legal index none = refused 30 index
-legal index (some s) = passed s
+-- is it the number of a task of the table?
+unfoldable pub isTask : Accepted → ℕ → Bool
+isTask a i = ltb i (length (tasksOf (a .table)))
+
+-- the state after the byte at `index`. "33 for a task number outside the table, then 30 for a job with no turn, then 34
+-- for a value, all at the step's index and after 32." It passes where the byte is a step of `Orders` (`SlipLaws`).
+unfoldable pub stepAt : Accepted → State → ℕ → ℕ → Checked ℕ State
+stepAt a s index byte = do
+  require (isTask a (byte / 16)) 33 index
+  turn ← given (turnOf a s (byte / 16)) 30 index
+  require (isOffered a turn (byte % 16)) 34 index
+  passed (performed a s (byte % 16) turn)
 
 -- the bytes from `index` on. "32 EXTRA: bytes remain after all jobs ended." "31 SHORT: bytes end with jobs unfinished;
 -- place is the length."
@@ -27,7 +37,7 @@ replayFrom a s index [] = do
   passed s
 replayFrom a s index (byte ∷ bytes) = do
   require (not (allEnded a s)) 32 index
-  next ← legal index (step a s byte)
+  next ← stepAt a s index byte
   replayFrom a next (suc index) bytes
 
 unfoldable pub replay : Accepted → List ℕ → Checked ℕ End

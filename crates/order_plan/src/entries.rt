@@ -51,7 +51,7 @@ pub fn write_plan(t: Table, list: JobList, order: &[u8], out: &mut [u8]) -> usiz
     length
 }
 
-// The entry from an order to a plan: the file's numbers, then 20, then 30 to 32. The plan stands at the front of the
+// The entry from an order to a plan: the file's numbers, then 20, then 30 to 34. The plan stands at the front of the
 // buffer, with zeros after it up to 1,281; a refusal changes nothing.
 pub fn order_to_plan(file: &[u8], order: &[u8], out: &mut [u8]) -> RunAnswer
     ensures answer { λ x. ⌜ x ≡ orderToPlanAnswer (now (file .entry)) (now (order .entry)) (now (out .entry)) ⌝ }

@@ -25,10 +25,11 @@ pub fn replay_table(t: Table, list: JobList, order: &[u8]) -> Replayed
     let times = l.times;
     let locks = l.locks;
     let start = l.start;
-    replay_from(&program, &times, locks, start, order)
+    replay_from(&program, &times, locks, t.tasks, start, order)
 }
 
-// The replay's entry: the file's numbers, then 32, 30 and 31, or the end store and the failed jobs.
+// The replay's entry: the file's numbers, then at each byte 32, 33, 30 and 34, and 31 after the last, or the end store
+// and the failed jobs.
 pub fn replay(file: &[u8], order: &[u8]) -> RunAnswer
     ensures { λ x. ⌜ x ≡ replayAnswer (now (file .entry)) (now (order .entry)) ⌝ }
 {

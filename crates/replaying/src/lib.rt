@@ -6,16 +6,21 @@ use snapshots::Replayed;
 use snapshots::STATE;
 use snapshots::STORE;
 use snapshots::TIMES;
+use snapshots::VALUES;
 use states::eight_at;
 use steps::step;
 use taskfile::Ceilings;
+use taskfile::Task;
 use taskfile::numbers::EXTRA;
+use taskfile::numbers::OFFER;
 use taskfile::numbers::SHORT;
 use taskfile::numbers::STEP;
+use taskfile::numbers::TASK;
+use turns::turn_of;
 ghost use mathlib.Core.Path.{_≡_};
 ghost use Prim.Native.Nat.{_≤_};
 ghost use Rattle.snapshots.specs.Code.ReplayParts.{replayEndAt, replayedOf};
-ghost use Rattle.snapshots.specs.Code.SnapshotSteps.{replayIn};
+ghost use Rattle.snapshots.specs.Code.SnapshotSteps.{slipIn, replayIn};
 ghost use Rattle.states.specs.Code.StateBytes.{snapshotIn, IsState};
 
 // What a replay comes to at a state.
@@ -32,16 +37,42 @@ fn outcome(number: u8, index: usize, s: &[u8; STATE]) -> Replayed
     }
 }
 
-// The replay of an order's bytes from a state on.
+// The number of a byte that is no step, in a table with so many tasks: 33 if its task is none of them, 30 if it has no
+// turn, else 34, since its value is not on offer.
+fn slip(
+    program: &[u8; PROGRAM],
+    times: &[u64; TIMES],
+    locks: Ceilings,
+    tasks: u8,
+    s: &[u8; STATE],
+    byte: u8,
+) -> u8
+    requires { ⌜ (locks .count ≤ 8) × IsState (now s) ⌝ }
+    ensures { λ n. ⌜ n ≡ slipIn (now (program .entry)) (now (times .entry)) locks tasks
+        (snapshotIn (now (s .entry))) byte ⌝ }
+{
+    let i = byte / VALUES;
+    if tasks <= i {
+        return TASK;
+    }
+    let d = turn_of(program, times, locks, s, Task(i));
+    if !d.due {
+        return STEP;
+    }
+    OFFER
+}
+
+// The replay of an order's bytes from a state on, in a table with so many tasks.
 pub fn replay_from(
     program: &[u8; PROGRAM],
     times: &[u64; TIMES],
     locks: Ceilings,
+    tasks: u8,
     start: [u8; STATE],
     order: &[u8],
 ) -> Replayed
     requires { ⌜ (locks .count ≤ 8) × IsState start ⌝ }
-    ensures { λ r. ⌜ r ≡ replayedOf (replayIn (now (program .entry)) (now (times .entry)) locks
+    ensures { λ r. ⌜ r ≡ replayedOf (replayIn (now (program .entry)) (now (times .entry)) locks tasks
         (snapshotIn start) 0 (now (order .entry))) ⌝ }
 {
     let mut s = start;
@@ -50,8 +81,10 @@ pub fn replay_from(
         if finished(program, &s) {
             return outcome(EXTRA, index, &s);
         }
-        if !step(program, times, locks, &mut s, order[index]) {
-            return outcome(STEP, index, &s);
+        let byte = order[index];
+        if !step(program, times, locks, &mut s, byte) {
+            let number = slip(program, times, locks, tasks, &s, byte);
+            return outcome(number, index, &s);
         }
         index += 1;
     }

@@ -32,6 +32,11 @@ pub const SHORT: u8 = 31;
 
 pub const EXTRA: u8 = 32;
 
+// Document 02, E1: the two that 30 held before, a task outside the table and a value that is not on offer.
+pub const TASK: u8 = 33;
+
+pub const OFFER: u8 = 34;
+
 pub const SHAPE: u8 = 40;
 
 pub const VALUE: u8 = 41;

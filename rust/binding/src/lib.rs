@@ -2,8 +2,8 @@
 //!
 //! [`read`], [`jobs`], [`replay`], [`walk`], [`check_plan`], [`order_to_plan`] and
 //! [`plan_to_order`] give a value or a [`Refusal`], which prints as a sentence; [`sheet`] gives a
-//! text for every file. The module [`raw`] has the same entries with their numbers, places and lent
-//! memory.
+//! text for every file. [`Refusal::in_order`] also names a wrong step's task or value. The module
+//! [`raw`] has the same entries with their numbers, places and lent memory.
 //!
 //! ```
 //! let refusal = binding::read(&[1; 7]).unwrap_err();
@@ -15,10 +15,10 @@ pub mod raw;
 mod refusal;
 mod words;
 
-pub use refusal::{Place, Refusal, Rule};
+pub use refusal::{InOrder, Place, Refusal, Rule};
 pub use words::{
-    Job, JOB_LIST_ROOM, MOST_JOBS, MOST_TASKS, ORDER_ROOM, PLAN_ROOM, SHEET_ALLOWANCE, SHEET_ROOM,
-    VARIABLES,
+    Job, BYTES_OF_TASK, JOB_LIST_ROOM, MOST_JOBS, MOST_TASKS, ORDER_ROOM, PLAN_ROOM,
+    SHEET_ALLOWANCE, SHEET_ROOM, VARIABLES,
 };
 
 /// A job's number: jobs are numbered from 0 by task, then by arrival.
@@ -74,7 +74,7 @@ pub fn read(file: &[u8]) -> Result<Timing, Refusal> {
     Ok(Timing { response_times, jobs: answer.jobs as usize })
 }
 
-/// Replays an order: its ending, or a refusal by 1 to 11 or 30 to 32.
+/// Replays an order: its ending, or a refusal by 1 to 11 or 30 to 34.
 pub fn replay(file: &[u8], order: &[u8]) -> Result<Ending, Refusal> {
     let answer = raw::replay(file, order);
     accept(answer.number, answer.place)?;
@@ -105,7 +105,7 @@ pub fn check_plan(file: &[u8], plan: &[u8]) -> Result<Ending, Refusal> {
     Ok(ending(answer.end_store, answer.failed_jobs))
 }
 
-/// Converts an order to its plan: the plan, or a refusal by 1 to 11 or 30 to 32.
+/// Converts an order to its plan: the plan, or a refusal by 1 to 11 or 30 to 34.
 pub fn order_to_plan(file: &[u8], order: &[u8]) -> Result<Planned, Refusal> {
     let mut plan = [0; PLAN_ROOM];
     let answer = raw::order_to_plan(file, order, &mut plan);

@@ -1,5 +1,6 @@
-//! A refusal, and the rules that document 01 numbers by who causes a refusal.
+//! A refusal, and the rules that documents 01 and 02 number by who causes a refusal.
 
+use crate::words::BYTES_OF_TASK;
 use std::error::Error;
 use std::fmt;
 
@@ -29,7 +30,7 @@ pub enum Place {
     Round,
 }
 
-/// A rule by the name that document 01 gives its number.
+/// A rule by the name that document 01 gives its number. Document 02 has no names for 33 and 34.
 #[derive(Debug, Clone, Copy, PartialEq, Eq, Hash)]
 pub enum Rule {
     Size = 1,
@@ -48,6 +49,8 @@ pub enum Rule {
     Step = 30,
     Short = 31,
     Extra = 32,
+    Task = 33,
+    Offer = 34,
     Shape = 40,
     Value = 41,
     Round = 42,
@@ -61,7 +64,7 @@ type Entry = (Rule, &'static str, Place, &'static str);
 
 /// Every rule, ascending.
 #[rustfmt::skip]
-const ENTRIES: [Entry; 22] = [
+const ENTRIES: [Entry; 24] = [
     (Rule::Size, "SIZE", Place::Nowhere,
         "the file's length is 0, above 4,096 or no multiple of 16"),
     (Rule::Kind, "KIND", Place::Record,
@@ -92,11 +95,15 @@ const ENTRIES: [Entry; 22] = [
     (Rule::Undecided, "UNDECIDED", Place::Nowhere,
         "the walk's count exceeds the allowance"),
     (Rule::Step, "STEP", Place::Step,
-        "is not a legal step"),
+        "names a task that has no turn here"),
     (Rule::Short, "SHORT", Place::Step,
         "is missing: the order ends with jobs unfinished"),
     (Rule::Extra, "EXTRA", Place::Step,
         "is one too many: all jobs ended before it"),
+    (Rule::Task, "TASK", Place::Step,
+        "names a task that does not exist"),
+    (Rule::Offer, "OFFER", Place::Step,
+        "names a value that is not on offer"),
     (Rule::Shape, "SHAPE", Place::Offset,
         "of the plan has the first wrong, missing or extra byte"),
     (Rule::Value, "VALUE", Place::Offset,
@@ -124,12 +131,12 @@ impl Rule {
         Rule::all().find(|rule| rule.number() == number)
     }
 
-    /// Document 01's number.
+    /// The papers' number.
     pub fn number(self) -> u64 {
         self as u64
     }
 
-    /// Document 01's name.
+    /// Its name in capitals.
     pub fn name(self) -> &'static str {
         self.entry().1
     }
@@ -160,9 +167,21 @@ impl Place {
 }
 
 impl Refusal {
-    /// The rule that refused; none if document 01 has no such number.
+    /// The rule that refused; none if the papers have no such number.
     pub fn rule(self) -> Option<Rule> {
         Rule::from_number(self.number)
+    }
+
+    /// The refusal in words that name a wrong step's task or value, by the order that is refused.
+    ///
+    /// ```
+    /// let refusal = binding::Refusal { number: 33, place: 1 };
+    /// assert_eq!(refusal.to_string(), "step 1 names a task that does not exist (33 TASK)");
+    /// let says = refusal.in_order(&[0, 80]).to_string();
+    /// assert_eq!(says, "step 1: task 5 does not exist (33 TASK)");
+    /// ```
+    pub fn in_order(self, order: &[u8]) -> InOrder<'_> {
+        InOrder { refusal: self, order }
     }
 }
 
@@ -180,3 +199,38 @@ impl fmt::Display for Refusal {
 }
 
 impl Error for Refusal {}
+
+/// A refusal and the order that it is about: [`Refusal::in_order`]. It prints as the refusal alone
+/// if that is by another rule than 30, 33 and 34, or if the order has no step at its place.
+#[derive(Debug, Clone, Copy, PartialEq, Eq, Hash)]
+pub struct InOrder<'a> {
+    refusal: Refusal,
+    order: &'a [u8],
+}
+
+impl InOrder<'_> {
+    /// The rule that the byte at the place breaks, and what is wrong with it.
+    fn slip(&self) -> Option<(Rule, String)> {
+        let place = usize::try_from(self.refusal.place).ok()?;
+        let byte = self.order.get(place)?;
+        let (task, value) = (byte / BYTES_OF_TASK, byte % BYTES_OF_TASK);
+        let rule = self.refusal.rule()?;
+        let says = match rule {
+            Rule::Step => format!("task {task} has no turn here"),
+            Rule::Task => format!("task {task} does not exist"),
+            Rule::Offer => format!("value {value} is not on offer"),
+            _ => return None,
+        };
+        Some((rule, says))
+    }
+}
+
+impl fmt::Display for InOrder<'_> {
+    fn fmt(&self, f: &mut fmt::Formatter<'_>) -> fmt::Result {
+        let Refusal { number, place } = self.refusal;
+        match self.slip() {
+            Some((rule, says)) => write!(f, "step {place}: {says} ({number} {})", rule.name()),
+            None => write!(f, "{}", self.refusal),
+        }
+    }
+}

@@ -5,6 +5,9 @@ pub const MOST_TASKS: usize = 8;
 pub const MOST_JOBS: usize = 32;
 pub const VARIABLES: usize = 8;
 
+/// A step's byte in an order is so many times its task, and a value below that.
+pub const BYTES_OF_TASK: u8 = 16;
+
 /// The room that number 20 asks for: bytes of an order, bytes of a plan, records of a job list,
 /// bytes of a sheet's text.
 pub const ORDER_ROOM: usize = 512;

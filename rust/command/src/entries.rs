@@ -29,7 +29,7 @@ pub fn answer(request: &Request, streams: &mut Streams) -> Result<Status, Proble
         Ok((text, status)) => print(&text, streams).map(|()| status),
         Err(refusal) => {
             print(&refused(&refusal), streams)?;
-            explain(&refusal, &file, streams)
+            explain(&refusal, &file, &numbers, streams)
         }
     }
 }
@@ -38,10 +38,16 @@ fn print(text: &str, streams: &mut Streams) -> Result<(), Problem> {
     Ok(streams.output.write_all(text.as_bytes())?)
 }
 
-/// Says on standard error what a refusal means and, if it names a record, what that record is.
-fn explain(refusal: &Refusal, file: &[u8], streams: &mut Streams) -> Result<Status, Problem> {
+/// Says on standard error what a refusal means; if it names a step, which task or value is wrong,
+/// and if it names a record, what that record is. Where it names a step, the numbers are an order's.
+fn explain(
+    refusal: &Refusal,
+    file: &[u8],
+    numbers: &[u8],
+    streams: &mut Streams,
+) -> Result<Status, Problem> {
     streams.output.flush()?;
-    let mut text = format!("adqurim: {refusal}\n");
+    let mut text = format!("adqurim: {}\n", refusal.in_order(numbers));
     if refusal.rule().map(|rule| rule.place()) == Some(Place::Record) {
         let record = refusal.place as usize;
         let (first, last) = records::extent(record);
@@ -60,7 +66,7 @@ fn check(file: &[u8], streams: &mut Streams) -> Result<Status, Problem> {
     match finding(&text) {
         Finding::Holds => Ok(Status::Accepted),
         Finding::Fails => Ok(Status::Fails),
-        Finding::Refused(refusal) => explain(&refusal, file, streams),
+        Finding::Refused(refusal) => explain(&refusal, file, &[], streams),
     }
 }
 

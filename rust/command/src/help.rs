@@ -58,6 +58,9 @@ adqurim replay FILE ORDER..
 
 Runs the steps of an order, each 16 * task + value. Prints `accepted`, the failed jobs and the store
 left. An order with failed jobs is accepted too, with status 0.
+
+A wrong step is refused by 33 if there is no such task, else by 30 if no job of the task has its
+turn, else by 34 if the value is not on offer; standard error names the task or the value.
 ";
 
 const PLAN: &str = "\

@@ -1,6 +1,6 @@
 //! The parts of a plan, found with the order that it came from.
 
-use binding::VARIABLES;
+use binding::{BYTES_OF_TASK, VARIABLES};
 
 /// A step's two bytes in a plan.
 #[derive(Debug, Clone, Copy, PartialEq, Eq)]
@@ -18,8 +18,7 @@ pub struct Parts {
     pub jobs: Vec<Vec<Step>>,
 }
 
-/// An order's step is 16 times its task, and a value.
-const BYTES_OF_TASK: u8 = 16;
+/// Of a plan: the step's round and its value.
 const BYTES_OF_STEP: usize = 2;
 
 /// The parts of a complete order's plan.

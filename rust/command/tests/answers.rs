@@ -3,7 +3,7 @@
 use command::{allowances, run, Status, Streams};
 use conformance::cases::{accepted, edited, table_x, tasks};
 use conformance::families::{any, crowded, long, nest_of_four, refused_files, small};
-use conformance::orders::random_order;
+use conformance::orders::{random_order, variants};
 use generator::files::{damaged, random_bytes, random_records};
 use generator::{code, Random, TableDescription};
 use interpreter::timing::accept;
@@ -175,6 +175,42 @@ fn assert_there_and_back(file: &[u8], order: &[u8], ending: &str) {
     let ran = run_with_numbers("order", file, &plan);
     let expected = format!("order{}\n{ending}", words(order));
     assert_eq!((ran.output, ran.status), (expected, Status::Accepted));
+}
+
+/// What standard error has to say of a refused order.
+fn order_refused(number: u8, place: usize, order: &[u8]) -> String {
+    let [task, value] = order.get(place).map_or([0, 0], |byte| [byte / 16, byte % 16]);
+    let says = match number {
+        30 => format!(": task {task} has no turn here (30 STEP)"),
+        31 => " is missing: the order ends with jobs unfinished (31 SHORT)".to_string(),
+        32 => " is one too many: all jobs ended before it (32 EXTRA)".to_string(),
+        33 => format!(": task {task} does not exist (33 TASK)"),
+        _ => format!(": value {value} is not on offer (34 OFFER)"),
+    };
+    format!("adqurim: step {place}{says}\n")
+}
+
+#[test]
+fn refusals_of_random_orders() {
+    let mut random = Random::new(0x0DD5);
+    let mut seen = [0; 35];
+    for make in [small, nest_of_four, crowded, any] {
+        for _ in 0..60 {
+            let file = accepted_file(&mut random, make);
+            let order = random_order(&mut random, &accepted(&file));
+            for order in variants(&mut random, &order, &accepted(&file)) {
+                let answer = interpreter::replay(&file, &order);
+                let (number, place) = (answer.number, answer.place);
+                seen[usize::from(number)] += 1;
+                for subcommand in ["replay", "plan"].into_iter().filter(|_| number != 0) {
+                    let ran = run_with_numbers(subcommand, &file, &order);
+                    assert_eq!(ran.output, format!("refused {number} {place}\n"));
+                    assert_eq!(ran.errors, order_refused(number, place, &order));
+                }
+            }
+        }
+    }
+    assert!(seen[30..].iter().all(|times| *times >= 50), "{seen:?}");
 }
 
 #[test]

@@ -132,15 +132,31 @@ fn refusals_are_explained() {
     }
     let size = "adqurim: the file's length is 0, above 4,096 or no multiple of 16 (1 SIZE)\n";
     assert_run(&["check", "-"], &[], REFUSED, "refused 1 0\n", size);
-    let step = "adqurim: step 3 is not a legal step (30 STEP)\n";
-    for subcommand in ["replay", "plan"] {
-        let words = [subcommand, "-", "0", "16", "16", "0"];
-        assert_run(&words, &x, REFUSED, "refused 30 3\n", step);
-    }
     let shape = "adqurim: offset 0 of the plan has the first wrong, missing or extra byte \
         (40 SHAPE)\n";
     for subcommand in ["check-plan", "order"] {
         assert_run(&[subcommand, "-", "3"], &x, REFUSED, "refused 40 0\n", shape);
+    }
+}
+
+#[test]
+fn wrong_steps_are_explained_with_their_task_or_value() {
+    let x = table_x().write();
+    #[rustfmt::skip]
+    let orders = [
+        ("0 16 16 0", "refused 30 3\n", "step 3: task 0 has no turn here (30 STEP)"),
+        ("0 16 16", "refused 31 3\n",
+            "step 3 is missing: the order ends with jobs unfinished (31 SHORT)"),
+        ("0 16 16 16 0 0 0 0 80", "refused 32 8\n",
+            "step 8 is one too many: all jobs ended before it (32 EXTRA)"),
+        ("0 16 80", "refused 33 2\n", "step 2: task 5 does not exist (33 TASK)"),
+        ("0 23", "refused 34 1\n", "step 1: value 7 is not on offer (34 OFFER)"),
+    ];
+    for (order, answer, says) in orders {
+        for subcommand in ["replay", "plan"] {
+            let errors = format!("adqurim: {says}\n");
+            assert_run(&[subcommand, "-", order], &x, REFUSED, answer, &errors);
+        }
     }
 }
 

@@ -44,6 +44,17 @@ pub fn rates(times: &[(u32, u32)]) -> TableDescription {
     tasks(1, &times, &[code::end()])
 }
 
+/// Tables whose bytes are tried one by one: of one task, of eight with a job each that may preempt
+/// those below it, and of two of which one has no job in the window. All have Picks.
+pub fn tables_with_picks() -> [TableDescription; 3] {
+    let nested: [[u32; 3]; 8] = std::array::from_fn(|number| [1, 20, number as u32]);
+    [
+        tasks(8, &[[1, 4, 0]], &[code::pick(0, 3), code::set(0, 1), code::end()]),
+        tasks(8, &nested, &[code::pick(0, 2), code::end()]),
+        tasks(5, &[[2, 8, 0], [1, 4, 5]], &[code::pick(0, 15), code::pick(1, 0), code::end()]),
+    ]
+}
+
 /// The largest table: each body uses locks and skips, and each task has four jobs. Every complete
 /// order of it has 512 steps.
 pub fn full_table() -> TableDescription {

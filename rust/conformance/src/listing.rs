@@ -52,7 +52,7 @@ fn explore(
     note_held_back(accepted, state, found);
     for byte in 0..=255 {
         let mut next = state.clone();
-        if let Some(job) = next.step(accepted, byte) {
+        if let Ok(job) = next.step(accepted, byte) {
             found.moves += 1;
             note_step(accepted, state, &next, (job, byte), found);
             path.push(byte);

@@ -138,7 +138,7 @@ fn some_orders(random: &mut Random, file: &[u8]) -> Vec<Vec<u8>> {
         Err(_) => vec![random_steps(random, 3, 20)],
         Ok(accepted) => {
             let order = random_order(random, &accepted);
-            let mut orders = variants(random, &order, accepted.table.tasks.len());
+            let mut orders = variants(random, &order, &accepted);
             orders.push(order);
             orders
         }
@@ -183,7 +183,11 @@ fn table_x_in_values() {
     assert_eq!(read(&file), Ok(Timing { response_times: vec![3, 1], jobs: 2 }));
     let ending = Ending { end_store: [1, 0, 0, 0, 0, 0, 0, 0], failed_jobs: vec![JobNumber(0)] };
     assert_eq!(replay(&file, &ORDER_OF_X), Ok(ending.clone()));
-    assert_eq!(replay(&file, &[0, 16, 16, 0]), Err(Refusal { number: 30, place: 3 }));
+    let wrong = [(&[0, 16, 16, 0][..], 30, 3), (&[0, 33], 33, 1), (&[0, 17], 34, 1)];
+    for (order, number, place) in wrong {
+        assert_eq!(replay(&file, order), Err(Refusal { number, place }));
+        assert_eq!(order_to_plan(&file, order), Err(Refusal { number, place }));
+    }
     let planned = Planned { plan: plan_of_x(), ending: ending.clone() };
     assert_eq!(order_to_plan(&file, &ORDER_OF_X), Ok(planned));
     assert_eq!(check_plan(&file, &plan_of_x()), Ok(ending.clone()));

@@ -85,7 +85,8 @@ fn plan_to_order_writes_and_fills() {
 #[test]
 fn refused_conversions_leave_their_buffer() {
     let file = table_x().write();
-    let orders = [(&[][..], 31), (&[1], 30), (&[0, 16, 16, 16, 0, 0, 0, 0, 0], 32)];
+    let longer = [&ORDER_OF_X[..], &[0]].concat();
+    let orders = [(&[][..], 31), (&[0, 16, 0], 30), (&longer, 32), (&[32], 33), (&[1], 34)];
     for (order, number) in orders {
         for size in PLAN_SIZES {
             let mut buffer = pattern(size);

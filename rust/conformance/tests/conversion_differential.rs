@@ -140,7 +140,7 @@ fn some_orders(random: &mut Random, accepted: &Accepted) -> Vec<Vec<u8>> {
     let mut made = Vec::new();
     for _ in 0..2 {
         let order = random_order(random, accepted);
-        made.extend(variants(random, &order, accepted.table.tasks.len()));
+        made.extend(variants(random, &order, accepted));
         made.push(order);
     }
     made
@@ -156,7 +156,7 @@ fn orders_become_plans() {
     let mut tally = Tally::new(TO_PLAN);
     compare_refused(&mut tally);
     compare_families(&mut tally, some_orders);
-    assert!([0, 20, 30, 31, 32].iter().all(|number| tally.counts[*number] >= 1_000));
+    assert!([0, 20, 30, 31, 32, 33, 34].iter().all(|number| tally.counts[*number] >= 1_000));
     assert!((1..=11).all(|number| tally.counts[number] >= 4));
     assert!(tally.failing >= 1_000 && tally.longest == PLAN_ROOM as u64);
 }
@@ -298,7 +298,7 @@ fn lent_words() {
         compare_lent(&mut random, &TO_ORDER, (&x, &plan_of_x()), (ORDER_ROOM, length));
     }
     println!("{counts:?}");
-    let met = [0, 30, 31, 32, 40, 41, 42, 43, 44, 45];
+    let met = [0, 30, 31, 32, 33, 34, 40, 41, 42, 43, 44, 45];
     assert!(met.iter().all(|number| counts[*number] >= 20));
     assert!((1..=11).all(|number| counts[number] >= 2));
 }

@@ -60,7 +60,7 @@ fn every_entry_of_the_header_is_bound() {
 fn every_rule_has_its_number_in_the_header() {
     let name = |rule: Rule| (format!("ADQURIM_{}", rule.name()), rule.number());
     let mut rules: Named = Rule::all().map(name).collect();
-    assert_eq!(rules.len(), 22);
+    assert_eq!(rules.len(), 24);
     rules.insert("ADQURIM_ACCEPTED".to_string(), 0);
     assert_eq!(enumerators("adqurim_number"), rules);
 }
@@ -103,7 +103,7 @@ fn mends(number: u64) -> &'static str {
         1..=9 => "the author of the file",
         10..=11 => "the bench, which supplies the times",
         20..=21 => "the caller",
-        30..=32 => "the author of the order",
+        30..=34 => "the author of the order",
         _ => "the author of the plan",
     }
 }

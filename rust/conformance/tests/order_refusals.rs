@@ -1,8 +1,10 @@
-//! Numbers 30 to 32, and the rules of steps behind number 30.
+//! Numbers 30 to 34, and the rules of steps behind number 30.
 
 use conformance::cases::*;
 use conformance::entries::pattern;
-use generator::{code, InstructionDescription, TableDescription, TaskDescription};
+use conformance::orders::{random_order, state_after};
+use generator::{code, InstructionDescription, Random, TableDescription, TaskDescription};
+use interpreter::walk::moves;
 use interpreter::*;
 
 /// Asserts that replay and conversion refuse an order alike and leave the buffer untouched.
@@ -35,28 +37,116 @@ fn below_one(body: &[InstructionDescription], ceilings: &[u8]) -> TableDescripti
 }
 
 #[test]
-fn number_30_step_of_no_job() {
-    for byte in [32, 48, 112, 128, 240, 255] {
-        refused(&table_x(), &[byte], 30, 0);
-        refused(&table_x(), &[0, byte], 30, 1);
+fn number_33_task_outside_the_table() {
+    let one = tasks(8, &[[1, 4, 0]], &[code::end()]);
+    for byte in 16..=255 {
+        refused(&one, &[byte], 33, 0);
+        refused(&one, &[0, byte], 33, 1);
     }
-    // Task 1 has no further job.
-    refused(&table_x(), &[16, 16, 16, 16], 30, 3);
+    for byte in 32..=255 {
+        refused(&table_x(), &[byte], 33, 0);
+        refused(&table_x(), &[0, byte, 16], 33, 1);
+    }
+    // Eight tasks are all that a byte below 128 can name.
+    let eight = tasks(1, &[[1, 100, 0]; 8], &[code::end()]);
+    complete(&eight, &[112, 96, 80, 64, 48, 32, 16, 0]);
+    for byte in 128..=255 {
+        refused(&eight, &[byte], 33, 0);
+        refused(&eight, &[112, 96, byte], 33, 2);
+    }
 }
 
 #[test]
-fn number_30_value() {
-    refused(&table_x(), &[1], 30, 0);
-    refused(&table_x(), &[0, 31], 30, 1);
+fn number_30_task_without_a_job() {
+    // Task 1 has no further job.
+    refused(&table_x(), &[16, 16, 16, 16], 30, 3);
+    // Its one job would arrive when the window is over.
+    let table = tasks(4, &[[2, 8, 0], [1, 4, 4]], &[code::end()]);
+    refused(&table, &[16], 30, 0);
+    complete(&table, &[0]);
+}
+
+#[test]
+fn number_34_value() {
+    // No Pick: any value but 0.
+    for value in 1..=15 {
+        refused(&table_x(), &[value], 34, 0);
+        refused(&table_x(), &[0, 16 + value], 34, 1);
+    }
     let table = below_one(&[code::pick(0, 3), code::end()], &[]);
     for value in 0..4 {
         complete(&table, &[value, 0, 16]);
     }
-    refused(&table, &[4, 0, 16], 30, 0);
-    refused(&table, &[15, 0, 16], 30, 0);
-    refused(&table, &[3, 3, 16], 30, 1);
+    refused(&table, &[4, 0, 16], 34, 0);
+    refused(&table, &[15, 0, 16], 34, 0);
+    refused(&table, &[3, 3, 16], 34, 1);
+    // The End of a job that starts takes no value either.
+    refused(&table, &[3, 17], 34, 1);
+    refused(&below_one(&[code::pick(0, 0), code::end()], &[]), &[1], 34, 0);
     // A Pick of 15 uses all of the low half byte.
     complete(&below_one(&[code::pick(0, 15), code::end()], &[]), &[15, 0, 16]);
+    refused(&below_one(&[code::pick(0, 14), code::end()], &[]), &[15], 34, 0);
+}
+
+/// 33 before 30 and 34: whatever the value, and although no job of such a task can have a turn.
+/// 30 before 34: a value that the task's next instruction would not take.
+#[test]
+fn two_slips_in_one_byte() {
+    for value in 0..=15 {
+        refused(&table_x(), &[32 + value], 33, 0);
+        refused(&table_x(), &[0, 16, 240 + value], 33, 2);
+        // Task 0 waits for task 1; task 1 has no further job.
+        refused(&table_x(), &[0, 16, value], 30, 2);
+        refused(&table_x(), &[16, 16, 16, 16 + value], 30, 3);
+    }
+    // Job 0 waits before its Pick of 3.
+    let mut table = below_one(&[code::set(0, 0), code::pick(0, 3), code::end()], &[]);
+    table.tasks[1].body = vec![code::set(0, 0), code::end()];
+    for value in 0..=15 {
+        refused(&table, &[0, 16, value], 30, 2);
+    }
+    complete(&table, &[0, 16, 16, 3, 0]);
+    refused(&table, &[0, 16, 16, 4], 34, 3);
+}
+
+/// The number of a byte behind allowed steps, by the moves of the walk; none if it is a move.
+fn slip(table: &Accepted, steps: &[u8], byte: u8) -> Option<u8> {
+    let state = state_after(table, steps);
+    let moves = moves(table, &state);
+    let is_of_task = |other: &u8| other / 16 == byte / 16;
+    if state.all_ended() {
+        Some(32)
+    } else if usize::from(byte / 16) >= table.table.tasks.len() {
+        Some(33)
+    } else if !moves.iter().any(is_of_task) {
+        Some(30)
+    } else {
+        (!moves.contains(&byte)).then_some(34)
+    }
+}
+
+#[test]
+fn every_byte_behind_each_beginning() {
+    let mut random = Random::new(310);
+    let mut seen = [0; 35];
+    for description in tables_with_picks() {
+        let table = accepted(&description.write());
+        let order = random_order(&mut random, &table);
+        for length in 0..=order.len() {
+            for byte in 0..=255 {
+                let steps = [&order[..length], &[byte]].concat();
+                let number = slip(&table, &order[..length], byte);
+                match number {
+                    Some(number) => refused(&description, &steps, number, length),
+                    None => assert!([0, 31].contains(&replay(&description.write(), &steps).number)),
+                }
+                assert!(byte < 128 || [Some(32), Some(33)].contains(&number));
+                seen[usize::from(number.unwrap_or(0))] += 1;
+            }
+        }
+    }
+    println!("{seen:?}");
+    assert!([0, 30, 32, 33, 34].iter().all(|number| seen[*number] >= 50), "{seen:?}");
 }
 
 #[test]
@@ -142,9 +232,10 @@ fn number_31_short() {
     refused(&table_x(), &[16, 16, 16], 31, 3);
 }
 
+/// Before 33, 30 and 34, whatever the byte.
 #[test]
 fn number_32_extra() {
-    for byte in [0, 16, 255] {
+    for byte in 0..=255 {
         refused(&table_x(), &[&ORDER_OF_X[..], &[byte]].concat(), 32, 8);
         refused(&table_x(), &[&ORDER_OF_X[..], &[byte, byte]].concat(), 32, 8);
         // Without jobs any byte is extra.
@@ -154,8 +245,10 @@ fn number_32_extra() {
 
 #[test]
 fn the_first_wrong_byte_is_named() {
-    refused(&table_x(), &[0, 1, 255], 30, 1);
-    refused(&table_x(), &[&[0, 0, 0, 0, 16, 16][..], &[0]].concat(), 30, 6);
+    refused(&table_x(), &[0, 1, 255, 16, 16], 34, 1);
+    refused(&table_x(), &[0, 255, 1, 16, 16], 33, 1);
+    refused(&table_x(), &[0, 16, 0, 1, 255], 30, 2);
+    refused(&table_x(), &[0, 0, 0, 0, 16, 16, 0], 30, 6);
 }
 
 #[test]

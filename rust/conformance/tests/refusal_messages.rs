@@ -1,4 +1,5 @@
-//! What a refusal says: its rule by document 01's number and name, and its place in words.
+//! What a refusal says: its rule by number and name, and its place in words; with an order at hand,
+//! what is wrong with a step.
 
 use binding::{Place, Refusal, Rule};
 use conformance::cases::{edited, plan, plan_of_x, table_x, ORDER_OF_X};
@@ -7,8 +8,8 @@ use conformance::families::refused_files;
 use generator::{code, TableDescription, TaskDescription};
 use std::collections::BTreeSet;
 
-/// The numbers and names of document 01.
-const NAMES: [(u64, &str); 22] = [
+/// The numbers and names of document 01, and document 02's 33 and 34.
+const NAMES: [(u64, &str); 24] = [
     (1, "SIZE"),
     (2, "KIND"),
     (3, "CHAIN"),
@@ -25,6 +26,8 @@ const NAMES: [(u64, &str); 22] = [
     (30, "STEP"),
     (31, "SHORT"),
     (32, "EXTRA"),
+    (33, "TASK"),
+    (34, "OFFER"),
     (40, "SHAPE"),
     (41, "VALUE"),
     (42, "ROUND"),
@@ -33,12 +36,12 @@ const NAMES: [(u64, &str); 22] = [
     (45, "GUESS"),
 ];
 
-/// What the place is, by document 01: the number says whose.
+/// What the place is, by the papers: the number says whose.
 fn place_by_document(number: u64) -> Place {
     match number {
         1 | 11 | 20 | 21 => Place::Nowhere,
         2..=10 => Place::Record,
-        30..=32 => Place::Step,
+        30..=34 => Place::Step,
         40..=42 => Place::Offset,
         43 | 44 => Place::Job,
         _ => Place::Round,
@@ -46,7 +49,7 @@ fn place_by_document(number: u64) -> Place {
 }
 
 #[test]
-fn rules_are_those_of_document_01() {
+fn rules_are_those_of_the_papers() {
     let rules: Vec<(u64, &str)> = Rule::all().map(|rule| (rule.number(), rule.name())).collect();
     assert_eq!(rules, NAMES);
     for number in (0..=1_000).chain([u64::MAX]) {
@@ -62,7 +65,7 @@ fn rules_are_those_of_document_01() {
 /// Asserts that a message begins with its place, if it has one, and ends with its rule.
 fn assert_says(refusal: Refusal) {
     let (message, place) = (refusal.to_string(), refusal.place);
-    let rule = refusal.rule().expect("a number of document 01");
+    let rule = refusal.rule().expect("a number of the papers");
     let end = format!(" ({} {})", rule.number(), rule.name());
     assert!(message.ends_with(&end), "{message}");
     match rule.place().noun() {
@@ -93,8 +96,11 @@ fn some_messages_whole() {
         (2, 7, "record 7 has the wrong kind for its chain (2 KIND)"),
         (11, 0, "the table has more than 32 jobs (11 JOBS)"),
         (21, 0, "the walk's count exceeds the allowance (21 UNDECIDED)"),
-        (30, 3, "step 3 is not a legal step (30 STEP)"),
+        (30, 3, "step 3 names a task that has no turn here (30 STEP)"),
         (31, 8, "step 8 is missing: the order ends with jobs unfinished (31 SHORT)"),
+        (32, 8, "step 8 is one too many: all jobs ended before it (32 EXTRA)"),
+        (33, 3, "step 3 names a task that does not exist (33 TASK)"),
+        (34, 3, "step 3 names a value that is not on offer (34 OFFER)"),
         (40, 33, "offset 33 of the plan has the first wrong, missing or extra byte (40 SHAPE)"),
         (41, 18, "offset 18 of the plan has a value that its instruction does not allow \
             (41 VALUE)"),
@@ -111,6 +117,39 @@ fn some_messages_whole() {
     for (number, place, message) in expected {
         let refusal: Box<dyn std::error::Error> = Box::new(Refusal { number, place });
         assert_eq!(refusal.to_string(), message);
+    }
+}
+
+#[test]
+fn steps_with_the_order_at_hand() {
+    #[rustfmt::skip]
+    let expected: [(&[u8], u64, u64, &str); 7] = [
+        (&[0, 0, 0, 80], 33, 3, "step 3: task 5 does not exist (33 TASK)"),
+        (&[255], 33, 0, "step 0: task 15 does not exist (33 TASK)"),
+        (&[0, 16, 16, 0], 30, 3, "step 3: task 0 has no turn here (30 STEP)"),
+        (&[0, 47, 0], 30, 1, "step 1: task 2 has no turn here (30 STEP)"),
+        (&[0, 23], 34, 1, "step 1: value 7 is not on offer (34 OFFER)"),
+        (&[1], 34, 0, "step 0: value 1 is not on offer (34 OFFER)"),
+        (&[127], 34, 0, "step 0: value 15 is not on offer (34 OFFER)"),
+    ];
+    for (order, number, place, message) in expected {
+        let refusal = Refusal { number, place };
+        assert_eq!(refusal.in_order(order).to_string(), message);
+    }
+}
+
+/// Every other refusal has its plain message, and so has one whose place is no step of the order.
+#[test]
+fn other_refusals_with_an_order_at_hand() {
+    let order = [0, 80, 23];
+    for number in (0..=60).chain([u64::MAX]) {
+        for place in [0, 2, 3, 1_281, u64::MAX] {
+            let refusal = Refusal { number, place };
+            let is_step = [30, 33, 34].contains(&number) && place < 3;
+            let plain = refusal.in_order(&order).to_string() == refusal.to_string();
+            assert_eq!(plain, !is_step, "{refusal:?}");
+            assert_eq!(refusal.in_order(&[]).to_string(), refusal.to_string());
+        }
     }
 }
 
@@ -136,7 +175,7 @@ fn given_before_plans() -> Vec<(u8, usize)> {
         given.push((answer.number, answer.place));
     }
     let longer = [&ORDER_OF_X[..], &[0]].concat();
-    for order in [&[0, 16, 16, 0][..], &ORDER_OF_X[..5], &longer] {
+    for order in [&[0, 16, 16, 0][..], &ORDER_OF_X[..5], &longer, &[32], &[1]] {
         let answer = interpreter::replay(&x, order);
         given.push((answer.number, answer.place));
     }

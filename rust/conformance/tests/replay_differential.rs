@@ -2,7 +2,7 @@
 //! answer on many files and orders, and the lent words.
 
 use binding::raw::{replay, replay_words, RunAnswer, REPLAY_WORDS};
-use conformance::cases::{edited, rates, table_x, tasks, ORDER_OF_X};
+use conformance::cases::{accepted, edited, rates, table_x, tables_with_picks, tasks, ORDER_OF_X};
 use conformance::entries::word_pattern;
 use conformance::families::{any, crowded, largest_with_assertions, long, small, Family};
 use conformance::orders::{random_order, random_steps, variants};
@@ -27,7 +27,7 @@ const FAMILIES: [Family; 7] = [
 #[derive(Debug)]
 struct Tally {
     /// How often each number came up; index 0 counts acceptances.
-    counts: [u64; 33],
+    counts: [u64; 35],
     /// Accepted orders with a failed job, and with one above job 7.
     failing: u64,
     failing_late: u64,
@@ -36,7 +36,7 @@ struct Tally {
 
 impl Tally {
     fn new() -> Tally {
-        Tally { counts: [0; 33], failing: 0, failing_late: 0, longest: 0 }
+        Tally { counts: [0; 35], failing: 0, failing_late: 0, longest: 0 }
     }
 
     fn orders(&self) -> u64 {
@@ -73,7 +73,7 @@ fn compare_family(tally: &mut Tally, family: &Family) {
         for _ in 0..2 {
             let order = random_order(&mut random, &accepted);
             assert_eq!(tally.compare(family.name, &file, &order).number, 0);
-            for variant in variants(&mut random, &order, count) {
+            for variant in variants(&mut random, &order, &accepted) {
                 tally.compare(family.name, &file, &variant);
             }
         }
@@ -132,10 +132,29 @@ fn compare_x(tally: &mut Tally) {
     assert_eq!(tally.compare("P9", &file, &[0, 16, 16, 0]), refused);
 }
 
+/// Each byte behind each beginning of complete orders.
+fn compare_every_byte(tally: &mut Tally) {
+    let mut random = Random::new(309);
+    for table in tables_with_picks() {
+        let file = table.write();
+        for _ in 0..3 {
+            let order = random_order(&mut random, &accepted(&file));
+            for length in 0..=order.len() {
+                for byte in 0..=255 {
+                    let order = [&order[..length], &[byte]].concat();
+                    let answer = tally.compare("every byte", &file, &order);
+                    assert!(answer.number == 32 || byte < 128 || answer.number == 33);
+                }
+            }
+        }
+    }
+}
+
 #[test]
 fn every_field_of_the_answer() {
     let mut tally = Tally::new();
     compare_x(&mut tally);
+    compare_every_byte(&mut tally);
     compare_refused(&mut tally);
     for family in FAMILIES {
         let (begin, before) = (Instant::now(), tally.orders());
@@ -143,8 +162,8 @@ fn every_field_of_the_answer() {
         println!("{}: {} orders, {:?}", family.name, tally.orders() - before, begin.elapsed());
     }
     println!("{} orders: {tally:?}", tally.orders());
-    assert!(tally.orders() >= 50_000);
-    assert!([0, 30, 31, 32].iter().all(|number| tally.counts[*number] >= 1_000));
+    assert!(tally.orders() >= 100_000);
+    assert!([0, 30, 31, 32, 33, 34].iter().all(|number| tally.counts[*number] >= 5_000));
     assert!((1..=11).all(|number| tally.counts[number] >= 10));
     assert!(tally.failing >= 1_000 && tally.failing_late >= 1_000 && tally.longest == 512);
 }
@@ -174,7 +193,7 @@ fn compare_lent(random: &mut Random, file: &[u8], order: &[u8], length: usize) {
 #[test]
 fn lent_words() {
     let mut random = Random::new(308);
-    let mut counts = [0_u64; 33];
+    let mut counts = [0_u64; 35];
     for round in 0..1_000 {
         let table = if round % 2 == 0 { long(&mut random) } else { random_race(&mut random) };
         let mut file = table.write();
@@ -182,7 +201,7 @@ fn lent_words() {
         match accept(&file) {
             Ok(accepted) => {
                 let order = random_order(&mut random, &accepted);
-                orders.extend(variants(&mut random, &order, table.tasks.len()));
+                orders.extend(variants(&mut random, &order, &accepted));
                 orders.push(order);
             }
             Err(_) => file = refused_file(&mut random, round),
@@ -195,6 +214,6 @@ fn lent_words() {
         }
     }
     println!("{counts:?}");
-    assert!([0, 30, 31, 32].iter().all(|number| counts[*number] >= 100));
+    assert!([0, 30, 31, 32, 33, 34].iter().all(|number| counts[*number] >= 100));
     assert!(counts[1..=11].iter().sum::<u64>() >= 100);
 }

@@ -72,7 +72,8 @@ fn random_orders_and_plans() {
             _ => random_table(&mut random, &Sizes::SMALL).write(),
         };
         let length = random.between(0, 60) as usize;
-        let order: Vec<u8> = (0..length).map(|_| 16 * random.index(3) as u8).collect();
+        let step = |_| 16 * random.index(3) as u8 + u8::from(random.chance(1, 20));
+        let order: Vec<u8> = (0..length).map(step).collect();
         let k = interpreter::read(&file).jobs as u64;
         let mut plan: Vec<u8> = (0..length).map(|_| random.between(0, 1) as u8).collect();
         plan.insert(0, if random.chance(9, 10) { k as u8 } else { random.byte() });
@@ -87,5 +88,5 @@ fn random_orders_and_plans() {
         seen[checked.number as usize] += 1;
     }
     println!("{seen:?}");
-    assert!([30, 31, 32, 40, 41, 42].iter().all(|number| seen[*number] > 20));
+    assert!([30, 31, 32, 33, 34, 40, 41, 42].iter().all(|number| seen[*number] > 20));
 }

@@ -124,7 +124,7 @@ fn run_answer(ending: Ending) -> RunAnswer {
     RunAnswer { end_store, failed_jobs, ..RunAnswer::default() }
 }
 
-/// Replays an order: numbers 30 to 32 after the file's.
+/// Replays an order: numbers 30 to 34 after the file's.
 pub fn replay(file: &[u8], order: &[u8]) -> RunAnswer {
     settle(accept(file).and_then(|accepted| order::replay(&accepted, order)).map(run_answer))
 }

@@ -1,4 +1,5 @@
-//! An interpreter of document 01, written from its text alone and used as a second opinion in tests.
+//! An interpreter of document 01, as E1 of document 02 changes it. It is written from their texts
+//! alone and used as a second opinion in tests.
 //!
 //! One module renders one section of document 01. The entries, one for each thing a caller may ask,
 //! are in [`entries`] and re-exported here. Inside the modules nothing is checked twice: a value of

@@ -1,4 +1,5 @@
-//! The section "Orders of steps" up to the walk, with numbers 30 to 32.
+//! The section "Orders of steps" up to the walk, with numbers 30 to 34: document 01's 30 to 32, and
+//! 33 and 34 by document 02, E1.
 
 use crate::machine::{largest_value, perform, priority, Instruction, Local, Store};
 use crate::numbers::{refuse, JobNumber, Refusal, TaskNumber};
@@ -10,6 +11,26 @@ pub struct Ending {
     pub store: Store,
     /// Bit j is set if job j has a failed assertion noted.
     pub failed_jobs: u32,
+}
+
+/// Which of the "three quite separate slips" of document 02, E1, keeps a byte from being an allowed
+/// step: "33 for a task number outside the table, then 30 for a job with no turn, then 34 for a
+/// value".
+#[derive(Debug, Clone, Copy, PartialEq, Eq)]
+pub enum Slip {
+    /// "the task doesn't exist"
+    Task = 33,
+    /// "the job has no turn"
+    Turn = 30,
+    /// "the chosen value isn't on offer"
+    Value = 34,
+}
+
+impl Slip {
+    /// The number that a refusal by this slip has.
+    pub fn number(self) -> u8 {
+        self as u8
+    }
 }
 
 /// The state between two steps of an order.
@@ -84,13 +105,16 @@ impl State {
     }
 
     /// One step by an order byte, "16 × task + value, the value being the Pick's choice, else 0".
-    /// None, with the state as it was, if the byte is not an allowed step.
-    pub fn step(&mut self, accepted: &Accepted, byte: u8) -> Option<JobNumber> {
+    /// If the byte is not an allowed step, the state stays as it was and the first slip is told.
+    pub fn step(&mut self, accepted: &Accepted, byte: u8) -> Result<JobNumber, Slip> {
         let (task, value) = (TaskNumber(byte / 16), byte % 16);
-        let job = self.turn(accepted, task)?;
+        if usize::from(task.0) >= accepted.table.tasks.len() {
+            return Err(Slip::Task);
+        }
+        let job = self.turn(accepted, task).ok_or(Slip::Turn)?;
         let instruction = self.next_instruction(accepted, job);
         if value > largest_value(instruction) {
-            return None;
+            return Err(Slip::Value);
         }
         // "Starting performs its first instruction."
         if self.locals[job.0].is_none() {
@@ -101,12 +125,13 @@ impl State {
         if local.ended {
             self.active.pop();
         }
-        Some(job)
+        Ok(job)
     }
 }
 
-/// "A replay checks 32, 30 at each byte, 31 at the end." What is done after each step, with the
-/// step's job and value, is the caller's.
+/// "A replay checks 32, 30 at each byte, 31 at the end." The slips of a byte, 30 among them, come
+/// "all at the step's index and after 32." What is done after each step, with the step's job and
+/// value, is the caller's.
 pub fn replay_with(
     accepted: &Accepted,
     order: &[u8],
@@ -118,8 +143,8 @@ pub fn replay_with(
             return refuse(32, place);
         }
         match state.step(accepted, *byte) {
-            Some(job) => after(&state, job, byte % 16),
-            None => return refuse(30, place),
+            Ok(job) => after(&state, job, byte % 16),
+            Err(slip) => return refuse(slip.number(), place),
         }
     }
     if !state.all_ended() {

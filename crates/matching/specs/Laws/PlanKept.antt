@@ -7,10 +7,10 @@ use Prim.Native.Nat.{ℕ, _+_, _/_, _%_, _≤_, _<_}
 use native.Mathlib.Omega.{arith}
 use mathlib.Core.Bool.{Bool, true, false}
 use mathlib.Core.List.{List, [], _∷_, _++_, map}
-use mathlib.Core.Option.{some, bind}
+use mathlib.Core.Option.{some}
 use lib.ListN.{length, getD, take, replicate}
 use Rattle.taskfile.specs.Judgement.{instructionOf}
-use Rattle.notation.specs.Lists.{member, lastOr, if_then_else_}
+use Rattle.notation.specs.Lists.{member, lastOr}
 use Rattle.notation.specs.Laws.PairLaws.{every-at}
 use Rattle.taskfile.specs.Tables.{ceilingsOf}
 use Rattle.notation.specs.Laws.TestLaws.{test-decided, not-both}
@@ -24,9 +24,9 @@ use Rattle.machine.specs.Held.{priority}
 use Rattle.machine.specs.Instructions.{Store, values}
 use Rattle.order.specs.declared.Frame.{Frame}
 use Rattle.order.specs.Code.Invariant.{IsRunning, hasBegun, Invariant}
-use Rattle.order.specs.Orders.{Turn, turnOf, nextOf, performed, stepWith, step, run}
+use Rattle.order.specs.Orders.{Turn, turnOf, nextOf, performed, step, run}
 use Rattle.order.specs.States.{State, initial, hasEnded, presentPriority}
-use Rattle.order.specs.Laws.StepLaws.{no-flag, initial-invariant, good-turn, step-says}
+use Rattle.order.specs.Laws.StepLaws.{no-flag, initial-invariant, good-turn, step-says, offered-steps}
 use Rattle.plan.specs.Legality.{stepsOf, dueStore}
 use Rattle.plan.specs.Plans.{Legal}
 use Rattle.plan.specs.Runs.{Plan, Step, JobRuns, jobTotal}
@@ -163,13 +163,6 @@ module _ {a : Accepted} (ok : IsAccepted a) (plan : Plan) {runs : JobRuns} (lega
 
 -- ---- the next step
 
--- a turn with a value on offer is a step
-step-made : (a : Accepted) (s : State) (byte : ℕ) (turn : Turn) → turnOf a s (byte / 16) ≡ some turn
-    → member (byte % 16) (values (nextOf a (turn .frame))) ≡ true
-    → step a s byte ≡ some (performed a s (byte % 16) turn)
-unfolding step stepWith bind if_then_else_
-step-made a s byte turn due offered = rw (due, offered) refl
-
 -- a plan's step that the order may take
 pub record StepDue (a : Accepted) (s : State) (p : Placed) : Type 0 where
   pub after : State
@@ -187,7 +180,7 @@ module _ (a : Accepted) (s : State) (p : Placed) (turn : Turn) where
       let task : byte / 16 ≡ base a (job (p .number)) = byte-task (base a (job (p .number))) (p .mark .value) small in
       let value : byte % 16 ≡ p .mark .value = byte-value (base a (job (p .number))) (p .mark .value) small in
       let here = ap (turnOf a s) task ∙ due in
-      let taken = step-made a s byte turn here (ap (λ (v : ℕ). member v (values (nextOf a (turn .frame)))) value ∙ offered) in
+      let taken = offered-steps a s byte turn here (ap (λ (v : ℕ). member v (values (nextOf a (turn .frame)))) value ∙ offered) in
       let same : step-says a s byte taken .turn ≡ turn = some-same (sym (step-says a s byte taken .due) ∙ here) in
       record {
         after = performed a s (byte % 16) turn;

@@ -3,31 +3,31 @@
 use Prim.Native.Nat.{ℕ, suc}
 use native.Mathlib.Omega.{arith}
 use mathlib.Core.List.{List, [], _∷_}
-use mathlib.Core.Option.{Option, none, some}
-use Rattle.notation.specs.Checked.{require}
-use Rattle.notation.specs.Laws.NumberedLaws.{Numbered, by-number, none-asked, bind-numbered, then-numbered, require-numbered}
+use Rattle.notation.specs.Checked.{require, given}
+use Rattle.notation.specs.Laws.NumberedLaws.{Numbered, none-asked, bind-numbered, then-numbered, require-numbered, given-numbered}
 use Rattle.timing.specs.Accepted.{Accepted}
-use Rattle.order.specs.Orders.{step}
-use Rattle.order.specs.Replay.{legal, replayFrom, replay}
+use Rattle.order.specs.Replay.{stepAt, replayFrom, replay}
 use Rattle.order.specs.States.{State}
 use Rattle.plan.specs.Laws.PlanRefusals.{legal-numbered}
 use Rattle.plan.specs.Plans.{legalRun}
 use Rattle.plan.specs.Runs.{Plan}
 use Rattle.matching.specs.Conversions.{orderToPlan, planToOrder}
 
--- ---- orders: 30 to 32
+-- ---- orders: 30 to 34
 
-step-numbered : (index : ℕ) (s : Option State) → Numbered (legal index s)
-unfolding legal
-step-numbered index none = by-number {number = 30} (omega arith)
-step-numbered index (some s) = none-asked
+step-numbered : (a : Accepted) (s : State) (index byte : ℕ) → Numbered (stepAt a s index byte)
+unfolding stepAt
+step-numbered a s index byte =
+    then-numbered (require _ 33 index) (require-numbered _ 33 index (omega arith))
+    (bind-numbered (given _ 30 index) (given-numbered _ 30 index (omega arith))
+    (λ turn. then-numbered (require _ 34 index) (require-numbered _ 34 index (omega arith)) none-asked))
 
 replay-from-numbered : (a : Accepted) (bytes : List ℕ) (s : State) (index : ℕ) → Numbered (replayFrom a s index bytes)
 unfolding replayFrom
 replay-from-numbered a [] s index = then-numbered (require _ 31 index) (require-numbered _ 31 index (omega arith)) none-asked
 replay-from-numbered a (byte ∷ bytes) s index =
     then-numbered (require _ 32 index) (require-numbered _ 32 index (omega arith))
-    (bind-numbered (legal index (step a s byte)) (step-numbered index (step a s byte))
+    (bind-numbered (stepAt a s index byte) (step-numbered a s index byte)
     (λ next. replay-from-numbered a bytes next (suc index)))
 
 pub replay-numbered : (a : Accepted) (order : List ℕ) → Numbered (replay a order)

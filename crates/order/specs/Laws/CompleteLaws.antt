@@ -2,34 +2,27 @@
 -- jobs have ended, and an order that the replay accepts is short enough by itself.
 -- Assumes nothing.
 use mathlib.Core.Path.{_≡_, refl, sym, ap, _∙_}
-use mathlib.Core.Logic.{inl, inr}
-use Prim.Native.Nat.{ℕ, suc, _/_, _≤_}
+use Prim.Native.Nat.{ℕ, suc, _≤_}
 use native.Mathlib.Omega.{arith}
-use mathlib.Core.Bool.{true, false, not}
+use mathlib.Core.Bool.{true, not}
 use mathlib.Core.List.{List, [], _∷_}
 use mathlib.Core.Option.{Option, none, some, bind}
 use lib.ListN.{length}
 use Rattle.notation.specs.Checked.{passed, require}
-use Rattle.notation.specs.Laws.CheckedLaws.{refused-passed, passed-same, bind-passed, then-passed, require-passed, require-holds, bind-goes}
-use Rattle.notation.specs.Laws.TestLaws.{test-decided, not-both, test-holds}
+use Rattle.notation.specs.Laws.CheckedLaws.{passed-same, bind-passed, then-passed, require-passed, require-holds, bind-goes}
+use Rattle.notation.specs.Laws.TestLaws.{test-holds}
 use Rattle.timing.specs.Accepted.{Accepted}
 use Rattle.timing.specs.Code.IsAccepted.{IsAccepted}
 use Rattle.timing.specs.Laws.JobFacts.{jobs-few}
-use Rattle.timing.specs.Laws.JobNumberLaws.{all-jobs}
 use Rattle.machine.specs.Ends.{End}
 use Rattle.machine.specs.Buffers.{orderRoom}
 use Rattle.order.specs.Code.Invariant.{Invariant}
 use Rattle.order.specs.Laws.LengthLaws.{order-short}
 use Rattle.order.specs.Orders.{step, run, orderEnd, Complete}
-use Rattle.order.specs.Replay.{legal, replayFrom, replay}
-use Rattle.order.specs.States.{State, initial, hasEnded, allEnded}
-use Rattle.order.specs.Laws.StepLaws.{good-turn, step-says, step-keeps, initial-invariant}
-
--- a byte that passed the replay is a step
-legal-passed : (index : ℕ) (o : Option State) {s : State} → legal index o ≡ passed s → o ≡ some s
-unfolding legal
-legal-passed index none e = refused-passed e
-legal-passed index (some s) e = ap some (passed-same e)
+use Rattle.order.specs.Replay.{stepAt, replayFrom, replay}
+use Rattle.order.specs.States.{State, initial, allEnded}
+use Rattle.order.specs.Laws.SlipLaws.{stepAt-passed, byte-steps}
+use Rattle.order.specs.Laws.StepLaws.{step-keeps, initial-invariant}
 
 -- its bytes are steps, and all jobs have ended after the last
 pub replay-runs : (a : Accepted) (bytes : List ℕ) (s : State) (index : ℕ) {after : State}
@@ -41,29 +34,17 @@ replay-runs a [] s index {after} e =
     (ap some same, ap (allEnded a) (sym same) ∙ test-holds (allEnded a s) (require-passed (allEnded a s) 31 index (parts .1)))
 replay-runs a (byte ∷ bytes) s index {after} e =
     let parts = then-passed (require (not (allEnded a s)) 32 index) _ e in
-    let stepped = bind-passed (legal index (step a s byte)) (λ next. replayFrom a next (suc index) bytes) (parts .2) in
-    let later = replay-runs a bytes (stepped .0) (suc index) (stepped .2) in
-    (rw (legal-passed index (step a s byte) (stepped .1)) (later .0), later .1)
+    let made = bind-passed (stepAt a s index byte) (λ next. replayFrom a next (suc index) bytes) (parts .2) in
+    let later = replay-runs a bytes (made .0) (suc index) (made .2) in
+    (rw (stepAt-passed a s index byte (made .1)) (later .0), later .1)
 
 -- ---- what an order's steps come to
 
 module _ {a : Accepted} (ok : IsAccepted a) where
-  -- before a step not all jobs have ended: the job whose turn it is has not
-  pub step-unended : {s : State} → Invariant a s → (byte : ℕ) {after : State} → step a s byte ≡ some after
-      → allEnded a s ≡ false
-  unfolding allEnded
-  step-unended {s} inv byte e =
-      let made = step-says a s byte e in
-      let running = good-turn ok inv (byte / 16) (made .due) .0 .running in
-      elim (test-decided (allEnded a s)) [
-        | inl ended ↦ absurd (not-both (hasEnded s (made .turn .frame .job)) (all-jobs a (hasEnded s) ended (made .turn .frame .job) (running .job)) (running .unended))
-        | inr going ↦ going
-      ]
-
   -- steps after which all jobs have ended pass the replay
   pub run-replays : (bytes : List ℕ) {s : State} → Invariant a s → (index : ℕ) {after : State}
       → run a s bytes ≡ some after → allEnded a after ≡ true → replayFrom a s index bytes ≡ passed after
-  unfolding run replayFrom bind legal
+  unfolding run replayFrom bind
   run-replays [] {s} inv index {after} e ended =
       let same : s ≡ after = cc in
       require-holds (allEnded a s) 31 index (passed s) (ap (allEnded a) same ∙ ended) ∙ ap passed same
@@ -75,8 +56,7 @@ module _ {a : Accepted} (ok : IsAccepted a) where
           ≡ passed after) → replayFrom a s index (byte ∷ bytes) ≡ passed after
       go none one h later = absurd (let z : _≡_ {A = ℕ} 0 1 = cc in omega arith)
       go (some next) one h later =
-          require-holds (not (allEnded a s)) 32 index _ (ap not (step-unended inv byte one))
-          ∙ bind-goes _ (ap (legal index) one) ∙ later next (step-keeps ok inv byte one) h
+          byte-steps ok inv index byte bytes one ∙ later next (step-keeps ok inv byte one) h
 
   -- ---- complete orders
 

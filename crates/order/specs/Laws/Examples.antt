@@ -1,4 +1,4 @@
--- Computed examples of orders: complete orders with their ends, and each of 30 to 32 with its place.
+-- Computed examples of orders: complete orders with their ends, and each of 30 to 34 with its place.
 -- Assumes nothing.
 use mathlib.Core.Path.{_≡_, refl}
 use Prim.Native.Nat.{ℕ}
@@ -32,22 +32,27 @@ pub record OrderExamples : Type 0 where
   -- job 1 comes before job 0
   pub completeBefore : replay pair (16 ∷ 0 ∷ []) ≡ endsWith noStore noFlags
   pub completeIdle : replay idle [] ≡ endsWith (twoSet 5 0) noFlags
-  -- "30 STEP: not a legal step": job 0 has to wait for job 1
+  -- "30 for a job with no turn": job 0 has to wait for job 1
   pub stepWaits : replay pair (0 ∷ 16 ∷ []) ≡ refused 30 0
   -- job 1's base is the ceiling of the lock that job 0 holds
   pub stepCeiling : replay nest (0 ∷ 16 ∷ []) ≡ refused 30 1
   -- job 0 is active, and job 1 was started last
   pub stepUnder : replay nest (0 ∷ 0 ∷ 16 ∷ 0 ∷ []) ≡ refused 30 3
-  -- the Pick offers 0 to 3, an Acquire 0 alone
-  pub stepPicked : replay nest (0 ∷ 0 ∷ 36 ∷ []) ≡ refused 30 2
-  pub stepValue : replay nest (1 ∷ []) ≡ refused 30 0
-  -- a job that has ended does not start again, and there is no task 3
+  -- a job that has ended does not start again: its task is in the table, and has no job left
   pub stepEnded : replay nest (32 ∷ 32 ∷ 32 ∷ 32 ∷ []) ≡ refused 30 3
-  pub stepNone : replay nest (48 ∷ []) ≡ refused 30 0
+  -- "33 for a task number outside the table": there is no task 3, and no table has one above 7
+  pub taskNone : replay nest (48 ∷ []) ≡ refused 33 0
+  pub taskHighest : replay nest (0 ∷ 255 ∷ []) ≡ refused 33 1
+  -- "34 for a value": the Pick offers 0 to 3, an Acquire 0 alone
+  pub valuePicked : replay nest (0 ∷ 0 ∷ 36 ∷ []) ≡ refused 34 2
+  pub valueAcquire : replay nest (1 ∷ []) ≡ refused 34 0
+  -- 33 before 30, and 30 before 34: no task 3 has a turn, and job 0 under job 1 has none, whatever the value
+  pub taskBeforeTurn : replay nest (0 ∷ 0 ∷ 16 ∷ 63 ∷ []) ≡ refused 33 3
+  pub turnBeforeValue : replay nest (0 ∷ 0 ∷ 16 ∷ 15 ∷ []) ≡ refused 30 3
   -- "31 SHORT: bytes end with jobs unfinished; place is the length."
   pub shortEmpty : replay nest [] ≡ refused 31 0
   pub shortLast : replay nest (take 10 nested) ≡ refused 31 10
-  -- "32 EXTRA: bytes remain after all jobs ended", checked before 30
+  -- "32 EXTRA: bytes remain after all jobs ended", checked before the others
   pub extra : replay nest (nested ++ (0 ∷ [])) ≡ refused 32 11
   pub extraIdle : replay idle (255 ∷ []) ≡ refused 32 0
 
@@ -62,10 +67,13 @@ order-examples =
       stepWaits = refl;
       stepCeiling = refl;
       stepUnder = refl;
-      stepPicked = refl;
-      stepValue = refl;
       stepEnded = refl;
-      stepNone = refl;
+      taskNone = refl;
+      taskHighest = refl;
+      valuePicked = refl;
+      valueAcquire = refl;
+      taskBeforeTurn = refl;
+      turnBeforeValue = refl;
       shortEmpty = refl;
       shortLast = refl;
       extra = refl;

@@ -8,6 +8,6 @@ use Rattle.order.specs.States
 unfoldable pub ordersOpened : Unit {0}
 unfolding bind States.initial States.hasEnded States.isActive States.allEnded States.presentPriority
     States.mayStart Orders.startOf Orders.turnAmong Orders.turnOf Orders.nextOf Orders.performed Orders.stepWith
-    Orders.step Orders.run Orders.orderEnd Replay.legal Replay.replayFrom Replay.replay Replay.replayed
+    Orders.step Orders.run Orders.orderEnd Replay.isTask Replay.stepAt Replay.replayFrom Replay.replay Replay.replayed
     Replay.replayAnswer
 ordersOpened = tt

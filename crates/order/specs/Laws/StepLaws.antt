@@ -31,7 +31,7 @@ use Rattle.machine.specs.Instructions.{fresh, perform, values}
 use Rattle.order.specs.declared.Frame.{Frame}
 use Rattle.order.specs.Code.Invariant.{Over, IsRunning, hasBegun, Invariant}
 use Rattle.timing.specs.Laws.JobFacts.{job-task, jobs-few}
-use Rattle.order.specs.Orders.{Turn, startOf, turnAmong, turnOf, nextOf, performed, stepWith, step}
+use Rattle.order.specs.Orders.{Turn, startOf, turnAmong, turnOf, nextOf, isOffered, performed, stepWith, step}
 use Rattle.timing.specs.Laws.JobNumberLaws.{all-jobs, first-job}
 use Rattle.order.specs.States.{State, initial, hasEnded, isActive, presentPriority, mayStart}
 
@@ -378,6 +378,12 @@ pub step-says : (a : Accepted) (s : State) (byte : ℕ) {after : State} → step
     → AllowedStep a s byte after
 unfolding step
 step-says a s byte e = turn-says (turnOf a s (byte / 16)) refl e
+
+-- and such a turn is one
+pub offered-steps : (a : Accepted) (s : State) (byte : ℕ) (turn : Turn) → turnOf a s (byte / 16) ≡ some turn
+    → isOffered a turn (byte % 16) ≡ true → step a s byte ≡ some (performed a s (byte % 16) turn)
+unfolding step stepWith bind if_then_else_
+offered-steps a s byte turn due offered = rw (due, offered) refl
 
 -- "the state after a step is reachable": every step keeps the invariant
 pub step-keeps : {a : Accepted} → IsAccepted a → {s : State} → Invariant a s → (byte : ℕ) {after : State}

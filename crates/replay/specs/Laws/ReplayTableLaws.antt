@@ -1,6 +1,6 @@
 -- The replay from what is lent of a table's parts comes to what the order comes to.
 -- Assumes nothing.
-use mathlib.Core.Path.{_≡_, sym, subst}
+use mathlib.Core.Path.{_≡_, sym, ap, subst, _∙_}
 use Prim.Native.Nat.{ℕ}
 use mathlib.Core.List.{List}
 use Rattle.taskfile.specs.declared.Table.{Table}
@@ -17,8 +17,10 @@ use Rattle.lending.specs.declared.Lent.{Lent}
 use Rattle.lending.specs.Code.Lending.{LentOf}
 
 pub replay-lent : {t : Table} {list : JobList} {l : Lent} (order : List ℕ) {r : Replayed} → LentOf t list l
-    → r ≡ replayedOf (replayIn (l .program) (l .times) (l .locks) (snapshotIn (l .start)) 0 order)
+    → r ≡ replayedOf (replayIn (l .program) (l .times) (l .locks) (t .tasks) (snapshotIn (l .start)) 0 order)
     → ReplayOf t list order r
-replay-lent order lent is a ok table listed =
+replay-lent {l = l} order lent is a ok table listed =
     let ends = replay-agreed ok (lent .lends a ok table listed) order (initial-invariant a) (lent .shows a ok table listed) 0 in
-    subst (λ (q : Replayed). ReplayedAs q (replayFrom a (initial a) 0 order)) (sym is) (replay-kept a _ (replayFrom a (initial a) 0 order) ends)
+    let same = is
+    ∙ ap (λ (u : Table). replayedOf (replayIn (l .program) (l .times) (l .locks) (u .tasks) (snapshotIn (l .start)) 0 order)) table in
+    subst (λ (q : Replayed). ReplayedAs q (replayFrom a (initial a) 0 order)) (sym same) (replay-kept a _ (replayFrom a (initial a) 0 order) ends)

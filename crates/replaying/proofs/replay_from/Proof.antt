@@ -5,6 +5,7 @@ use mathlib.Core.Path.{refl, ap, _∙_}
 use Prim.Native.Nat.{_-_}
 use native.Mathlib.Omega.{arith}
 use lib.ListN.{length}
+use borrow.Author.Needs.{needs}
 use Rattle.snapshots.specs.Code.ReplayParts.{replayedOf}
 use Rattle.snapshots.specs.Laws.ReplayLoopLaws.{Reached, replay-past, replay-whole, replay-short}
 use Rattle.states.specs.Code.StateBytes.{snapshotIn, IsState}
@@ -13,10 +14,10 @@ use Rattle.replaying.proofs.replay_from.Statement.{statement}
 use Rattle.replaying.proofs.replay_from.Tie as tie
 
 abbrev Inv-loop : tie.InvT-loop
-Inv-loop program times locks order s₀ index₀ s index = IsState s × Reached program times locks (snapshotIn s₀) order (snapshotIn s) index
+Inv-loop program times locks tasks order s₀ index₀ s index = IsState s × Reached program times locks tasks (snapshotIn s₀) order (snapshotIn s) index
 
 abbrev μ-loop : tie.MeasureT-loop
-μ-loop program times locks order s₀ index₀ s index = length order - index
+μ-loop program times locks tasks order s₀ index₀ s index = length order - index
 
 loop-holds : tie.Need-loop-holds Inv-loop μ-loop
 loop-holds c = (c .before .pre .1, refl)
@@ -32,27 +33,31 @@ returns c =
     let done = c .before .before .before in
     c .outcome .ensures
     ∙ ap replayedOf
-    (replay-past _ _ _ _ _ _ _ (done .before .before .before .loop .inv .1) (done .finished .ensures) (done .before .before .loop-test .taken)
+    (replay-past _ _ _ _ _ _ _ _ (done .before .before .before .loop .inv .1) (done .finished .ensures) (done .before .before .loop-test .taken)
     (c .before .before .if1 .taken))
 
-shared-slice-read-step : tie.Need-shared-slice-read-step Inv-loop μ-loop
-shared-slice-read-step c = omega arith
+shared-slice-read-byte : tie.Need-shared-slice-read-byte Inv-loop μ-loop
+shared-slice-read-byte c = omega arith
 
 step-requires : tie.Need-step-requires Inv-loop μ-loop
 step-requires c κs =
     let at = c .before .before .before .before .before .before in (at .before .before .pre .0, at .loop .inv .0)
+
+slip-requires : tie.Need-slip-requires Inv-loop μ-loop
+slip-requires c κs = search needs
 
 outcome-requires-2 : tie.Need-outcome-requires-2 Inv-loop μ-loop
 outcome-requires-2 c κs = tt
 
 returns-2 : tie.Need-returns-2 Inv-loop μ-loop
 returns-2 c =
-    let made = c .before .before .before in
+    let named = c .before .before in
+    let made = named .before .before .before in
     let done = made .before .before .before .before in
     c .outcome2 .ensures
     ∙ ap replayedOf
-    (byte-refused _ _ _ _ _ _ _ (done .before .before .before .loop .inv .1) (done .finished .ensures) (done .before .before .loop-test .taken)
-    (made .before .before .before .if1 .left) (made .step .ensures .0) (made .step .ensures .1 .0) (c .before .before .if2 .taken))
+    (byte-refused _ _ _ _ _ _ _ _ (done .before .before .before .loop .inv .1) (done .finished .ensures) (done .before .before .loop-test .taken)
+    (made .before .before .before .if1 .left) (made .step .ensures .0) (made .step .ensures .1 .0) (named .before .before .if2 .taken) (named .slip .ensures))
 
 add-index : tie.Need-add-index Inv-loop μ-loop
 add-index c = omega arith
@@ -65,7 +70,7 @@ loop-again c =
     let made = c .before in
     let done = made .before .before .before .before in (
       made .step .ensures .1 .1,
-      byte-goes _ _ _ _ _ _ _ (done .before .before .before .loop .inv .1) (done .finished .ensures) (done .before .before .loop-test .taken)
+      byte-goes _ _ _ _ _ _ _ _ (done .before .before .before .loop .inv .1) (done .finished .ensures) (done .before .before .loop-test .taken)
           (made .before .before .before .if1 .left) (made .step .ensures .0) (made .step .ensures .1 .0) (c .if2 .left),
     )
 
@@ -80,7 +85,7 @@ returns-3 c =
     let done = c .before .before .before in
     c .outcome3 .ensures
     ∙ ap replayedOf
-    (replay-whole _ _ _ _ _ _ _ (done .before .before .before .loop .inv .1) (done .finished2 .ensures) (done .before .before .loop-test .left)
+    (replay-whole _ _ _ _ _ _ _ _ (done .before .before .before .loop .inv .1) (done .finished2 .ensures) (done .before .before .loop-test .left)
     (c .before .before .if3 .taken))
 
 outcome-requires-4 : tie.Need-outcome-requires-4 Inv-loop μ-loop
@@ -91,7 +96,7 @@ returns-4 c =
     let done = c .before .before .before in
     c .outcome4 .ensures
     ∙ ap replayedOf
-    (replay-short _ _ _ _ _ _ _ (done .before .before .before .loop .inv .1) (done .finished2 .ensures) (done .before .before .loop-test .left)
+    (replay-short _ _ _ _ _ _ _ _ (done .before .before .before .loop .inv .1) (done .finished2 .ensures) (done .before .before .loop-test .left)
     (c .before .before .if3 .left))
 
 pub replay-from-spec : {M : Type 1} → statement M
@@ -104,8 +109,9 @@ replay-from-spec =
     finished-requires
     outcome-requires
     returns
-    shared-slice-read-step
+    shared-slice-read-byte
     step-requires
+    slip-requires
     outcome-requires-2
     returns-2
     add-index

@@ -11,7 +11,7 @@ use Rattle.taskfile.specs.declared.Ceilings.{Ceilings}
 use Rattle.notation.specs.Lists.{if_then_else_}
 use Rattle.snapshots.specs.Code.Snapshots.{Snapshot, Stepped}
 use Rattle.snapshots.specs.Laws.ReplayLoopLaws.{Reached, replay-refused, replay-goes}
-use Rattle.snapshots.specs.Code.SnapshotSteps.{stepWithIn, dueStep, stepIn, finishedIn, replayIn}
+use Rattle.snapshots.specs.Code.SnapshotSteps.{stepWithIn, dueStep, stepIn, finishedIn, slipIn, replayIn}
 
 -- ---- a step that is not allowed changes nothing
 
@@ -37,21 +37,24 @@ step-kept program times locks p byte = turn-kept _ p _ (choice-kept _ p _)
 
 -- ---- the replay after a step
 
-module _ (program times : List ℕ) (locks : Ceilings) (start : Snapshot) (order : List ℕ) (p : Snapshot) (index : ℕ)
-    (reached : Reached program times locks start order p index) {b : Bool} (finished : b ≡ finishedIn program p)
+module _ (program times : List ℕ) (locks : Ceilings) (tasks : ℕ) (start : Snapshot) (order : List ℕ) (p : Snapshot)
+    (index : ℕ) (reached : Reached program times locks tasks start order p index)
+    {b : Bool} (finished : b ≡ finishedIn program p)
     (lt : index < length order) (goes : b ≡ false) {allowed : Bool} {after : Snapshot}
     (allows : allowed ≡ stepIn program times locks p (getD order index 0) .allowed)
     (made : after ≡ stepIn program times locks p (getD order index 0) .state) where
   whole : record { allowed = allowed; state = after } ≡ stepIn program times locks p (getD order index 0)
   whole = ap₂ (λ (t : Bool) (s : Snapshot). record { allowed = t; state = s }) allows made
 
-  pub byte-refused : not allowed ≡ true
-      → record { number = 30; place = index; state = after } ≡ replayIn program times locks start 0 order
-  byte-refused refusal =
-      ap (λ (s : Snapshot). record { number = 30; place = index; state = s })
-      (made ∙ step-kept program times locks p (getD order index 0) (sym allows ∙ not-true allowed refusal))
-      ∙ replay-refused program times locks start order p index reached finished lt goes {r = record { allowed = allowed; state = after }} whole refusal
+  -- its slip is asked of the state after it, which is the one before
+  pub byte-refused : not allowed ≡ true → {n : ℕ} → n ≡ slipIn program times locks tasks after (getD order index 0)
+      → record { number = n; place = index; state = after } ≡ replayIn program times locks tasks start 0 order
+  byte-refused refusal says =
+      let kept = made ∙ step-kept program times locks p (getD order index 0) (sym allows ∙ not-true allowed refusal) in
+      let named = says ∙ ap (λ (s : Snapshot). slipIn program times locks tasks s (getD order index 0)) kept in
+      (λ j. record { number = named j; place = index; state = kept j })
+      ∙ replay-refused program times locks tasks start order p index reached finished lt goes {r = record { allowed = allowed; state = after }} whole refusal
 
-  pub byte-goes : not allowed ≡ false → Reached program times locks start order after (index + 1)
+  pub byte-goes : not allowed ≡ false → Reached program times locks tasks start order after (index + 1)
   byte-goes allowance =
-      replay-goes program times locks start order p index reached finished lt goes {r = record { allowed = allowed; state = after }} whole allowance
+      replay-goes program times locks tasks start order p index reached finished lt goes {r = record { allowed = allowed; state = after }} whole allowance

@@ -175,22 +175,30 @@ hasUpcoming program upcoming k = ownedBy program k (getD upcoming k 0)
 unfoldable pub finishedIn : Program → Snapshot → Bool
 finishedIn program p = eqb (p .depth) 0 && not (any (hasUpcoming program (p .upcoming)) (upTo 8))
 
+-- the number of a byte that is no step, in a table with so many tasks: 33 for its task, 30 for its turn, 34 for its
+-- value
+unfoldable pub slipIn : Program → LentTimes → Ceilings → ℕ → Snapshot → ℕ → ℕ
+slipIn program times locks tasks p byte =
+    if ltb (byte / 16) tasks
+    then if turnIn program times locks p (byte / 16) .due then 34 else 30
+    else 33
+
 -- the bytes from `index` on
-unfoldable pub replayIn : Program → LentTimes → Ceilings → Snapshot → ℕ → List ℕ → ReplayEnd
-replayIn program times locks p index [] =
+unfoldable pub replayIn : Program → LentTimes → Ceilings → ℕ → Snapshot → ℕ → List ℕ → ReplayEnd
+replayIn program times locks tasks p index [] =
     record {
       number = if finishedIn program p then 0 else 31;
       place = if finishedIn program p then 0 else index;
       state = p;
     }
-replayIn program times locks p index (byte ∷ bytes) =
+replayIn program times locks tasks p index (byte ∷ bytes) =
     let stepped = stepIn program times locks p byte in
     elim (finishedIn program p) [
       | true ↦ record { number = 32; place = index; state = p }
       | false ↦
           elim (stepped .allowed) [
-            | true ↦ replayIn program times locks (stepped .state) (suc index) bytes
-            | false ↦ record { number = 30; place = index; state = p }
+            | true ↦ replayIn program times locks tasks (stepped .state) (suc index) bytes
+            | false ↦ record { number = slipIn program times locks tasks p byte; place = index; state = p }
           ]
     ]
 

@@ -3,17 +3,18 @@
 -- Assumes nothing.
 use mathlib.Core.Path.{_≡_, refl, sym, ap, _∙_}
 use mathlib.Core.Logic.{inl, inr}
-use Prim.Native.Nat.{ℕ, zero, suc, _+_, _≤_, _<_}
+use Prim.Native.Nat.{ℕ, zero, suc, _+_, _/_, _≤_, _<_}
 use native.Mathlib.Decide.{ℕ-discrete, decLt}
 use native.Mathlib.Omega.{arith}
-use mathlib.Core.Bool.{Bool, true, false, not, _||_}
+use mathlib.Core.Bool.{Bool, true, false, _||_}
 use mathlib.Core.List.{List, [], _∷_}
 use mathlib.Core.Option.{Option, none, some}
 use lib.ListN.{getD}
 use borrow.Author.Tests.{lt-ltb, le-ltb}
 use Rattle.taskfile.specs.declared.Ceilings.{Ceilings}
+use Rattle.taskfile.specs.Laws.JudgingLaws.{tasks-length}
 use Rattle.notation.specs.Checked.{Checked, refused, passed}
-use Rattle.notation.specs.Laws.CheckedLaws.{require-holds, require-fails, bind-refused, bind-goes}
+use Rattle.notation.specs.Laws.CheckedLaws.{require-holds, require-fails}
 use Rattle.notation.specs.Laws.ListLaws.{upTo-length, getD-upTo}
 use Rattle.notation.specs.Lists.{any, from, upTo, if_then_else_}
 use Rattle.notation.specs.Laws.TestLaws.{test-decided}
@@ -27,11 +28,14 @@ use Rattle.timing.specs.Laws.JobFacts.{jobs-few}
 use Rattle.order.specs.Laws.LengthLaws.{left, step-left}
 use Rattle.order.specs.Orders.{step}
 use Rattle.notation.specs.Laws.QuantifierLaws.{map-length, map-at}
-use Rattle.order.specs.Replay.{legal, replayFrom}
+use Rattle.order.specs.Replay.{isTask, replayFrom}
+use Rattle.order.specs.Slips.{slipOf}
+use Rattle.order.specs.Laws.SlipLaws.{slip-positive, byte-extra, byte-slips, byte-steps}
 use Rattle.timing.specs.Laws.BaseLaws.{base-rises, base-small}
 use Rattle.snapshots.specs.Code.Shows.{Lends, Shows}
 use Rattle.snapshots.specs.Laws.SnapshotLaws.{step-agreed, finished-agreed}
-use Rattle.snapshots.specs.Code.SnapshotSteps.{ownerIn, stackOf, stepIn, finishedIn, replayIn, firstFrom, firstSnapshot}
+use Rattle.snapshots.specs.Laws.TurnAgreed.{turn-turned}
+use Rattle.snapshots.specs.Code.SnapshotSteps.{ownerIn, stackOf, turnIn, stepIn, finishedIn, slipIn, replayIn, firstFrom, firstSnapshot}
 use Rattle.timing.specs.Code.IsAccepted.{IsAccepted}
 use Rattle.order.specs.States.{State, initial, hasEnded, isActive, allEnded}
 use Rattle.order.specs.Laws.StepLaws.{step-keeps, no-flag}
@@ -39,39 +43,26 @@ use Rattle.snapshots.specs.Code.ReplayParts.{ReplayEndsAs, replayedOf, R
 
 -- ---- one byte
 
-module _ (program times : List ℕ) (locks : Ceilings) (p : Snapshot) (index byte : ℕ) (bytes : List ℕ) where
+module _ (program times : List ℕ) (locks : Ceilings) (tasks : ℕ) (p : Snapshot) (index byte : ℕ) (bytes : List ℕ) where
   -- a byte after the end
   pub replay-extra : finishedIn program p ≡ true
-      → replayIn program times locks p index (byte ∷ bytes) ≡ record { number = 32; place = index; state = p }
+      → replayIn program times locks tasks p index (byte ∷ bytes) ≡ record { number = 32; place = index; state = p }
   unfolding replayIn
   replay-extra e = rw (e, replayIn) refl
 
   -- a byte that is no step
   pub replay-illegal : finishedIn program p ≡ false → stepIn program times locks p byte .allowed ≡ false
-      → replayIn program times locks p index (byte ∷ bytes) ≡ record { number = 30; place = index; state = p }
+      → replayIn program times locks tasks p index (byte ∷ bytes)
+      ≡ record { number = slipIn program times locks tasks p byte; place = index; state = p }
   unfolding replayIn
   replay-illegal e illegal = rw (e, illegal, replayIn) refl
 
   -- a byte that is one
   pub replay-on : finishedIn program p ≡ false → stepIn program times locks p byte .allowed ≡ true
-      → replayIn program times locks p index (byte ∷ bytes)
-      ≡ replayIn program times locks (stepIn program times locks p byte .state) (suc index) bytes
+      → replayIn program times locks tasks p index (byte ∷ bytes)
+      ≡ replayIn program times locks tasks (stepIn program times locks p byte .state) (suc index) bytes
   unfolding replayIn
   replay-on e allowed = rw (e, allowed, replayIn) refl
-
-module _ (a : Accepted) (s : State) (index byte : ℕ) (bytes : List ℕ) where
-  extra : allEnded a s ≡ true → replayFrom a s index (byte ∷ bytes) ≡ refused 32 index
-  unfolding replayFrom
-  extra e = require-fails (not (allEnded a s)) 32 index _ (ap not e)
-
-  illegal : allEnded a s ≡ false → step a s byte ≡ none → replayFrom a s index (byte ∷ bytes) ≡ refused 30 index
-  unfolding replayFrom legal
-  illegal e h = require-holds (not (allEnded a s)) 32 index _ (ap not e) ∙ bind-refused _ (ap (legal index) h)
-
-  goes : allEnded a s ≡ false → {after : State} → step a s byte ≡ some after
-      → replayFrom a s index (byte ∷ bytes) ≡ replayFrom a after (suc index) bytes
-  unfolding replayFrom legal
-  goes e h = require-holds (not (allEnded a s)) 32 index _ (ap not e) ∙ bind-goes _ (ap (legal index) h)
 
 -- ---- the first snapshot
 
@@ -156,7 +147,7 @@ module _ {a : Accepted} (ok : IsAccepted a) {program times : List ℕ} {locks : 
   -- ---- the replay
 
   replay-end : {p : Snapshot} {s : State} → Invariant a s → Shows a p s → (index : ℕ)
-      → ReplayEndsAs a (replayIn program times locks p index []) (replayFrom a s index [])
+      → ReplayEndsAs a (replayIn program times locks (a .table .tasks) p index []) (replayFrom a s index [])
   unfolding replayIn replayFrom if_then_else_
   replay-end {p} {s} inv shows index =
       let same = finished-agreed ok lends inv shows in
@@ -165,30 +156,44 @@ module _ {a : Accepted} (ok : IsAccepted a) {program times : List ℕ} {locks : 
         | inr e ↦ rw (require-fails (allEnded a s) 31 index (passed s) e, same ∙ e) (refl, refl)
       ]
 
+  -- a byte that is no step slips alike
+  slip-agreed : {p : Snapshot} {s : State} → Invariant a s → Shows a p s → (byte : ℕ)
+      → slipIn program times locks (a .table .tasks) p byte ≡ slipOf a s byte
+  unfolding slipIn slipOf isTask if_then_else_
+  slip-agreed {p} {s} inv shows byte =
+      let turned = turn-turned ok lends inv shows (byte / 16) in
+      let tasks = tasks-length _ (ok .isMade .shaped) in
+      elim (test-decided (turnIn program times locks p (byte / 16) .due)) [
+        | inl e ↦ rw (tasks, e, turned .0 e .due) refl
+        | inr e ↦ rw (tasks, e, turned .1 e) refl
+      ]
+
   -- one byte keeps the two together
   replay-step : {p : Snapshot} {s : State} → Invariant a s → Shows a p s → (index byte : ℕ) (bytes : List ℕ)
       → ((after : State) → Invariant a after → Shows a (stepIn program times locks p byte .state) after → ReplayEndsAs
-      a (replayIn program times locks (stepIn program times locks p byte .state) (suc index) bytes)
+      a (replayIn program times locks (a .table .tasks) (stepIn program times locks p byte .state) (suc index) bytes)
       (replayFrom a after (suc index) bytes))
-      → ReplayEndsAs a (replayIn program times locks p index (byte ∷ bytes)) (replayFrom a s index (byte ∷ bytes))
+      → ReplayEndsAs a (replayIn program times locks (a .table .tasks) p index (byte ∷ bytes))
+      (replayFrom a s index (byte ∷ bytes))
   replay-step {p} {s} inv shows index byte bytes onward =
       let same = finished-agreed ok lends inv shows in
       let agreed = step-agreed ok lends inv shows byte in
       elim (test-decided (allEnded a s)) [
         | inl e ↦
-            rw (extra a s index byte bytes e, replay-extra program times locks p index byte bytes (same ∙ e)) (refl, refl)
+            rw (byte-extra a s index byte bytes e, replay-extra program times locks _ p index byte bytes (same ∙ e)) (refl, refl)
         | inr e ↦ elim (test-decided (stepIn program times locks p byte .allowed)) [
           | inl allowed ↦
               let made = agreed .0 allowed in
-              rw (goes a s index byte bytes e (made .1), replay-on program times locks p index byte bytes (same ∙ e) allowed)
+              rw (byte-steps ok inv index byte bytes (made .1), replay-on program times locks _ p index byte bytes (same ∙ e) allowed)
               (onward (made .0) (step-keeps ok inv byte (made .1)) (made .2))
           | inr refusal ↦
-              rw (illegal a s index byte bytes e (agreed .1 refusal), replay-illegal program times locks p index byte bytes (same ∙ e) refusal) (refl, refl)
+              rw (byte-slips a s index byte bytes e (agreed .1 refusal), replay-illegal program times locks _ p index byte bytes (same ∙ e) refusal)
+              (slip-agreed inv shows byte, refl)
         ]
       ]
 
   pub replay-agreed : (bytes : List ℕ) {p : Snapshot} {s : State} → Invariant a s → Shows a p s → (index : ℕ)
-      → ReplayEndsAs a (replayIn program times locks p index bytes) (replayFrom a s index bytes)
+      → ReplayEndsAs a (replayIn program times locks (a .table .tasks) p index bytes) (replayFrom a s index bytes)
   replay-agreed [] inv shows index = replay-end inv shows index
   replay-agreed (byte ∷ bytes) inv shows index =
       replay-step inv shows index byte bytes (λ after kept shown. replay-agreed bytes kept shown (suc index))
@@ -230,16 +235,12 @@ module _ {a : Accepted} (ok : IsAccepted a) where
       → replayFrom a s index (byte ∷ bytes) ≡ refused number place → Fault a s index number place
   byte-fault {s} inv index byte bytes later none h e =
       elim (test-decided (allEnded a s)) [
-        | inl ended ↦ fault-here (sym (extra a s index byte bytes ended) ∙ e) (omega arith)
-        | inr going ↦ fault-here (sym (illegal a s index byte bytes going h) ∙ e) (omega arith)
+        | inl ended ↦ fault-here (sym (byte-extra a s index byte bytes ended) ∙ e) (omega arith)
+        | inr going ↦ fault-here (sym (byte-slips a s index byte bytes going h) ∙ e) (slip-positive a s byte)
       ]
   byte-fault {s} inv index byte bytes later (some after) h e =
-      elim (test-decided (allEnded a s)) [
-        | inl ended ↦ fault-here (sym (extra a s index byte bytes ended) ∙ e) (omega arith)
-        | inr going ↦
-            let fault = later after (step-keeps ok inv byte h) (sym (goes a s index byte bytes going h) ∙ e) in
-            record { numbered = fault .numbered; near = omega (arith, fault .near, step-left ok inv byte h) }
-      ]
+      let fault = later after (step-keeps ok inv byte h) (sym (byte-steps ok inv index byte bytes h) ∙ e) in
+      record { numbered = fault .numbered; near = omega (arith, fault .near, step-left ok inv byte h) }
 
   pub replay-fault : (bytes : List ℕ) {s : State} → Invariant a s → (index : ℕ) {number place : ℕ}
       → replayFrom a s index bytes ≡ refused number place → Fault a s index number place

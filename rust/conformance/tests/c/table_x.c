@@ -98,6 +98,28 @@ static void replay_x(void) {
     expect("place in 7 bytes", run.place, 7);
 }
 
+/* The slips of a step: task 0 has no turn, task 5 does not exist, value 7 is not on offer. */
+static void steps_refused(void) {
+    static const uint8_t orders[3][4] = {{0, 16, 16, 0}, {0, 16, 80, 16}, {0, 23, 16, 16}};
+    static const uint64_t numbers[3] = {ADQURIM_STEP, ADQURIM_TASK, ADQURIM_OFFER};
+    static const uint64_t places[3] = {3, 2, 1}, tasks[3] = {0, 5, 1}, values[3] = {0, 0, 7};
+    adqurim_run run;
+    uint8_t plan[ADQURIM_PLAN_ROOM];
+    memset(plan, FILL, sizeof plan);
+    for (size_t at = 0; at < 3; at++) {
+        const uint8_t *order = orders[at];
+        uint64_t number = adqurim_replay_order(table_x, sizeof table_x, order, 4, &run);
+        expect("replay of a slip", number, numbers[at]);
+        expect("place of a slip", run.place, places[at]);
+        expect("task of the byte at the place", order[run.place] / 16, tasks[at]);
+        expect("value of the byte at the place", order[run.place] % 16, values[at]);
+        number = adqurim_convert_order(table_x, sizeof table_x, order, 4, plan, sizeof plan, &run);
+        expect("conversion of a slip", number, numbers[at]);
+        expect("place of a slip", run.place, places[at]);
+    }
+    expect_untouched(plan, sizeof plan);
+}
+
 /* Allowance 23: the walk fails. */
 static void walk_x(void) {
     adqurim_walk_answer walk;
@@ -312,6 +334,7 @@ int main(void) {
     read_x();
     read_refused();
     replay_x();
+    steps_refused();
     walk_x();
     walk_refused();
     walk_words();

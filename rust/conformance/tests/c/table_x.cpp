@@ -33,6 +33,21 @@ static bool there_and_back() {
            std::memcmp(order, order_of_x, sizeof order_of_x) == 0;
 }
 
+// Whether each of the slips of a step has its number: no turn, no such task, no such value.
+static bool slips() {
+    adqurim_run run = {};
+    const uint8_t no_turn[] = {0, 16, 16, 0}, no_task[] = {0, 80}, no_value[] = {0, 23};
+    bool same = adqurim_replay_order(table_x, sizeof table_x, no_turn, sizeof no_turn, &run) ==
+                ADQURIM_STEP;
+    same = same && run.place == 3;
+    same = same && adqurim_replay_order(table_x, sizeof table_x, no_task, sizeof no_task, &run) ==
+                       ADQURIM_TASK;
+    same = same && run.place == 1;
+    same = same && adqurim_replay_order(table_x, sizeof table_x, no_value, sizeof no_value,
+                                        &run) == ADQURIM_OFFER;
+    return same && run.place == 1;
+}
+
 // Whether the sheet is that of document 01; it is printed.
 static bool sheet() {
     adqurim_sheet_answer answer = {};
@@ -79,7 +94,7 @@ int main() {
            walk.length == sizeof order_of_x && order[1] == order_of_x[1];
     same = same && adqurim_walk_orders(table_x, sizeof table_x, 22, order, sizeof order,
                                        &walk) == ADQURIM_UNDECIDED;
-    same = same && there_and_back() && sheet() && jobs();
+    same = same && slips() && there_and_back() && sheet() && jobs();
     if (!same) {
         std::fprintf(stderr, "table X differs from document 01 through C++\n");
     }
