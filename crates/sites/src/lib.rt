@@ -29,5 +29,6 @@ pub fn record_at(file: &[u8], site: Site) -> u8
             let task = link_after(file, byte_at(file, 0, offsets::FIRST_TASK), i.0);
             link_after(file, byte_at(file, task, offsets::FIRST_INSTRUCTION), p)
         }
+        Site::AtLock(l) => link_after(file, byte_at(file, 0, offsets::FIRST_LOCK), l),
     }
 }

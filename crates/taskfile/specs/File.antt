@@ -7,7 +7,7 @@ use mathlib.Core.List.{List, [], _∷_}
 use lib.ListN.{length, getD}
 use lib.Dec.{leb, eqb}
 use Rattle.taskfile.specs.declared.Site.{Site}
-use Rattle.taskfile.specs.declared.Site.the-variants.{AtHeader, AtTask, AtInstruction}
+use Rattle.taskfile.specs.declared.Site.the-variants.{AtHeader, AtTask, AtInstruction, AtLock}
 use Rattle.taskfile.specs.declared.Table.{Table}
 use Rattle.taskfile.specs.Chains.{Chains, TaskChain, chainsOf}
 use Rattle.notation.specs.Checked.{Checked, passed, require, placedBy, _>>=_, _>>_}
@@ -29,6 +29,7 @@ unfoldable pub recordAt : Chains → Site → ℕ
 recordAt c AtHeader = 0
 recordAt c (AtTask i) = getD (c .tasks) (i .0) (record { taskRecord = 0; body = [] }) .taskRecord
 recordAt c (AtInstruction i p) = getD (getD (c .tasks) (i .0) (record { taskRecord = 0; body = [] }) .body) p 0
+recordAt c (AtLock l) = getD (c .locks) l 0
 
 unfoldable pub load : File → Checked ℕ Loaded
 load f = do

@@ -9,7 +9,7 @@ use lib.ListN.{length, getD}
 use lib.Dec.{leb, ltb, eqb}
 use Rattle.taskfile.specs.declared.Instruction.{Instruction}
 use Rattle.taskfile.specs.declared.Site.{Site}
-use Rattle.taskfile.specs.declared.Site.the-variants.{AtHeader, AtTask, AtInstruction}
+use Rattle.taskfile.specs.declared.Site.the-variants.{AtHeader, AtTask, AtInstruction, AtLock}
 use Rattle.taskfile.specs.declared.Table.{Table}
 use Rattle.taskfile.specs.declared.Task.{Task}
 use Rattle.taskfile.specs.declared.TaskEntry.{TaskEntry}
@@ -52,11 +52,13 @@ unfoldable pub ofInstruction : (Task → ℕ → Bool) → Site → Bool
 ofInstruction fault AtHeader = false
 ofInstruction fault (AtTask i) = false
 ofInstruction fault (AtInstruction i p) = fault i p
+ofInstruction fault (AtLock l) = false
 
 unfoldable pub ofTask : (Task → Bool) → Site → Bool
 ofTask fault AtHeader = false
 ofTask fault (AtTask i) = fault i
 ofTask fault (AtInstruction i p) = false
+ofTask fault (AtLock l) = false
 
 -- "7 BODY: last instruction not End (place: it), or a skip beyond it (place: the skip)"
 unfoldable pub bodyFault : Table → Task → ℕ → Bool

@@ -122,9 +122,19 @@ tidy f r TaskRecord = eqb (byteAt f r 3) 0
 tidy f r LockRecord = zeroFrom f r 3 13
 tidy f r InstructionRecord = tidyInstruction (instructionAt f r) && zeroFrom f r 6 10
 
--- "a value out of range": W at least 1; 1 ≤ C ≤ P; a ceiling 0 to 7; an operation and its fields
+-- "window W (at least 1)"; "1 ≤ C ≤ P"; "ceiling, 0 to 7"
+abbrev pub windowInRange : ℕ → Bool
+windowInRange W = leb 1 W
+
+abbrev pub timesInRange : ℕ → ℕ → Bool
+timesInRange C P = leb 1 C && leb C P
+
+abbrev pub ceilingInRange : ℕ → Bool
+ceilingInRange ceiling = leb ceiling 7
+
+-- "a value out of range": the window, a task's times, a ceiling, an operation and its fields
 unfoldable pub inRange : File → ℕ → Kind → Bool
-inRange f r Header = leb 1 (wideAt f r 4)
-inRange f r TaskRecord = leb 1 (wideAt f r 4) && leb (wideAt f r 4) (wideAt f r 8)
-inRange f r LockRecord = leb (byteAt f r 2) 7
+inRange f r Header = windowInRange (wideAt f r 4)
+inRange f r TaskRecord = timesInRange (wideAt f r 4) (wideAt f r 8)
+inRange f r LockRecord = ceilingInRange (byteAt f r 2)
 inRange f r InstructionRecord = instructionInRange (instructionAt f r)

@@ -59,11 +59,12 @@ pub enum Check {
     Refused(u8, u8),
 }
 
-// A site of a table: its header, a task, or the instruction at a position of a task's body.
+// A site of a table: its header, a task, the instruction at a position of a task's body, or a lock.
 pub enum Site {
     AtHeader,
     AtTask(Task),
     AtInstruction(Task, u8),
+    AtLock(u8),
 }
 
 // What the judgement of a table comes to: passed, or refused with a number of document 01 at a site.

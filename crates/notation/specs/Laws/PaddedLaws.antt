@@ -76,7 +76,7 @@ every-replicate : {A : Type 0} (P : A → Type 0) (m : ℕ) (d : A) → P d → 
 every-replicate P zero d h = tt
 every-replicate P (suc m) d h = (h, every-replicate P m d h)
 
-every-take : {A : Type 0} (P : A → Type 0) (m : ℕ) (xs : List A) → Every P xs → Every P (take m xs)
+pub every-take : {A : Type 0} (P : A → Type 0) (m : ℕ) (xs : List A) → Every P xs → Every P (take m xs)
 every-take P zero xs h = tt
 every-take P (suc m) [] h = tt
 every-take P (suc m) (x ∷ xs) h = (h .0, every-take P m xs (h .1))

@@ -4,7 +4,7 @@ use borrow.Author.Needs.{needs}
 use Prim.Native.Nat.{ℕ}
 use mathlib.Core.Path.{_≡_, sym, ap, _∙_}
 use Rattle.taskfile.specs.declared.Site.{Site}
-use Rattle.taskfile.specs.declared.Site.the-variants.{AtTask, AtInstruction}
+use Rattle.taskfile.specs.declared.Site.the-variants.{AtTask, AtInstruction, AtLock}
 use Rattle.taskfile.specs.declared.Task.{Task}
 use Rattle.taskfile.specs.Code.ReadingParts.{linkAfter, siteRecord}
 use Rattle.taskfile.specs.Records.{File, byteAt}
@@ -16,6 +16,12 @@ task-site : (f : File) (s : Site) (i : Task) (first at : ℕ) → s ≡ AtTask i
 unfolding siteRecord
 task-site f s i first at atSite atFirst atTask =
     atTask ∙ ap (λ k. linkAfter f k (i .0)) atFirst ∙ ap (siteRecord f) (sym atSite)
+
+lock-site : (f : File) (s : Site) (l first at : ℕ) → s ≡ AtLock l → first ≡ byteAt f 0 3 → at ≡ linkAfter f first l
+    → at ≡ siteRecord f s
+unfolding siteRecord
+lock-site f s l first at atSite atFirst atLock =
+    atLock ∙ ap (λ k. linkAfter f k l) atFirst ∙ ap (siteRecord f) (sym atSite)
 
 instruction-site : (f : File) (s : Site) (i : Task) (p first task body at : ℕ) → s ≡ AtInstruction i p → first ≡ byteAt f 0 2
     → task ≡ linkAfter f first (i .0) → body ≡ byteAt f task 2 → at ≡ linkAfter f body p → at ≡ siteRecord f s
@@ -52,6 +58,15 @@ byte-at-requires-3 c κs = search needs
 link-after-requires-3 : tie.Need-link-after-requires-3
 link-after-requires-3 c κs = search needs
 
+enum-known-site-3 : tie.Need-enum-known-site-3
+enum-known-site-3 c = search needs
+
+byte-at-requires-4 : tie.Need-byte-at-requires-4
+byte-at-requires-4 c κs = search needs
+
+link-after-requires-4 : tie.Need-link-after-requires-4
+link-after-requires-4 c κs = search needs
+
 returns : tie.Need-returns
 unfolding siteRecord
 returns c = sym (ap (siteRecord _) (c .enum-told .given .1))
@@ -66,6 +81,10 @@ returns-3 c =
     (c .before .before .before .byte-at2 .ensures) (c .before .before .link-after2 .ensures) (c .before .byte-at3 .ensures)
     (c .link-after3 .ensures)
 
+returns-4 : tie.Need-returns-4
+returns-4 c =
+    lock-site _ _ _ _ _ (c .before .before .before .site3 .given .1) (c .before .byte-at4 .ensures) (c .link-after4 .ensures)
+
 pub record-at-spec : {M : Type 1} → statement M
 record-at-spec =
     tie.close
@@ -79,6 +98,10 @@ record-at-spec =
     link-after-requires-2
     byte-at-requires-3
     link-after-requires-3
+    enum-known-site-3
+    byte-at-requires-4
+    link-after-requires-4
     returns
     returns-2
-    returns-3)
+    returns-3
+    returns-4)

@@ -8,7 +8,7 @@ use Rattle.taskfile.specs.declared.Ceilings.{Ceilings}
 use Rattle.taskfile.specs.declared.Chain.{Chain}
 use Rattle.taskfile.specs.declared.Entries.{Entries}
 use Rattle.taskfile.specs.declared.Site.{Site}
-use Rattle.taskfile.specs.declared.Site.the-variants.{AtHeader, AtTask, AtInstruction}
+use Rattle.taskfile.specs.declared.Site.the-variants.{AtHeader, AtTask, AtInstruction, AtLock}
 use Rattle.taskfile.specs.Chains.{mostInstructions, mostTasks, mostLocks}
 use Rattle.notation.specs.Lists.{padded}
 use Rattle.taskfile.specs.Code.Reading.{linked, linkedTask}
@@ -46,3 +46,4 @@ unfoldable pub siteRecord : File → Site → ℕ
 siteRecord f AtHeader = 0
 siteRecord f (AtTask i) = linkAfter f (byteAt f 0 2) (i .0)
 siteRecord f (AtInstruction i p) = linkAfter f (byteAt f (linkAfter f (byteAt f 0 2) (i .0)) 2) p
+siteRecord f (AtLock l) = linkAfter f (byteAt f 0 3) l

@@ -9,7 +9,7 @@ use lib.ListN.{length, getD, length-map}
 use Rattle.taskfile.specs.declared.Kind.{Kind}
 use Rattle.taskfile.specs.declared.Kind.the-variants.{LockRecord, InstructionRecord}
 use Rattle.taskfile.specs.declared.Site.{Site}
-use Rattle.taskfile.specs.declared.Site.the-variants.{AtHeader, AtTask, AtInstruction}
+use Rattle.taskfile.specs.declared.Site.the-variants.{AtHeader, AtTask, AtInstruction, AtLock}
 use Rattle.taskfile.specs.declared.Table.{Table}
 use Rattle.taskfile.specs.declared.Task.{Task}
 use Rattle.taskfile.specs.Chains.{Chains, TaskChain, mostInstructions, mostTasks, mostLocks, chain, bodyChain, taskChains, recordsOf, chainsOf}
@@ -69,13 +69,15 @@ chains-linked f e =
     let locksSame = chain-linked LockRecord mostLocks f (0 ∷ recordsOf (tasks .0)) 0 (byteAt f 0 3) (locks .1) in
     sym end ∙ (λ k. record { tasks = tasksSame k; locks = locksSame k })
 
--- a site of the table that the links spell: its task is one of the tasks, its position one of the body's
+-- a site of the table that the links spell: its task is one of the tasks, its position one of the body's, its lock one
+-- of the locks
 abbrev pub Sited : File → Site → Type 0
 Sited f AtHeader = Unit {0}
 Sited f (AtTask i) = i .0 < length (linked f mostTasks (byteAt f 0 2))
 Sited f (AtInstruction i p) =
     (i .0 < length (linked f mostTasks (byteAt f 0 2)))
     × (p < length (linked f mostInstructions (byteAt f (linkAfter f (byteAt f 0 2) (i .0)) 2)))
+Sited f (AtLock l) = l < length (linked f mostLocks (byteAt f 0 3))
 
 -- task number k is the one whose record k links lead to
 task-at : (f : File) (k : ℕ) (d : TaskChain) → k < length (linked f mostTasks (byteAt f 0 2))
@@ -87,12 +89,13 @@ task-at f k d h =
 
 -- the record at a site by the chains is the one by following indices
 pub site-record : (f : File) (s : Site) → Sited f s → recordAt (linkedChains f) s ≡ siteRecord f s
-unfolding recordAt siteRecord linkedTask
+unfolding recordAt siteRecord linkedTask linkedChains
 site-record f AtHeader h = refl
 site-record f (AtTask i) h = ap (λ t. t .taskRecord) (task-at f (i .0) _ h)
 site-record f (AtInstruction i p) h =
     ap (λ t. getD (t .body) p 0) (task-at f (i .0) _ (h .0))
     ∙ linked-at f mostInstructions (byteAt f (linkAfter f (byteAt f 0 2) (i .0)) 2) p 0 (h .1)
+site-record f (AtLock l) h = linked-at f mostLocks (byteAt f 0 3) l 0 h
 
 -- the arrays of a table hold what the chains spell
 pub tasks-held : (f : File) (c : Chains) → length (c .tasks) ≤ mostTasks
@@ -110,11 +113,12 @@ pub body-held : (f : File) (t : TaskChain) → length (t .body) ≤ mostInstruct
 unfolding bodyOf entryAt
 body-held f t h = padded-held mostInstructions endInstruction (instructionAt f) (t .body) h
 
--- a site of a table: its task is one of the tasks, its position one of the body's
+-- a site of a table: its task is one of the tasks, its position one of the body's, its lock one of the locks
 abbrev pub InTable : Table → Site → Type 0
 InTable t AtHeader = Unit {0}
 InTable t (AtTask i) = i .0 < length (tasksOf t)
 InTable t (AtInstruction i p) = (i .0 < length (tasksOf t)) × (p < length (bodyOf (taskOf t i)))
+InTable t (AtLock l) = l < length (ceilingsOf t)
 
 -- the tasks of the table that the links spell, and how many there are
 linked-tasks : (f : File) → tasksOf (tableAt f (linkedChains f)) ≡ map (entryAt f) (linkedChains f .tasks)
@@ -124,6 +128,10 @@ linked-tasks f = tasks-held f (linkedChains f) (simp length-map (linked-length f
 tasks-counted : (f : File) → length (tasksOf (tableAt f (linkedChains f))) ≡ length (linked f mostTasks (byteAt f 0 2))
 unfolding linkedChains
 tasks-counted f = ap length (linked-tasks f) ∙ simp length-map
+
+locks-counted : (f : File) → length (ceilingsOf (tableAt f (linkedChains f))) ≡ length (linked f mostLocks (byteAt f 0 3))
+unfolding linkedChains
+locks-counted f = ap length (ceilings-held f (linkedChains f) (linked-length f mostLocks (byteAt f 0 3))) ∙ simp length-map
 
 -- its task number i, and how long the body is
 pub task-held : (f : File) (i : Task) → i .0 < length (linked f mostTasks (byteAt f 0 2))
@@ -153,6 +161,7 @@ in-table-sited f (AtTask i) h = rw tasks-counted at h
 in-table-sited f (AtInstruction i p) h =
     let task : i .0 < length (linked f mostTasks (byteAt f 0 2)) = rw tasks-counted at (h .0) in
     (task, rw (body-counted f i task) at (h .1))
+in-table-sited f (AtLock l) h = rw (locks-counted f) at h
 
 -- the table that the links spell is in full arrays, with counts that stay within them
 entry-shaped : (f : File) (r : ℕ) → ShapedEntry (entryAt f (linkedTask f r))

@@ -74,7 +74,7 @@ loaded-passed x (passed loaded) h e = (loaded, refl, h .1)
 -- ---- response times that were looked for
 
 -- the refusal stands at one of the tasks
-responses-refused : (t : Table) (is : List Task) {n : ℕ} {s : Site} → responsesOf t is ≡ refused n s
+pub responses-refused : (t : Table) (is : List Task) {n : ℕ} {s : Site} → responsesOf t is ≡ refused n s
     → (i : Task) × List·Memᴰ i is × (s ≡ AtTask i)
 unfolding responsesOf
 responses-refused t [] e = absurd (let z : _≡_ {A = ℕ} 0 1 = cc in omega arith)
