@@ -1,7 +1,7 @@
 // Words, numbers and lines of a sheet, written into the room of a lent text.
 use sheets::SHEET_ROOM;
 use writing::write_byte;
-ghost use mathlib.Core.Path.{_≡_};
+use writing::write_bytes;
 ghost use Prim.Native.Nat.{_≤_};
 ghost use mathlib.Core.List.{[], _∷_};
 ghost use lib.ListN.{length};
@@ -21,13 +21,7 @@ pub fn put_word(word: &[u8], at: usize, out: &mut [u8]) -> usize
     requires { ⌜ 4608 ≤ length (now out) ⌝ }
     ensures { λ n. ⌜ Appends 4608 (now (out .entry)) at (now (word .entry)) (now (out .exit)) n ⌝ }
 {
-    let mut next = at;
-    let mut k: usize = 0;
-    while k < word.len() {
-        next = write_byte(out, SHEET_ROOM, next, word[k]);
-        k += 1;
-    }
-    next
+    write_bytes(out, SHEET_ROOM, at, word)
 }
 
 // Writes a number in decimal.

@@ -17,6 +17,20 @@ pub fn write_byte(out: &mut [u8], room: usize, at: usize, byte: u8) -> usize
     at + 1
 }
 
+// Writes bytes one after the other from a place of the room on, and answers the next place.
+pub fn write_bytes(out: &mut [u8], room: usize, at: usize, bytes: &[u8]) -> usize
+    requires { ⌜ room ≤ length (now out) ⌝ }
+    ensures { λ n. ⌜ Appends room (now (out .entry)) at (now (bytes .entry)) (now (out .exit)) n ⌝ }
+{
+    let mut next = at;
+    let mut k: usize = 0;
+    while k < bytes.len() {
+        next = write_byte(out, room, next, bytes[k]);
+        k += 1;
+    }
+    next
+}
+
 // Zeros from a byte of the buffer on, up to the end of the room.
 pub fn clear_from(from: usize, room: usize, out: &mut [u8])
     requires { ⌜ (from ≤ room) × (room ≤ length (now out)) ⌝ }

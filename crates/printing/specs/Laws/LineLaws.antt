@@ -3,13 +3,11 @@
 use mathlib.Core.Path.{_≡_, refl, sym, ap, subst, _∙_}
 use Prim.Native.Nat.{ℕ, _+_, _/_, _%_, _^_, _≤_, _<_}
 use native.Mathlib.Omega.{arith}
-use native.Mathlib.Numerals.{add-one}
 use mathlib.Core.List.{List, [], _∷_, _++_, append-assoc, append-nil}
-use lib.ListN.{length, getD, take}
-use lib.Seq.{take-suc, take-all}
+use lib.ListN.{length}
 use Rattle.notation.specs.Lists.{each}
 use Rattle.writing.specs.Code.Writing.{Appends}
-use Rattle.writing.specs.Laws.WritingLaws.{appends-none, appends-more, appends-length}
+use Rattle.writing.specs.Laws.WritingLaws.{appends-more, appends-length}
 use Rattle.sheets.specs.Texts.{Text, digit, decimal, spaced, line}
 use Rattle.sheets.specs.Laws.DecimalLaws.{decimal-digit, decimal-more}
 
@@ -80,38 +78,6 @@ pub line-ended : {before : Text} {at : ℕ} {word : Text} {words : List Text} {m
     → LineBegun before at word words mid m → PutsText mid m (10 ∷ []) after n → PutsText before at (line word words) after n
 unfolding line
 line-ended begun puts = appends-more (begun .enough) (begun .puts) puts
-
--- ---- the bytes of a word
-
--- the first k bytes of a word were written
-pub record Worded (before : Text) (at : ℕ) (word : Text) (k : ℕ) (after : Text) (n : ℕ) : Type 0 where
-  pub few : k ≤ length word
-  pub puts : PutsText before at (take k word) after n
-
-pub word-none : (before : Text) (at : ℕ) (word : Text) → Worded before at word 0 before at
-word-none before at word = record { few = omega arith; puts = appends-none 4608 before at }
-
-pub word-more : {before : Text} {at : ℕ} {word : Text} {k : ℕ} {mid : Text} {m : ℕ} {after : Text} {n : ℕ}
-    → Worded before at word k mid m → 4608 ≤ length before → k < length word
-    → PutsText mid m (getD word k 0 ∷ []) after n → Worded before at word (k + 1) after n
-word-more {word = word} {k} worded enough inside puts = record {
-  few = omega arith;
-  puts =
-      puts-same (sym (take-suc word k 0 inside) ∙ ap (λ (j : ℕ). take j word) (sym (add-one k)))
-      (appends-more enough (worded .puts) puts);
-}
-
-pub word-enough : {before : Text} {at : ℕ} {word : Text} {k : ℕ} {after : Text} {n : ℕ}
-    → Worded before at word k after n → 4608 ≤ length before → 4608 ≤ length after
-word-enough worded enough = puts-enough enough (worded .puts)
-
-pub word-length : {before : Text} {at : ℕ} {word : Text} {k : ℕ} {after : Text} {n : ℕ}
-    → Worded before at word k after n → 4608 ≤ length before → length after ≡ length before
-word-length worded enough = appends-length (worded .puts) enough
-
-pub word-all : {before : Text} {at : ℕ} {word : Text} {k : ℕ} {after : Text} {n : ℕ}
-    → Worded before at word k after n → length word ≤ k → PutsText before at word after n
-word-all {word = word} {k} worded all = puts-same (take-all k word all) (worded .puts)
 
 -- ---- the digits of a number
 
