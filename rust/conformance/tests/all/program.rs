@@ -13,7 +13,7 @@ use std::process::{ChildStdin, Command, Output, Stdio};
 use std::time::Duration;
 use std::{iter, thread};
 
-const README: &str = include_str!("../../../README.md");
+const README: &str = include_str!("../../../../README.md");
 
 /// Statuses of the script.
 const HOLDS: i32 = 0;

@@ -10,9 +10,9 @@ use binding::{
 };
 use std::collections::{BTreeMap, BTreeSet};
 
-const HEADER: &str = include_str!("../../../include/adqurim.h");
-const BOUND: &str = include_str!("../../binding/src/raw.rs");
-const README: &str = include_str!("../../../README.md");
+const HEADER: &str = include_str!("../../../../include/adqurim.h");
+const BOUND: &str = include_str!("../../../binding/src/raw.rs");
+const README: &str = include_str!("../../../../README.md");
 
 type Named = BTreeMap<String, u64>;
 

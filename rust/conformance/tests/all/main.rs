@@ -1,0 +1,29 @@
+//! All tests of this crate, in one program: it is built and linked once, and its tests run side by side.
+
+mod bench_cases;
+mod binding_values;
+mod buffers;
+mod c_programs;
+mod check_order;
+mod conversion_differential;
+mod demand_3;
+mod file_refusals;
+mod header;
+mod jobs_differential;
+mod order_refusals;
+mod plan_differential;
+mod plan_refusals;
+mod program;
+mod read_differential;
+mod refusal_messages;
+mod replay_differential;
+mod response_times;
+mod robustness;
+mod samples;
+mod sheet_differential;
+mod sheets;
+mod shuffled;
+mod there_and_back;
+mod walk;
+mod walk_differential;
+mod walk_entry;
