@@ -1,7 +1,8 @@
 /*
  * Adqurim's C interface: the reader of task files, the replay of an order, the walk of all orders,
  * the check of a round plan, the conversions of an order to its plan and of a plan to its order,
- * the sheet, and the list of jobs. For C11 and C++11 or later.
+ * the sheet, the list of jobs, and the table in memory, read from a file and written to one. For
+ * C11 and C++11 or later.
  *
  * Each entry comes twice: as a proved entry of the library, which fills words that the caller
  * lends, and as a function that calls the entry and fills a struct.
@@ -14,10 +15,12 @@
  *   adqurim_plan_to_order   adqurim_convert_plan
  *   adqurim_sheet           adqurim_print_sheet
  *   adqurim_jobs            adqurim_list_jobs
+ *   adqurim_table           adqurim_read_table
+ *   adqurim_write           adqurim_write_file
  *
- * A slice passes as a pointer and then a length: bytes for a file, an order, a plan or a text,
- * records for a list of jobs, words of 64 bits for an answer. A pointer is never null, even where
- * its length is 0. The library keeps nothing between calls and allocates nothing.
+ * A slice passes as a pointer and then a length: bytes for a file, an order, a plan, a text or a
+ * table in memory, records for a list of jobs, words of 64 bits for an answer. A pointer is never
+ * null, even where its length is 0. The library keeps nothing between calls and allocates nothing.
  */
 #ifndef ADQURIM_H
 #define ADQURIM_H
@@ -33,17 +36,21 @@ extern "C" {
 
 /* Limits of a table. */
 #define ADQURIM_MOST_TASKS 8
+#define ADQURIM_MOST_LOCKS 8
+#define ADQURIM_MOST_INSTRUCTIONS 16
 #define ADQURIM_MOST_JOBS 32
 #define ADQURIM_VARIABLES 8
 
 /*
  * The room that number 20 asks for: bytes of an order, bytes of a plan, records of a job list,
- * bytes of a sheet's text.
+ * bytes of a sheet's text, bytes of a table in memory, bytes of a file that is written.
  */
 #define ADQURIM_ORDER_ROOM 512
 #define ADQURIM_PLAN_ROOM 1281
 #define ADQURIM_JOB_LIST_ROOM 32
 #define ADQURIM_SHEET_ROOM 4608
+#define ADQURIM_TABLE_ROOM 664
+#define ADQURIM_FILE_ROOM 2320
 
 /* The allowance of a sheet's walk. */
 #define ADQURIM_SHEET_ALLOWANCE 1000000
@@ -55,7 +62,9 @@ extern "C" {
 enum adqurim_number {
     ADQURIM_ACCEPTED = 0, /* no refusal; place 0 */
 
-    /* The file's author. The place is a record. */
+    /* The file's author. The place is a record. For a table in memory, which earns 4, 5 and 7 to
+       11, it is the index that the record would have had in the file: the header at 0, each task
+       followed by its body, then the locks. */
     ADQURIM_SIZE = 1,    /* length 0, above 4,096 or no multiple of 16; place 0 */
     ADQURIM_KIND = 2,    /* wrong kind for its chain; that record */
     ADQURIM_CHAIN = 3,   /* an index outside the file or to a record already reached; its holder */
@@ -75,7 +84,9 @@ enum adqurim_number {
 
     /* The caller. */
     ADQURIM_ROOM = 20,      /* order buffer below 512 bytes, plan buffer below 1,281, job list
-                               below 32, a sheet's text below 4,608; place 0 */
+                               below 32, a sheet's text below 4,608, a table in memory that is to
+                               be filled below 664, a file that is to be written below 2,320;
+                               place 0 */
     ADQURIM_UNDECIDED = 21, /* the walk's count exceeds the allowance; place 0 */
 
     /* The author of an order. The place is a step's index. For 30, 33 and 34 the order's byte at
@@ -114,6 +125,8 @@ enum adqurim_verdict {
 #define ADQURIM_CONVERSION_WORDS 43
 #define ADQURIM_SHEET_WORDS 3
 #define ADQURIM_JOBS_WORDS 3
+#define ADQURIM_TABLE_WORDS 3
+#define ADQURIM_WRITE_WORDS 3
 
 /* What adqurim_read answers, word by word. */
 typedef struct adqurim_read_answer {
@@ -164,6 +177,45 @@ typedef struct adqurim_jobs_answer {
     uint64_t jobs;   /* how many records were written */
 } adqurim_jobs_answer;
 
+/* An instruction of a table in memory: the operation and its fields. Unused fields are zero. */
+typedef struct adqurim_instruction {
+    uint8_t operation;
+    uint8_t a;
+    uint8_t b;
+    uint8_t c;
+} adqurim_instruction;
+
+/* A task of a table in memory: its times, and its body. */
+typedef struct adqurim_task_entry {
+    uint32_t execution;
+    uint32_t period;
+    uint32_t arrival;  /* the first */
+    uint8_t length;    /* of the body, in instructions */
+    uint8_t unused[3]; /* not read, and filled with zeros */
+    adqurim_instruction body[ADQURIM_MOST_INSTRUCTIONS];
+} adqurim_task_entry;
+
+/*
+ * A table in memory, laid out as the library's on a machine that stores the low byte first. What
+ * stands past a count is no part of the table: it is not judged, and it is filled with zeros.
+ */
+typedef struct adqurim_task_table {
+    uint32_t window;
+    uint8_t store[ADQURIM_VARIABLES]; /* the initial one */
+    uint8_t tasks;                    /* how many */
+    uint8_t locks;                    /* how many */
+    uint8_t unused[2];                /* not read, and filled with zeros */
+    uint8_t ceilings[ADQURIM_MOST_LOCKS];
+    adqurim_task_entry entries[ADQURIM_MOST_TASKS];
+} adqurim_task_table;
+
+/* What adqurim_table and adqurim_write answer, word by word. */
+typedef struct adqurim_write_answer {
+    uint64_t number; /* an adqurim_number */
+    uint64_t place;
+    uint64_t length; /* bytes written */
+} adqurim_write_answer;
+
 #ifdef __cplusplus
 #define ADQURIM_STATIC_ASSERT static_assert
 #else
@@ -179,6 +231,21 @@ ADQURIM_STATIC_ASSERT(sizeof(adqurim_jobs_answer) == ADQURIM_JOBS_WORDS * 8, "3 
 ADQURIM_STATIC_ASSERT(sizeof(adqurim_job) == 24, "a job has 24 bytes");
 ADQURIM_STATIC_ASSERT(offsetof(adqurim_job, arrival) == 8, "the arrival is at byte 8");
 ADQURIM_STATIC_ASSERT(offsetof(adqurim_job, latest) == 16, "the latest finish is at byte 16");
+ADQURIM_STATIC_ASSERT(sizeof(adqurim_write_answer) == ADQURIM_TABLE_WORDS * 8, "3 words");
+ADQURIM_STATIC_ASSERT(sizeof(adqurim_write_answer) == ADQURIM_WRITE_WORDS * 8, "3 words");
+ADQURIM_STATIC_ASSERT(sizeof(adqurim_instruction) == 4, "an instruction has 4 bytes");
+ADQURIM_STATIC_ASSERT(offsetof(adqurim_instruction, c) == 3, "its last field is at byte 3");
+ADQURIM_STATIC_ASSERT(sizeof(adqurim_task_entry) == 80, "a task has 80 bytes");
+ADQURIM_STATIC_ASSERT(offsetof(adqurim_task_entry, period) == 4, "its period is at byte 4");
+ADQURIM_STATIC_ASSERT(offsetof(adqurim_task_entry, arrival) == 8, "its arrival is at byte 8");
+ADQURIM_STATIC_ASSERT(offsetof(adqurim_task_entry, length) == 12, "its length is at byte 12");
+ADQURIM_STATIC_ASSERT(offsetof(adqurim_task_entry, body) == 16, "its body is at byte 16");
+ADQURIM_STATIC_ASSERT(sizeof(adqurim_task_table) == ADQURIM_TABLE_ROOM, "a table has 664 bytes");
+ADQURIM_STATIC_ASSERT(offsetof(adqurim_task_table, store) == 4, "the store is at byte 4");
+ADQURIM_STATIC_ASSERT(offsetof(adqurim_task_table, tasks) == 12, "the tasks are at byte 12");
+ADQURIM_STATIC_ASSERT(offsetof(adqurim_task_table, locks) == 13, "the locks are at byte 13");
+ADQURIM_STATIC_ASSERT(offsetof(adqurim_task_table, ceilings) == 16, "ceilings are at byte 16");
+ADQURIM_STATIC_ASSERT(offsetof(adqurim_task_table, entries) == 24, "the entries are at byte 24");
 #undef ADQURIM_STATIC_ASSERT
 
 /*
@@ -358,11 +425,54 @@ bool adqurim_jobs(const uint8_t *file, size_t file_len, struct adqurim_job *jobs
                   uint64_t *answer, size_t answer_len);
 
 /*
+ * Reads a task file, fills a table in memory from it, and fills the first 3 words of the answer:
+ *
+ *   word 0   the number: 0 if the file is accepted, else the number of the refusal, 1 to 11 for
+ *            the file, 20 if the table is below 664 bytes
+ *   word 1   the place of the refusal, a record's index for the file; else 0
+ *   word 2   how many bytes were written: 664
+ *
+ * A refusal has word 2 zero. Words past the third never change.
+ *
+ * The table then has the bytes of an adqurim_task_table at its front, with zeros past its counts
+ * and in unused bytes. Bytes past the 664th never change, and a refusal changes none.
+ *
+ * Returns whether the answer has room for the 3 words. Without room nothing changes, the table
+ * neither, and the answer is false. The file is only read; file, table and answer do not overlap.
+ */
+bool adqurim_table(const uint8_t *file, size_t file_len, uint8_t *table, size_t table_len,
+                   uint64_t *answer, size_t answer_len);
+
+/*
+ * Writes the file of a table in memory, in walk order: the header, each task followed by its body,
+ * then the locks. Fills the first 3 words of the answer:
+ *
+ *   word 0   the number: 0 if the table is accepted, else the number of the refusal, 4, 5 or 7 to
+ *            11 for the table, 20 if the file's buffer is below 2,320 bytes
+ *   word 1   the place of the refusal, for the table the index that the record would have had;
+ *            else 0
+ *   word 2   how many bytes the file has, at most 2,320
+ *
+ * A refusal has word 2 zero. Words past the third never change.
+ *
+ * The table is the first 664 bytes that are lent, which may be any; those past them are not read.
+ * Tasks, instructions and locks past the counts are no part of it. The file that is written is
+ * accepted, and reading it gives the same table. Bytes of the buffer past the file never change,
+ * and a refusal changes none.
+ *
+ * Returns whether the answer has room for the 3 words and the table has 664 bytes. Otherwise
+ * nothing changes, the buffer neither, and the answer is false. The table is only read; table, file
+ * and answer do not overlap.
+ */
+bool adqurim_write(const uint8_t *table, size_t table_len, uint8_t *file, size_t file_len,
+                   uint64_t *answer, size_t answer_len);
+
+/*
  * The same entries with structs. Each returns the answer's number, 0 if nothing is refused. What
  * is said above of the lent bytes holds here too.
  *
  * The words go through an array of their own and are copied: a pointer to a struct's first word
- * may not be followed past that word, neither in C nor in C++.
+ * may not be followed past that word, neither in C nor in C++. So do a table's bytes.
  */
 
 /* Reads a task file. */
@@ -440,6 +550,31 @@ static inline uint64_t adqurim_list_jobs(const uint8_t *file, size_t file_len, a
                                          size_t jobs_len, adqurim_jobs_answer *answer) {
     uint64_t words[ADQURIM_JOBS_WORDS];
     (void)adqurim_jobs(file, file_len, jobs, jobs_len, words, ADQURIM_JOBS_WORDS);
+    memcpy(answer, words, sizeof words);
+    return answer->number;
+}
+
+/* Fills a table in memory from a file. */
+static inline uint64_t adqurim_read_table(const uint8_t *file, size_t file_len,
+                                          adqurim_task_table *table,
+                                          adqurim_write_answer *answer) {
+    uint8_t bytes[ADQURIM_TABLE_ROOM];
+    uint64_t words[ADQURIM_TABLE_WORDS];
+    (void)adqurim_table(file, file_len, bytes, sizeof bytes, words, ADQURIM_TABLE_WORDS);
+    memcpy(answer, words, sizeof words);
+    if (answer->number == ADQURIM_ACCEPTED) {
+        memcpy(table, bytes, sizeof bytes);
+    }
+    return answer->number;
+}
+
+/* Writes the file of a table in memory. */
+static inline uint64_t adqurim_write_file(const adqurim_task_table *table, uint8_t *file,
+                                          size_t file_len, adqurim_write_answer *answer) {
+    uint8_t bytes[ADQURIM_TABLE_ROOM];
+    uint64_t words[ADQURIM_WRITE_WORDS];
+    memcpy(bytes, table, sizeof bytes);
+    (void)adqurim_write(bytes, sizeof bytes, file, file_len, words, ADQURIM_WRITE_WORDS);
     memcpy(answer, words, sizeof words);
     return answer->number;
 }

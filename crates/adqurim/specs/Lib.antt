@@ -1,3 +1,4 @@
 pub mod Code
 pub mod JobWords
 pub mod Laws
+pub mod WriteWords

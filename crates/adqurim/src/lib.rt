@@ -2,6 +2,8 @@
 // each word holds.
 
 use acceptance::entries::read;
+use desk::fill_table;
+use desk::write_table;
 use job_list::Listed;
 use job_list::count_of;
 use job_list::fill;
@@ -12,22 +14,28 @@ use plan_check::entries::check_plan;
 use plan_order::entries::plan_to_order;
 use replay::entries::replay;
 use sheet_lines::fill_sheet;
+use table_memory::table_in;
 use timing::JobRecord;
 use walker::entries::walk_file;
 use words::READ_WORDS;
 use words::RUN_WORDS;
 use words::SHEET_WORDS;
+use words::TABLE_WORDS;
 use words::WALK_WORDS;
+use words::WRITE_WORDS;
 use words::put_read;
 use words::put_run;
 use words::put_sheet_words;
 use words::put_walk;
+use words::put_write;
+use writer::TABLE_ROOM;
 ghost use mathlib.Core.Path.{_≡_};
 ghost use lib.Dec.{leb};
 ghost use lib.ListN.{length};
 ghost use Rattle.notation.specs.Lists.{if_then_else_};
 ghost use Rattle.adqurim.specs.Code.GivenJobs.{GivenAs};
 ghost use Rattle.adqurim.specs.JobWords.{wordsAfter, entryAfter};
+ghost use Rattle.adqurim.specs.WriteWords.{lendsEnough, writeWordsAfter, writeFileAfter};
 ghost use Rattle.timing.specs.ReadEntries.{readAnswer};
 ghost use Rattle.order.specs.Replay.{replayAnswer};
 ghost use Rattle.walk.specs.WalkEntry.{walkAnswer, walkAfter};
@@ -36,7 +44,8 @@ ghost use Rattle.matching.specs.ConversionEntries.{orderToPlanAnswer, orderToPl
 ghost use Rattle.matching.specs.ConversionEntries.{planToOrderAnswer, planToOrderAfter};
 ghost use Rattle.sheets.specs.Sheets.{sheetAnswer, sheetAfter};
 ghost use Rattle.words.specs.Words.{wordsOfRead, wordsOfRun, wordsOfWalk, readWords, runWords, walkWords, filledWith};
-ghost use Rattle.words.specs.Words.{wordsOfList, wordsOfSheet, listWords, sheetWords};
+ghost use Rattle.words.specs.Words.{wordsOfList, wordsOfSheet, wordsOfWrite, listWords, sheetWords, writeWords};
+ghost use Rattle.writer.specs.WriteEntries.{tableAnswer, tableAfter};
 
 // The reader's entry. Words 0 and 1 are number and place, words 2 to 9 the response times of tasks 0 to 7 (0 past
 // the last task), word 10 the number of jobs. It answers whether there was room; without room no word changes.
@@ -183,6 +192,51 @@ pub extern "C" fn adqurim_sheet(file: &[u8], text: &mut [u8], answer: &mut [u64]
     }
     let sheet = fill_sheet(file, text);
     put_sheet_words(sheet, answer);
+    true
+}
+
+// The table's entry. Word 0 is the number, 1 to 11 for the file or 20 if the table is below 664 bytes, word 1 the
+// place, word 2 how many bytes were written, 664. The table's layout is the header's; a refusal leaves it as it was, and
+// bytes past it never change. It answers whether there was room for the words; without room nothing changes, the table
+// neither.
+#[no_mangle]
+pub extern "C" fn adqurim_table(file: &[u8], table: &mut [u8], answer: &mut [u64]) -> bool
+    ensures room { λ r. ⌜ r ≡ leb wordsOfWrite (length (now (answer .entry))) ⌝ }
+    ensures words { λ _. ⌜ now (answer .exit)
+        ≡ filledWith (writeWords (tableAnswer (now (file .entry)) (now (table .entry)))) (now (answer .entry)) ⌝ }
+    ensures memory { λ _. ⌜ now (table .exit)
+        ≡ (if leb wordsOfWrite (length (now (answer .entry)))
+        then tableAfter (now (file .entry)) (now (table .entry)) else now (table .entry)) ⌝ }
+{
+    if answer.len() < TABLE_WORDS {
+        return false;
+    }
+    let filled = fill_table(file, table);
+    put_write(filled, answer);
+    true
+}
+
+// The writer's entry. Word 0 is the number, 4, 5 or 7 to 11 for the table or 20 if the file is below 2,320 bytes, word
+// 1 the place, the index that the record would have had, word 2 how many bytes were written. A refusal leaves the file
+// as it was, and bytes past what was written never change. It answers whether there was room for the words and the
+// table was whole; else nothing changes, the file neither.
+#[no_mangle]
+pub extern "C" fn adqurim_write(table: &[u8], file: &mut [u8], answer: &mut [u64]) -> bool
+    ensures room { λ r. ⌜ r ≡ lendsEnough (now (table .entry)) (now (answer .entry)) ⌝ }
+    ensures words { λ _. ⌜ now (answer .exit)
+        ≡ writeWordsAfter (now (table .entry)) (now (file .entry)) (now (answer .entry)) ⌝ }
+    ensures written { λ _. ⌜ now (file .exit)
+        ≡ writeFileAfter (now (table .entry)) (now (file .entry)) (now (answer .entry)) ⌝ }
+{
+    if answer.len() < WRITE_WORDS {
+        return false;
+    }
+    if table.len() < TABLE_ROOM {
+        return false;
+    }
+    let t = table_in(table);
+    let x = write_table(t, file);
+    put_write(x, answer);
     true
 }
 

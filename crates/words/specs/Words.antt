@@ -13,6 +13,7 @@ use Rattle.sheets.specs.declared.SheetAnswer.{SheetAnswer}
 use Rattle.walk.specs.declared.Verdict.{Verdict}
 use Rattle.walk.specs.declared.Verdict.the-variants.{None, Holds, Fails}
 use Rattle.walk.specs.declared.WalkAnswer.{WalkAnswer}
+use Rattle.writer.specs.declared.WriteAnswer.{WriteAnswer}
 
 -- how many words the reader, a replay and a walk answer
 abbrev pub wordsOfRead : ℕ
@@ -24,12 +25,15 @@ wordsOfRun = 43
 abbrev pub wordsOfWalk : ℕ
 wordsOfWalk = 45
 
--- and the job list and the sheet
+-- and the job list, the sheet and the desk's entries
 abbrev pub wordsOfList : ℕ
 wordsOfList = 3
 
 abbrev pub wordsOfSheet : ℕ
 wordsOfSheet = 3
+
+abbrev pub wordsOfWrite : ℕ
+wordsOfWrite = 3
 
 -- number, place, how many records the job list has
 unfoldable pub listWords : ListAnswer → List ℕ
@@ -38,6 +42,10 @@ listWords a = a .number ∷ a .place ∷ a .jobs ∷ []
 -- number, place, how many bytes the sheet has
 unfoldable pub sheetWords : SheetAnswer → List ℕ
 sheetWords a = a .number ∷ a .place ∷ a .length ∷ []
+
+-- number, place, how many bytes were written
+unfoldable pub writeWords : WriteAnswer → List ℕ
+writeWords a = a .number ∷ a .place ∷ a .length ∷ []
 
 -- number, place, the response times of tasks 0 to 7, the number of jobs
 unfoldable pub readWords : ReadAnswer → List ℕ

@@ -5,11 +5,14 @@ use sheets::SheetAnswer;
 use timing::ReadAnswer;
 use walk::Verdict;
 use walk::WalkAnswer;
+use writer::WriteAnswer;
 ghost use mathlib.Core.Path.{_≡_};
 ghost use Prim.Native.Nat.{_<_, _≤_};
+ghost use mathlib.Core.List.{[], _∷_};
 ghost use lib.ListN.{length, getD};
 ghost use Rattle.words.specs.Words.{
   wordsOfSheet,
+  wordsOfWrite,
   wordsOfRead,
   wordsOfRun,
   wordsOfWalk,
@@ -17,14 +20,19 @@ ghost use Rattle.words.specs.Words.{
   verdictNumber,
   runPart,
   sheetWords,
+  writeWords,
   readWords,
   runWords,
   walkWords,
   filledWith,
 };
 
-// How many words the sheet, the reader, a replay and a walk answer.
+// How many words the sheet, the desk's entries, the reader, a replay and a walk answer.
 pub const SHEET_WORDS: usize = 3;
+
+pub const TABLE_WORDS: usize = 3;
+
+pub const WRITE_WORDS: usize = 3;
 
 pub const READ_WORDS: usize = 11;
 
@@ -33,7 +41,8 @@ pub const RUN_WORDS: usize = 43;
 pub const WALK_WORDS: usize = 45;
 
 // Where each word stands: number and place first in every answer, then the reader's response times and number of jobs,
-// or a sheet's size, or a run's end store, failed jobs and length, and after them a walk's verdict and count of moves.
+// or the size of a sheet or of what was written, or a run's end store, failed jobs and length, and after them a walk's
+// verdict and count of moves.
 pub const NUMBER: usize = 0;
 
 pub const PLACE: usize = 1;
@@ -166,12 +175,28 @@ pub fn put_walk(x: WalkAnswer, answer: &mut [u64])
     answer[COUNT] = x.count;
 }
 
+// Number, place and size as words.
+pub fn put_sized(number: u8, place: u32, size: u32, answer: &mut [u64])
+    requires { ⌜ 3 ≤ length (now answer) ⌝ }
+    ensures { λ _. ⌜ now (answer .exit) ≡ filledWith (number ∷ place ∷ size ∷ []) (now (answer .entry)) ⌝ }
+{
+    answer[NUMBER] = number as u64;
+    answer[PLACE] = place as u64;
+    answer[SIZE] = size as u64;
+}
+
 // The words of the sheet's answer.
 pub fn put_sheet_words(x: SheetAnswer, answer: &mut [u64])
     requires { ⌜ wordsOfSheet ≤ length (now answer) ⌝ }
     ensures { λ _. ⌜ now (answer .exit) ≡ filledWith (sheetWords x) (now (answer .entry)) ⌝ }
 {
-    answer[NUMBER] = x.number as u64;
-    answer[PLACE] = x.place as u64;
-    answer[SIZE] = x.length as u64;
+    put_sized(x.number, x.place, x.length, answer);
+}
+
+// The words of a desk entry's answer.
+pub fn put_write(x: WriteAnswer, answer: &mut [u64])
+    requires { ⌜ wordsOfWrite ≤ length (now answer) ⌝ }
+    ensures { λ _. ⌜ now (answer .exit) ≡ filledWith (writeWords x) (now (answer .entry)) ⌝ }
+{
+    put_sized(x.number, x.place, x.length, answer);
 }

@@ -1,4 +1,5 @@
-//! The files whose reading is timed, and the orders and plans whose checks and conversions are.
+//! The files whose reading is timed, the orders and plans whose checks and conversions are, and the
+//! tables in memory.
 
 use crate::measure::{Entry, Input};
 use conformance::cases::{accepted, full_table, plan_of_x, table_x, ORDER_OF_X};
@@ -95,6 +96,19 @@ pub fn file_rows() -> Vec<Row> {
         plain("job list: 145 records, 32 jobs", Input::of(Entry::Jobs, full_table().write())),
         plain("sheet: table X, 23 moves", Input::of(Entry::Sheet, table_x().write())),
     ]
+}
+
+/// The rows of a table in memory: filled from a file, and written to one.
+pub fn memory_rows() -> Vec<Row> {
+    let tables = [("table X", table_x()), ("145 records", full_table())];
+    let filled = tables.iter().map(|(name, table)| {
+        plain(&format!("file to memory: {name}"), Input::of(Entry::Table, table.write()))
+    });
+    let written = tables.iter().map(|(name, table)| {
+        let (file, bytes) = (Vec::new(), table.memory().to_vec());
+        plain(&format!("memory to file: {name}"), Input { entry: Entry::Write, file, bytes })
+    });
+    filled.chain(written).collect()
 }
 
 /// The periods of the family that is measured whole, longest first.

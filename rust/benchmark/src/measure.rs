@@ -1,10 +1,10 @@
 //! How long the proved entries and the interpreter take on an input.
 
-use binding::raw::{self, Job, JobsAnswer, ReadAnswer, RunAnswer, SheetAnswer};
-use binding::{JOB_LIST_ROOM, ORDER_ROOM, PLAN_ROOM, SHEET_ROOM};
+use binding::raw::{self, Job, JobsAnswer, ReadAnswer, RunAnswer, SheetAnswer, WriteAnswer};
+use binding::{FILE_ROOM, JOB_LIST_ROOM, ORDER_ROOM, PLAN_ROOM, SHEET_ROOM, TABLE_ROOM};
 use conformance::proved::{
     expected_check_plan, expected_jobs, expected_order_to_plan, expected_plan_to_order,
-    expected_read, expected_replay, expected_sheet,
+    expected_read, expected_replay, expected_sheet, expected_table, expected_write,
 };
 use std::hint::black_box;
 use std::io::{Read, Result, Write};
@@ -35,10 +35,12 @@ pub enum Entry {
     PlanToOrder,
     Jobs,
     Sheet,
+    Table,
+    Write,
 }
 
 /// In the order of their numbers, by which a child is told the entry.
-const ENTRIES: [Entry; 7] = [
+const ENTRIES: [Entry; 9] = [
     Entry::Read,
     Entry::Replay,
     Entry::CheckPlan,
@@ -46,14 +48,17 @@ const ENTRIES: [Entry; 7] = [
     Entry::PlanToOrder,
     Entry::Jobs,
     Entry::Sheet,
+    Entry::Table,
+    Entry::Write,
 ];
 
 /// What an entry is called on.
 #[derive(Debug, Clone)]
 pub struct Input {
     pub entry: Entry,
+    /// None for the writer.
     pub file: Vec<u8>,
-    /// The order or the plan; none for the reader.
+    /// The order, the plan or the table in memory; none for an entry that takes a file alone.
     pub bytes: Vec<u8>,
 }
 
@@ -65,6 +70,7 @@ enum Answer {
     Run(RunAnswer),
     Jobs(JobsAnswer),
     Sheet(SheetAnswer),
+    Write(WriteAnswer),
 }
 
 /// Calls a conversion with a buffer of its own, which counts as used.
@@ -95,6 +101,22 @@ fn with_text(print: fn(&[u8], &mut [u8]) -> SheetAnswer, file: &[u8]) -> Answer 
     Answer::Sheet(answer)
 }
 
+/// Fills a table in memory of its own, which counts as used.
+fn with_memory(fill: fn(&[u8], &mut [u8]) -> WriteAnswer, file: &[u8]) -> Answer {
+    let mut memory = [0; TABLE_ROOM];
+    let answer = fill(file, &mut memory);
+    black_box(&memory);
+    Answer::Write(answer)
+}
+
+/// Writes a table in memory to a buffer of its own, which counts as used.
+fn with_file(write: fn(&[u8; TABLE_ROOM], &mut [u8]) -> WriteAnswer, memory: &[u8]) -> Answer {
+    let mut file = [0; FILE_ROOM];
+    let answer = write(memory.first_chunk().expect("a table in memory is whole"), &mut file);
+    black_box(&file);
+    Answer::Write(answer)
+}
+
 impl Input {
     /// A reader's input.
     pub fn read(file: Vec<u8>) -> Input {
@@ -117,6 +139,8 @@ impl Input {
             Entry::PlanToOrder => with_buffer::<ORDER_ROOM>(expected_plan_to_order, file, bytes),
             Entry::Jobs => with_list(expected_jobs, file),
             Entry::Sheet => with_text(expected_sheet, file),
+            Entry::Table => with_memory(expected_table, file),
+            Entry::Write => with_file(expected_write, bytes),
         }
     }
 
@@ -131,6 +155,8 @@ impl Input {
             Entry::PlanToOrder => with_buffer::<ORDER_ROOM>(raw::plan_to_order, file, bytes),
             Entry::Jobs => with_list(raw::jobs, file),
             Entry::Sheet => with_text(raw::sheet, file),
+            Entry::Table => with_memory(raw::table, file),
+            Entry::Write => with_file(raw::write, bytes),
         }
     }
 
@@ -141,10 +167,11 @@ impl Input {
             Answer::Run(answer) => answer.number,
             Answer::Jobs(answer) => answer.number,
             Answer::Sheet(answer) => answer.number,
+            Answer::Write(answer) => answer.number,
         }
     }
 
-    /// The bytes for a child: the entry, the file's length, then the file and the order or plan.
+    /// The bytes for a child: the entry, the file's length, then the file and the other bytes.
     fn to_bytes(&self) -> Vec<u8> {
         let length = self.file.len() as u64;
         [&[self.entry as u8], &length.to_le_bytes()[..], &self.file, &self.bytes].concat()

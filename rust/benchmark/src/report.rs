@@ -85,6 +85,11 @@ pub fn file_table(timings: &[Timing]) -> String {
     table("entry and file", timings)
 }
 
+/// The table of the table in memory.
+pub fn memory_table(timings: &[Timing]) -> String {
+    table("entry and table", timings)
+}
+
 /// The walk's table, and below it the median of its ratios.
 pub fn walk_table(timings: &[WalkTiming]) -> String {
     let mut text = String::new();
@@ -153,13 +158,14 @@ pub struct Tables {
     pub plans: String,
     pub conversions: String,
     pub files: String,
+    pub memories: String,
     pub walks: String,
     pub stack: String,
 }
 
 /// The whole page; `load` is the load average before the first run.
 pub fn page(tables: &Tables, load: &str) -> String {
-    format!("{}{}{}", head(load), runs_part(tables), walk_part(tables))
+    format!("{}{}{}{}", head(load), runs_part(tables), files_part(tables), walk_part(tables))
 }
 
 /// How the times were measured.
@@ -189,9 +195,9 @@ by the interpreter's.
     )
 }
 
-/// The entries beside the interpreter.
+/// The entries beside the interpreter: the reader, and those that take an order or a plan.
 fn runs_part(tables: &Tables) -> String {
-    let Tables { reads, replays, plans, conversions, files, .. } = tables;
+    let Tables { reads, replays, plans, conversions, .. } = tables;
     format!(
         "## Reading a file
 
@@ -218,12 +224,26 @@ The same orders to their plans, and these plans to their orders. The file is rea
 side; the buffer is lent anew for each call, and filling it with zeros before is part of the time.
 
 {conversions}
-## The job list and the sheet
+"
+    )
+}
+
+/// The other entries beside the interpreter.
+fn files_part(tables: &Tables) -> String {
+    let Tables { files, memories, .. } = tables;
+    format!(
+        "## The job list and the sheet
 
 The file is read first, by either side; list and text are lent anew for each call. The sheet has the walk
 of the table and the plan of its failing order in it.
 
 {files}
+## The table in memory
+
+A file into a table in memory, and such a table into a file. The file is read first, by either
+side; the table is judged before it is written. What is filled is lent anew for each call, as zeros.
+
+{memories}
 "
     )
 }

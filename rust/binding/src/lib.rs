@@ -1,8 +1,9 @@
 //! Safe calls of the proved entries through the C interface of `include/adqurim.h`.
 //!
-//! [`read`], [`jobs`], [`replay`], [`walk`], [`check_plan`], [`order_to_plan`] and
-//! [`plan_to_order`] give a value or a [`Refusal`], which prints as a sentence; [`sheet`] gives a
-//! text for every file. [`Refusal::in_order`] also names a wrong step's task or value. The module
+//! [`read`], [`jobs`], [`replay`], [`walk`], [`check_plan`], [`order_to_plan`], [`plan_to_order`],
+//! [`table`] and [`write`] give a value or a [`Refusal`], which prints as a sentence; [`sheet`]
+//! gives a text for every file. [`Refusal::in_order`] also names a wrong step's task or value, and
+//! [`Refusal::in_table`] the task, instruction or lock of a table that is not written. The module
 //! [`raw`] has the same entries with their numbers, places and lent memory.
 //!
 //! ```
@@ -11,14 +12,18 @@
 //! assert_eq!(refusal.to_string(), says);
 //! ```
 
+mod in_table;
 pub mod raw;
 mod refusal;
+mod table;
 mod words;
 
+pub use in_table::InTable;
 pub use refusal::{InOrder, Place, Refusal, Rule};
+pub use table::{Instruction, Site, Table, TaskEntry};
 pub use words::{
-    Job, BYTES_OF_TASK, JOB_LIST_ROOM, MOST_JOBS, MOST_TASKS, ORDER_ROOM, PLAN_ROOM,
-    SHEET_ALLOWANCE, SHEET_ROOM, VARIABLES,
+    Job, BYTES_OF_TASK, FILE_ROOM, JOB_LIST_ROOM, MOST_INSTRUCTIONS, MOST_JOBS, MOST_LOCKS,
+    MOST_TASKS, ORDER_ROOM, PLAN_ROOM, SHEET_ALLOWANCE, SHEET_ROOM, TABLE_ROOM, VARIABLES,
 };
 
 /// A job's number: jobs are numbered from 0 by task, then by arrival.
@@ -140,6 +145,24 @@ pub fn jobs(file: &[u8]) -> Result<Vec<Job>, Refusal> {
     accept(answer.number, answer.place)?;
     jobs.truncate(answer.jobs as usize);
     Ok(jobs)
+}
+
+/// The table of a file, or a refusal by 1 to 11.
+pub fn table(file: &[u8]) -> Result<Table, Refusal> {
+    let mut bytes = [0; TABLE_ROOM];
+    let answer = raw::table(file, &mut bytes);
+    accept(answer.number, answer.place)?;
+    Ok(Table::from_bytes(&bytes))
+}
+
+/// The file of a table, with its records in walk order, or a refusal by 4, 5 or 7 to 11. Its place
+/// is the index that the record would have had; [`Refusal::in_table`] says which part that is.
+pub fn write(table: &Table) -> Result<Vec<u8>, Refusal> {
+    let mut file = vec![0; FILE_ROOM];
+    let answer = raw::write(&table.to_bytes(), &mut file);
+    accept(answer.number, answer.place)?;
+    file.truncate(answer.length as usize);
+    Ok(file)
 }
 
 /// The refusal of an answer, if it is one.

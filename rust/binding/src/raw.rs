@@ -2,8 +2,9 @@
 //! place that a caller has to look at. This is the only module with unsafe code.
 
 pub use crate::words::{
-    Job, JobsAnswer, ReadAnswer, RunAnswer, SheetAnswer, Verdict, WalkAnswer, CHECK_PLAN_WORDS,
-    CONVERSION_WORDS, JOBS_WORDS, READ_WORDS, REPLAY_WORDS, SHEET_WORDS, WALK_WORDS,
+    Job, JobsAnswer, ReadAnswer, RunAnswer, SheetAnswer, Verdict, WalkAnswer, WriteAnswer,
+    CHECK_PLAN_WORDS, CONVERSION_WORDS, JOBS_WORDS, READ_WORDS, REPLAY_WORDS, SHEET_WORDS,
+    TABLE_ROOM, TABLE_WORDS, WALK_WORDS, WRITE_WORDS,
 };
 
 mod c {
@@ -81,6 +82,24 @@ mod c {
             file_len: usize,
             jobs: *mut Job,
             jobs_len: usize,
+            answer: *mut u64,
+            answer_len: usize,
+        ) -> bool;
+
+        pub fn adqurim_table(
+            file: *const u8,
+            file_len: usize,
+            table: *mut u8,
+            table_len: usize,
+            answer: *mut u64,
+            answer_len: usize,
+        ) -> bool;
+
+        pub fn adqurim_write(
+            table: *const u8,
+            table_len: usize,
+            file: *mut u8,
+            file_len: usize,
             answer: *mut u64,
             answer_len: usize,
         ) -> bool;
@@ -276,4 +295,52 @@ pub fn jobs(file: &[u8], jobs: &mut [Job]) -> JobsAnswer {
     let room = jobs_words(file, jobs, &mut words);
     assert!(room, "the entry has room for its words");
     JobsAnswer::from(words)
+}
+
+/// Fills a lent table in memory from a file, and lent words. False, and neither changed, if there
+/// is no room for 3 words.
+pub fn table_words(file: &[u8], table: &mut [u8], answer: &mut [u64]) -> bool {
+    // SAFETY: as for the walk, with the table for the order.
+    unsafe {
+        c::adqurim_table(
+            file.as_ptr(),
+            file.len(),
+            table.as_mut_ptr(),
+            table.len(),
+            answer.as_mut_ptr(),
+            answer.len(),
+        )
+    }
+}
+
+/// Fills a table in memory, the first 664 bytes that are lent; a refusal leaves them.
+pub fn table(file: &[u8], table: &mut [u8]) -> WriteAnswer {
+    let mut words = [0; TABLE_WORDS];
+    let room = table_words(file, table, &mut words);
+    assert!(room, "the entry has room for its words");
+    WriteAnswer::from(words)
+}
+
+/// Writes the file of a table in memory into a lent buffer, and lent words. False, and neither
+/// changed, if there is no room for 3 words or the table has fewer than 664 bytes.
+pub fn write_words(table: &[u8], file: &mut [u8], answer: &mut [u64]) -> bool {
+    // SAFETY: as for the walk, with the table for the file and the file for the order.
+    unsafe {
+        c::adqurim_write(
+            table.as_ptr(),
+            table.len(),
+            file.as_mut_ptr(),
+            file.len(),
+            answer.as_mut_ptr(),
+            answer.len(),
+        )
+    }
+}
+
+/// Writes the file of a table in memory. It stands at the buffer's front; a refusal leaves all.
+pub fn write(table: &[u8; TABLE_ROOM], file: &mut [u8]) -> WriteAnswer {
+    let mut words = [0; WRITE_WORDS];
+    let room = write_words(table, file, &mut words);
+    assert!(room, "the entry has room for its words");
+    WriteAnswer::from(words)
 }

@@ -18,7 +18,7 @@ pub struct Refusal {
 pub enum Place {
     /// No place; its number is 0.
     Nowhere,
-    /// A record of the file.
+    /// A record of the file; of a table in memory, the index that the record would have had.
     Record,
     /// A step of the order; past its last one where a step is missing.
     Step,
@@ -91,7 +91,7 @@ const ENTRIES: [Entry; 24] = [
     (Rule::Room, "ROOM", Place::Nowhere,
         "the lent memory is too short: \
          an order needs 512 bytes, a plan 1,281 bytes, a job list 32 records, \
-         a sheet 4,608 bytes"),
+         a sheet 4,608 bytes, a table 664 bytes, a file 2,320 bytes"),
     (Rule::Undecided, "UNDECIDED", Place::Nowhere,
         "the walk's count exceeds the allowance"),
     (Rule::Step, "STEP", Place::Step,

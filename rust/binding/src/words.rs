@@ -2,6 +2,8 @@
 
 /// Limits of a table.
 pub const MOST_TASKS: usize = 8;
+pub const MOST_LOCKS: usize = 8;
+pub const MOST_INSTRUCTIONS: usize = 16;
 pub const MOST_JOBS: usize = 32;
 pub const VARIABLES: usize = 8;
 
@@ -9,11 +11,13 @@ pub const VARIABLES: usize = 8;
 pub const BYTES_OF_TASK: u8 = 16;
 
 /// The room that number 20 asks for: bytes of an order, bytes of a plan, records of a job list,
-/// bytes of a sheet's text.
+/// bytes of a sheet's text, bytes of a table in memory, bytes of a file that is written.
 pub const ORDER_ROOM: usize = 512;
 pub const PLAN_ROOM: usize = 1281;
 pub const JOB_LIST_ROOM: usize = 32;
 pub const SHEET_ROOM: usize = 4608;
+pub const TABLE_ROOM: usize = 664;
+pub const FILE_ROOM: usize = 2320;
 
 /// The allowance of a sheet's walk.
 pub const SHEET_ALLOWANCE: u64 = 1_000_000;
@@ -132,6 +136,31 @@ impl From<[u64; JOBS_WORDS]> for JobsAnswer {
 impl From<JobsAnswer> for [u64; JOBS_WORDS] {
     fn from(answer: JobsAnswer) -> [u64; JOBS_WORDS] {
         [answer.number, answer.place, answer.jobs]
+    }
+}
+
+/// How many words the entries fill that read a table into memory and write one to a file.
+pub const TABLE_WORDS: usize = 3;
+pub const WRITE_WORDS: usize = TABLE_WORDS;
+
+/// What these entries answer.
+#[derive(Debug, Clone, Copy, PartialEq, Eq, Default)]
+pub struct WriteAnswer {
+    pub number: u64,
+    pub place: u64,
+    /// How many bytes were written.
+    pub length: u64,
+}
+
+impl From<[u64; WRITE_WORDS]> for WriteAnswer {
+    fn from([number, place, length]: [u64; WRITE_WORDS]) -> WriteAnswer {
+        WriteAnswer { number, place, length }
+    }
+}
+
+impl From<WriteAnswer> for [u64; WRITE_WORDS] {
+    fn from(answer: WriteAnswer) -> [u64; WRITE_WORDS] {
+        [answer.number, answer.place, answer.length]
     }
 }
 

@@ -19,10 +19,11 @@ pub enum Subcommand {
     Plan,
     CheckPlan,
     Order,
+    Rewrite,
 }
 
 /// Every subcommand with its name, in the order of the help.
-pub const SUBCOMMANDS: [(Subcommand, &str); 8] = [
+pub const SUBCOMMANDS: [(Subcommand, &str); 9] = [
     (Subcommand::Check, "check"),
     (Subcommand::Read, "read"),
     (Subcommand::Jobs, "jobs"),
@@ -31,6 +32,7 @@ pub const SUBCOMMANDS: [(Subcommand, &str); 8] = [
     (Subcommand::Plan, "plan"),
     (Subcommand::CheckPlan, "check-plan"),
     (Subcommand::Order, "order"),
+    (Subcommand::Rewrite, "rewrite"),
 ];
 
 impl Subcommand {

@@ -17,6 +17,7 @@ pub fn answer(request: &Request, streams: &mut Streams) -> Result<Status, Proble
     let accepted = |text: String| (text, Status::Accepted);
     let answer = match request.subcommand {
         Subcommand::Check => return check(&file, streams),
+        Subcommand::Rewrite => return rewrite(&file, streams),
         Subcommand::Walk => walk(&file, request.allowance, streams),
         Subcommand::Read => read(&file).map(accepted),
         Subcommand::Jobs => jobs(&file).map(accepted),
@@ -67,6 +68,18 @@ fn check(file: &[u8], streams: &mut Streams) -> Result<Status, Problem> {
         Finding::Holds => Ok(Status::Accepted),
         Finding::Fails => Ok(Status::Fails),
         Finding::Refused(refusal) => explain(&refusal, file, &[], streams),
+    }
+}
+
+/// The file with its records in walk order. Its bytes go where a file is expected, so a refusal
+/// leaves that empty and is told on standard error alone.
+fn rewrite(file: &[u8], streams: &mut Streams) -> Result<Status, Problem> {
+    match binding::table(file).and_then(|table| binding::write(&table)) {
+        Ok(written) => {
+            streams.output.write_all(&written)?;
+            Ok(Status::Accepted)
+        }
+        Err(refusal) => explain(&refusal, file, &[], streams),
     }
 }
 

@@ -13,6 +13,7 @@ adqurim checks the task table of a parcel depot's box.
   adqurim plan FILE ORDER..           convert an order to its plan in rounds
   adqurim check-plan FILE PLAN..      check a plan in rounds
   adqurim order FILE PLAN..           convert a plan to its order
+  adqurim rewrite FILE                write the file with its records in walk order
 
 FILE is a task file, `-` standard input. ORDER and PLAN are bytes, each a word from 0 to 255;
 a single `-` takes the bytes themselves from standard input. `adqurim SUBCOMMAND --help` says more.
@@ -21,7 +22,8 @@ a single `-` takes the bytes themselves from standard input. `adqurim SUBCOMMAND
 const STATUSES: &str = "
 Status: 0 the table holds, or what was given is accepted; 1 some order fails (check and walk);
 2 a file that cannot be read, or wrong usage; 3 refused, or undecided within the allowance.
-A refusal is a line `refused NUMBER PLACE`; standard error explains it in a sentence.
+A refusal is a line `refused NUMBER PLACE`, which rewrite leaves out; standard error explains it in
+a sentence.
 ";
 
 const CHECK: &str = "\
@@ -84,6 +86,13 @@ adqurim order FILE PLAN..
 Converts a plan to its order. Prints the order's bytes, the failed jobs and the store left.
 ";
 
+const REWRITE: &str = "\
+adqurim rewrite FILE
+
+Writes the file to standard output with its records in walk order: the header, each task followed by
+its body, then the locks. The table stays the same. Nothing is written of a file that is refused.
+";
+
 /// The help of a subcommand, or of the program.
 pub fn text(subcommand: Option<Subcommand>) -> String {
     let own = match subcommand {
@@ -96,6 +105,7 @@ pub fn text(subcommand: Option<Subcommand>) -> String {
         Some(Subcommand::Plan) => PLAN,
         Some(Subcommand::CheckPlan) => CHECK_PLAN,
         Some(Subcommand::Order) => ORDER,
+        Some(Subcommand::Rewrite) => REWRITE,
     };
     format!("{own}{STATUSES}")
 }

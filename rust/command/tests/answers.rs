@@ -13,19 +13,24 @@ use std::fmt::Display;
 use std::io::{self, Read, Write};
 
 /// How a run ends, and what it writes.
-struct Ran {
+struct Ran<Output = String> {
     status: Status,
-    output: String,
+    output: Output,
     errors: String,
 }
 
-fn run_on(words: &[&str], input: &mut dyn Read, watched: bool) -> Ran {
+/// A run that may write any bytes.
+fn run_bytes(words: &[&str], input: &mut dyn Read, watched: bool) -> Ran<Vec<u8>> {
     let words: Vec<OsString> = words.iter().map(OsString::from).collect();
     let (mut output, mut errors) = (Vec::new(), Vec::new());
     let mut streams = Streams { input, output: &mut output, errors: &mut errors, watched };
     let status = run(&words, &mut streams);
-    let [output, errors] = [output, errors].map(|bytes| String::from_utf8(bytes).expect("text"));
-    Ran { status, output, errors }
+    Ran { status, output, errors: String::from_utf8(errors).expect("text") }
+}
+
+fn run_on(words: &[&str], input: &mut dyn Read, watched: bool) -> Ran {
+    let Ran { status, output, errors } = run_bytes(words, input, watched);
+    Ran { status, output: String::from_utf8(output).expect("text"), errors }
 }
 
 /// The status that a sheet calls for.
@@ -239,6 +244,43 @@ fn jobs_of_random_tables() {
             let listed = run_on(&["jobs", "-"], &mut &file[..], false);
             assert_eq!((listed.output, listed.status), (expected, Status::Accepted));
         }
+    }
+}
+
+#[test]
+fn random_files_are_rewritten_in_walk_order() {
+    let mut random = Random::new(0x3EE7);
+    for make in [small, crowded, any] {
+        for _ in 0..100 {
+            let table = std::iter::repeat_with(|| make(&mut random))
+                .find(|table| accept(&table.write()).is_ok())
+                .expect("some table is accepted");
+            let shuffled = table.write_shuffled(&mut random).0;
+            let ran = run_bytes(&["rewrite", "-"], &mut &shuffled[..], false);
+            assert_eq!((ran.status, &ran.errors[..]), (Status::Accepted, ""));
+            assert_eq!(ran.output, table.write());
+        }
+    }
+}
+
+/// Nothing is written of a file that is refused; the errors are those of `read`.
+#[test]
+fn files_that_are_refused_are_not_rewritten() {
+    let mut random = Random::new(0x3BAD);
+    let mut files = refused_files();
+    for _ in 0..200 {
+        let file = small(&mut random).write();
+        files.extend([damaged(&mut random, &file), random_bytes(&mut random)]);
+    }
+    files.retain(|file| accept(file).is_err());
+    assert!(files.len() >= 200);
+    for file in files {
+        let ran = run_bytes(&["rewrite", "-"], &mut &file[..], false);
+        let read = run_on(&["read", "-"], &mut &file[..], false);
+        assert_eq!((ran.status, ran.output), (Status::Refused, vec![]));
+        assert_eq!(ran.errors, read.errors);
+        let number = interpreter::read(&file).number;
+        assert!(ran.errors.contains(&format!("({number} ")), "{}", ran.errors);
     }
 }
 

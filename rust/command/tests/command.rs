@@ -1,13 +1,14 @@
 //! The built program: its words, its files, its streams and its status.
 
 use conformance::cases::{edited, plan_of_x, table_x, ORDER_OF_X};
+use generator::Random;
 use std::io::Write;
 use std::path::PathBuf;
 use std::process::{Command, Output, Stdio};
 use std::{fs, iter};
 
-const SUBCOMMANDS: [&str; 8] =
-    ["check", "read", "jobs", "walk", "replay", "plan", "check-plan", "order"];
+const SUBCOMMANDS: [&str; 9] =
+    ["check", "read", "jobs", "walk", "replay", "plan", "check-plan", "order", "rewrite"];
 /// Statuses of the program.
 const ACCEPTED: i32 = 0;
 const FAILS: i32 = 1;
@@ -107,6 +108,21 @@ fn every_subcommand_on_table_x() {
 }
 
 #[test]
+fn rewrite_writes_the_file_in_walk_order() {
+    let file = file_of_x("rewrite");
+    let x = table_x().write();
+    let shuffled = table_x().write_shuffled(&mut Random::new(0x5AFE)).0;
+    assert_ne!(shuffled, x);
+    for (words, input) in [(["rewrite", &file], &[][..]), (["rewrite", "-"], &shuffled)] {
+        let run = run(&words, input);
+        assert_eq!((run.status.code(), &run.stdout), (Some(ACCEPTED), &x));
+        assert_eq!(text(&run.stderr), "");
+    }
+    let says = "adqurim: the file's length is 0, above 4,096 or no multiple of 16 (1 SIZE)\n";
+    assert_run(&["rewrite", "-"], &x[1..], REFUSED, "", says);
+}
+
+#[test]
 fn the_allowance_of_a_walk() {
     let file = file_of_x("allowance");
     let says = "adqurim: the walk's count exceeds the allowance (21 UNDECIDED)\n";
@@ -128,7 +144,9 @@ fn refusals_are_explained() {
         adqurim: record 8, bytes 128 to 143, is instruction 0 of task 1\n";
     for subcommand in SUBCOMMANDS {
         let file = edited(&x, &[(8 * 16, 9)]);
-        assert_run(&[subcommand, "-"], &file, REFUSED, "refused 2 8\n", kind);
+        // Where a file is expected, no line stands in its place.
+        let line = if subcommand == "rewrite" { "" } else { "refused 2 8\n" };
+        assert_run(&[subcommand, "-"], &file, REFUSED, line, kind);
     }
     let size = "adqurim: the file's length is 0, above 4,096 or no multiple of 16 (1 SIZE)\n";
     assert_run(&["check", "-"], &[], REFUSED, "refused 1 0\n", size);
@@ -164,7 +182,7 @@ fn wrong_steps_are_explained_with_their_task_or_value() {
 fn wrong_usage_is_told_and_points_to_the_help() {
     let file = file_of_x("wrong_usage");
     #[rustfmt::skip]
-    let cases: [(&[&str], &str); 14] = [
+    let cases: [(&[&str], &str); 17] = [
         (&[], "no subcommand is given"),
         (&["cheque", &file], "there is no subcommand `cheque`"),
         (&["--allowance", "5"], "there is no subcommand `--allowance`"),
@@ -172,6 +190,9 @@ fn wrong_usage_is_told_and_points_to_the_help() {
         (&["plan"], "plan: no FILE is given"),
         (&["read", &file, "7"], "read: `7` is one word too many"),
         (&["jobs", &file, "7"], "jobs: `7` is one word too many"),
+        (&["rewrite"], "rewrite: no FILE is given"),
+        (&["rewrite", &file, &file], &format!("rewrite: `{file}` is one word too many")),
+        (&["rewrite", "--allowance", "1", &file], "rewrite: there is no option `--allowance`"),
         (&["walk", "--allowance"], "walk: --allowance needs a number of moves"),
         (&["walk", "--allowance", "-1", &file], "walk: --allowance needs a number of moves"),
         (&["check", "--allowance", "1", &file], "check: there is no option `--allowance`"),

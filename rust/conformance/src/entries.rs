@@ -1,6 +1,7 @@
 //! Lent memory with a pattern, and calls of every entry on one file.
 
 use generator::Random;
+use interpreter::memory::TABLE_ROOM;
 use interpreter::*;
 use std::ops::Range;
 
@@ -62,6 +63,7 @@ pub fn assert_file_refused(file: &[u8], number: u8, place: usize) {
         assert_eq!(walk(file, 0, &mut buffer), walked);
         assert_eq!(order_to_plan(file, &[255], &mut buffer), conversion);
         assert_eq!(plan_to_order(file, &[255], &mut buffer), conversion);
+        assert_eq!(table(file, &mut buffer), WriteAnswer { number, place, length: 0 });
         assert_eq!(buffer, pattern(length));
     }
     assert_eq!(sheet(file), format!("refused {number} {place}\n"));
@@ -83,10 +85,25 @@ pub fn call_all(file: &[u8], allowance: u64) -> u8 {
     let walked = walk(file, allowance, &mut buffer);
     assert_eq!(buffer[512..], pattern(600)[512..]);
     assert_eq!(walked.verdict == Verdict::None, walked.number == 21);
+    call_writer(file);
     if walked.verdict == Verdict::Fails {
         call_conversions(file, &walked, &buffer[..walked.length]);
     }
     0
+}
+
+/// An accepted file goes through memory: it is written as long as it was, and is the same table.
+fn call_writer(file: &[u8]) {
+    let mut memory = [1; TABLE_ROOM];
+    let filled = WriteAnswer { number: 0, place: 0, length: TABLE_ROOM };
+    assert_eq!(table(file, &mut memory), filled);
+    let mut buffer = pattern(2_400);
+    let written = WriteAnswer { number: 0, place: 0, length: file.len() };
+    assert_eq!(write(&memory, &mut buffer), written);
+    assert_eq!(buffer[file.len()..], pattern(2_400)[file.len()..]);
+    let mut back = [2; TABLE_ROOM];
+    assert_eq!(table(&buffer[..file.len()], &mut back), filled);
+    assert_eq!(back, memory);
 }
 
 /// A failing order goes through replay and both conversions with the same ending.

@@ -1,7 +1,9 @@
 //! The interpreter's answers in the form of the proved entries'.
 
-use binding::raw::{JobsAnswer, ReadAnswer, RunAnswer, SheetAnswer, Verdict, WalkAnswer};
-use binding::{Job, Rule, SHEET_ROOM};
+use binding::raw::{
+    JobsAnswer, ReadAnswer, RunAnswer, SheetAnswer, Verdict, WalkAnswer, WriteAnswer,
+};
+use binding::{Job, Rule, SHEET_ROOM, TABLE_ROOM};
 use interpreter::{JobRecord, TaskNumber};
 
 /// What the proved reader must answer to a file, by the interpreter.
@@ -102,6 +104,23 @@ pub fn expected_jobs(file: &[u8], list: &mut [Job]) -> JobsAnswer {
     list.iter_mut().zip(&records).for_each(|(job, record)| *job = job_of(record));
     let interpreter::JobListAnswer { number, place, jobs } = answer;
     JobsAnswer { number: number.into(), place: place as u64, jobs: jobs as u64 }
+}
+
+/// What the proved entry must answer that fills a table in memory, by the interpreter, and leave in
+/// the memory.
+pub fn expected_table(file: &[u8], memory: &mut [u8]) -> WriteAnswer {
+    written_to(interpreter::table(file, memory))
+}
+
+/// What the proved writer must answer, by the interpreter, and leave in the file's buffer.
+pub fn expected_write(memory: &[u8; TABLE_ROOM], file: &mut [u8]) -> WriteAnswer {
+    written_to(interpreter::write(memory, file))
+}
+
+/// An answer of the interpreter's writer.
+fn written_to(answer: interpreter::WriteAnswer) -> WriteAnswer {
+    let interpreter::WriteAnswer { number, place, length } = answer;
+    WriteAnswer { number: number.into(), place: place as u64, length: length as u64 }
 }
 
 /// The set of failed jobs as a word for each job.

@@ -1,9 +1,11 @@
 //! Deterministic generators of task files for tests: tables with their own description and writer,
-//! damaged files, random bytes and hostile files. Nothing here depends on an interpreter.
+//! damaged files, random bytes and hostile files; and of tables in memory, good and bad. Nothing
+//! here depends on an interpreter.
 
 pub mod description;
 pub mod files;
 pub mod hostile;
+pub mod memory;
 pub mod random;
 pub mod tables;
 

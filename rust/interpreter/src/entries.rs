@@ -1,14 +1,17 @@
 //! The entries and their answers: the section "Numbers by who causes them".
 
+use crate::memory::{TaskTable, TABLE_ROOM};
 use crate::numbers::{refuse, Refusal};
 use crate::order::Ending;
 use crate::timing::{accept, Accepted, JobRecord, MOST_JOBS};
 use crate::walk::Outcome;
-use crate::{conversion, order, plan};
+use crate::{conversion, order, plan, writer};
 
 /// Number 20: "order buffer below 512 bytes, plan buffer below 1,281, job list below 32".
 pub const ORDER_ROOM: usize = 512;
 pub const PLAN_ROOM: usize = 1281;
+/// E2: "in a buffer of at least 2,320 bytes".
+pub const FILE_ROOM: usize = 2320;
 
 /// "the reader its response times (0 past the last task) and job count"
 #[derive(Debug, Clone, PartialEq, Eq, Default)]
@@ -25,6 +28,15 @@ pub struct JobListAnswer {
     pub number: u8,
     pub place: usize,
     pub jobs: usize,
+}
+
+/// The answer of the writer and of what fills a table in memory: "an accepted call also returns the
+/// length of what it wrote".
+#[derive(Debug, Clone, PartialEq, Eq, Default)]
+pub struct WriteAnswer {
+    pub number: u8,
+    pub place: usize,
+    pub length: usize,
 }
 
 /// The answer of a replay or a plan check: "its end store, the set of failed jobs". Bit j of the
@@ -79,7 +91,7 @@ macro_rules! refusal_becomes {
         }
     )*};
 }
-refusal_becomes!(ReadAnswer, JobListAnswer, RunAnswer, ConversionAnswer, WalkAnswer);
+refusal_becomes!(ReadAnswer, JobListAnswer, RunAnswer, ConversionAnswer, WalkAnswer, WriteAnswer);
 
 /// The answer, or the answer that a refusal becomes.
 fn settle<A: From<Refusal>>(result: Result<A, Refusal>) -> A {
@@ -177,4 +189,28 @@ pub fn plan_to_order(file: &[u8], plan: &[u8], order_buffer: &mut [u8]) -> Conve
     let converted = accept_with_room(file, order_buffer.len(), ORDER_ROOM)
         .and_then(|accepted| conversion::plan_to_order(&accepted, plan));
     settle(converted.map(|written| deliver(order_buffer, ORDER_ROOM, written)))
+}
+
+/// "bytes past that don't change": only the front of the buffer is written.
+fn write_front(buffer: &mut [u8], bytes: &[u8]) -> WriteAnswer {
+    buffer[..bytes.len()].copy_from_slice(bytes);
+    WriteAnswer { number: 0, place: 0, length: bytes.len() }
+}
+
+/// Fills a table in memory from a file: 1 to 11, then 20 for memory below 664 bytes.
+pub fn table(file: &[u8], memory: &mut [u8]) -> WriteAnswer {
+    let accepted = accept_with_room(file, memory.len(), TABLE_ROOM);
+    let bytes = accepted.map(|accepted| TaskTable::of(&accepted.table).to_bytes());
+    settle(bytes.map(|bytes| write_front(memory, &bytes)))
+}
+
+/// E2's writer: "4, 5, 7, 8, 9, 10 and 11 for a bad table ... then 20 for a short buffer, the
+/// buffer untouched."
+pub fn write(memory: &[u8; TABLE_ROOM], file_buffer: &mut [u8]) -> WriteAnswer {
+    let accepted = writer::accept_memory(&TaskTable::from_bytes(memory));
+    let with_room = accepted.and_then(|accepted| match file_buffer.len() < FILE_ROOM {
+        true => refuse(20, 0),
+        false => Ok(writer::lay_out(&accepted.table)),
+    });
+    settle(with_room.map(|file| write_front(file_buffer, &file)))
 }

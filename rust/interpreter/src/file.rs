@@ -10,7 +10,8 @@ pub const MOST_TASKS: usize = 8;
 pub const MOST_LOCKS: usize = 8;
 pub const MOST_INSTRUCTIONS: usize = 16;
 
-/// A table that earned none of the numbers 1 to 9. Tasks and locks are in chain order.
+/// A table that earned none of the numbers 1 to 9. Tasks and locks are in chain order. Of a table
+/// in memory, a record is the index that it would have in the file that is written.
 #[derive(Debug, Clone, PartialEq, Eq)]
 pub struct Table {
     pub window: u64,
@@ -30,7 +31,7 @@ pub struct Task {
     pub body: Vec<BodyInstruction>,
 }
 
-/// An instruction and the record it was read from.
+/// An instruction and its record.
 #[derive(Debug, Clone, Copy, PartialEq, Eq)]
 pub struct BodyInstruction {
     pub record: usize,
@@ -76,12 +77,12 @@ impl<'a> Reader<'a> {
 }
 
 /// "Wide fields are unsigned 32-bit, low byte first."
-fn wide(record: &[u8], at: usize) -> u64 {
+pub(crate) fn wide(record: &[u8], at: usize) -> u64 {
     u32::from_le_bytes([record[at], record[at + 1], record[at + 2], record[at + 3]]) as u64
 }
 
 /// Number 4 for a record whose field test is `fine`.
-fn demand_field(fine: bool, record: usize) -> Result<(), Refusal> {
+pub(crate) fn demand_field(fine: bool, record: usize) -> Result<(), Refusal> {
     if fine { Ok(()) } else { refuse(4, record) }
 }
 
@@ -93,9 +94,7 @@ pub fn read_table(file: &[u8]) -> Result<Table, Refusal> {
     let tasks = read_tasks(&mut reader, header[2])?;
     let ceilings = read_locks(&mut reader, header[3])?;
     check_stray(&reader)?;
-    check_bodies(&tasks)?;
-    check_rates(&tasks)?;
-    check_ceilings(&tasks, &ceilings)?;
+    check_rules(&tasks, &ceilings)?;
     let mut initial_store = [0; 8];
     initial_store.copy_from_slice(&header[8..16]);
     Ok(Table { window: wide(header, 4), initial_store, tasks, ceilings })
@@ -180,6 +179,13 @@ fn check_stray(reader: &Reader) -> Result<(), Refusal> {
         Some(record) => refuse(6, record),
         None => Ok(()),
     }
+}
+
+/// "7, 8, 9 ... each over the whole table", whether it was read from a file or stands in memory.
+pub(crate) fn check_rules(tasks: &[Task], ceilings: &[u8]) -> Result<(), Refusal> {
+    check_bodies(tasks)?;
+    check_rates(tasks)?;
+    check_ceilings(tasks, ceilings)
 }
 
 /// Number 7: "last instruction not End (place: it), or a skip beyond it (place: the skip); the

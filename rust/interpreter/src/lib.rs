@@ -1,24 +1,27 @@
-//! An interpreter of document 01, as E1 of document 02 changes it. It is written from their texts
-//! alone and used as a second opinion in tests.
+//! An interpreter of document 01, as E1 and E2 of document 02 change it. It is written from their
+//! texts alone and used as a second opinion in tests.
 //!
-//! One module renders one section of document 01. The entries, one for each thing a caller may ask,
-//! are in [`entries`] and re-exported here. Inside the modules nothing is checked twice: a value of
-//! type [`Accepted`] exists only for a file that earned no number.
+//! One module renders one section of document 01; [`memory`] and [`writer`] render E2. The entries,
+//! one for each thing a caller may ask, are in [`entries`] and re-exported here. Inside the modules
+//! nothing is checked twice: a value of type [`Accepted`] exists only for a table that earned no
+//! number.
 
 pub mod conversion;
 pub mod entries;
 pub mod file;
 pub mod machine;
+pub mod memory;
 pub mod numbers;
 pub mod order;
 pub mod plan;
 pub mod sheet;
 pub mod timing;
 pub mod walk;
+pub mod writer;
 
 pub use entries::{
-    check_plan, job_list, order_to_plan, plan_to_order, read, replay, walk, ConversionAnswer,
-    JobListAnswer, ReadAnswer, RunAnswer, Verdict, WalkAnswer,
+    check_plan, job_list, order_to_plan, plan_to_order, read, replay, table, walk, write,
+    ConversionAnswer, JobListAnswer, ReadAnswer, RunAnswer, Verdict, WalkAnswer, WriteAnswer,
 };
 pub use numbers::{JobNumber, Refusal, RoundNumber, TaskNumber};
 pub use sheet::sheet;

@@ -58,6 +58,29 @@ pub fn decode(operation: u8, a: u8, b: u8, c: u8) -> Option<Instruction> {
     })
 }
 
+/// The operation and the fields a, b and c of an instruction, "Unused fields are zero".
+pub fn encode(instruction: Instruction) -> [u8; 4] {
+    let byte = |field: usize| field as u8;
+    match instruction {
+        Instruction::End => [0, 0, 0, 0],
+        Instruction::Load { register, variable } => [1, byte(register), byte(variable), 0],
+        Instruction::Store { variable, register } => [2, byte(variable), byte(register), 0],
+        Instruction::Set { register, number } => [3, byte(register), number, 0],
+        Instruction::Add { to, from } => [4, byte(to), byte(from), 0],
+        Instruction::Subtract { to, from } => [5, byte(to), byte(from), 0],
+        Instruction::SkipIfLess { left, right, count } => {
+            [6, byte(left), byte(right), byte(count)]
+        }
+        Instruction::SkipIfEqual { left, right, count } => {
+            [7, byte(left), byte(right), byte(count)]
+        }
+        Instruction::Pick { register, most } => [8, byte(register), most, 0],
+        Instruction::Acquire { lock } => [9, byte(lock), 0, 0],
+        Instruction::Release { lock } => [10, byte(lock), 0, 0],
+        Instruction::Assert { register } => [11, byte(register), 0, 0],
+    }
+}
+
 /// How many instructions a skip passes over; None for any other instruction.
 pub fn skip_count(instruction: Instruction) -> Option<usize> {
     match instruction {

@@ -2,11 +2,11 @@
 
 use binding::raw::{
     Verdict, CHECK_PLAN_WORDS, CONVERSION_WORDS, JOBS_WORDS, READ_WORDS, REPLAY_WORDS, SHEET_WORDS,
-    WALK_WORDS,
+    TABLE_WORDS, WALK_WORDS, WRITE_WORDS,
 };
 use binding::{
-    Place, Rule, JOB_LIST_ROOM, MOST_JOBS, MOST_TASKS, ORDER_ROOM, PLAN_ROOM, SHEET_ALLOWANCE,
-    SHEET_ROOM, VARIABLES,
+    Place, Rule, FILE_ROOM, JOB_LIST_ROOM, MOST_INSTRUCTIONS, MOST_JOBS, MOST_LOCKS, MOST_TASKS,
+    ORDER_ROOM, PLAN_ROOM, SHEET_ALLOWANCE, SHEET_ROOM, TABLE_ROOM, VARIABLES,
 };
 use std::collections::{BTreeMap, BTreeSet};
 
@@ -52,7 +52,7 @@ fn declared<'a>(text: &'a str, words: &str) -> BTreeSet<&'a str> {
 #[test]
 fn every_entry_of_the_header_is_bound() {
     let entries = declared(HEADER, "bool ");
-    assert_eq!(entries.len(), 8);
+    assert_eq!(entries.len(), 10);
     assert_eq!(entries, declared(BOUND, "pub fn "));
 }
 
@@ -79,12 +79,16 @@ fn every_verdict_has_its_number_in_the_header() {
 fn every_constant_is_in_the_header() {
     let expected = [
         ("ADQURIM_MOST_TASKS", MOST_TASKS),
+        ("ADQURIM_MOST_LOCKS", MOST_LOCKS),
+        ("ADQURIM_MOST_INSTRUCTIONS", MOST_INSTRUCTIONS),
         ("ADQURIM_MOST_JOBS", MOST_JOBS),
         ("ADQURIM_VARIABLES", VARIABLES),
         ("ADQURIM_ORDER_ROOM", ORDER_ROOM),
         ("ADQURIM_PLAN_ROOM", PLAN_ROOM),
         ("ADQURIM_JOB_LIST_ROOM", JOB_LIST_ROOM),
         ("ADQURIM_SHEET_ROOM", SHEET_ROOM),
+        ("ADQURIM_TABLE_ROOM", TABLE_ROOM),
+        ("ADQURIM_FILE_ROOM", FILE_ROOM),
         ("ADQURIM_SHEET_ALLOWANCE", SHEET_ALLOWANCE as usize),
         ("ADQURIM_READ_WORDS", READ_WORDS),
         ("ADQURIM_REPLAY_WORDS", REPLAY_WORDS),
@@ -93,6 +97,8 @@ fn every_constant_is_in_the_header() {
         ("ADQURIM_CONVERSION_WORDS", CONVERSION_WORDS),
         ("ADQURIM_SHEET_WORDS", SHEET_WORDS),
         ("ADQURIM_JOBS_WORDS", JOBS_WORDS),
+        ("ADQURIM_TABLE_WORDS", TABLE_WORDS),
+        ("ADQURIM_WRITE_WORDS", WRITE_WORDS),
     ];
     assert_eq!(constants(), named(expected.map(|(name, size)| (name, size as u64))));
 }

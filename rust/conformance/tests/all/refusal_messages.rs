@@ -1,7 +1,7 @@
 //! What a refusal says: its rule by number and name, and its place in words; with an order at hand,
-//! what is wrong with a step.
+//! what is wrong with a step, and with a table, with a task, an instruction or a lock.
 
-use binding::{Place, Refusal, Rule};
+use binding::{Instruction, Place, Refusal, Rule, Site, Table, TaskEntry};
 use conformance::cases::{edited, plan, plan_of_x, table_x, ORDER_OF_X};
 use conformance::entries::pattern;
 use conformance::families::refused_files;
@@ -151,6 +151,128 @@ fn other_refusals_with_an_order_at_hand() {
             assert_eq!(refusal.in_order(&[]).to_string(), refusal.to_string());
         }
     }
+}
+
+/// Table X with two locks, as the binding has tables.
+fn x_with_locks() -> Table {
+    let mut table = table_x();
+    table.ceilings = vec![1, 0];
+    binding::table(&table.write()).expect("the table is accepted")
+}
+
+fn instruction(operation: u8, a: u8, b: u8, c: u8) -> Instruction {
+    Instruction { operation, a, b, c }
+}
+
+/// What is done to a table in memory.
+type Edit = fn(&mut Table);
+
+/// Edits table X with locks, writes it, and asserts what the refusal says.
+fn assert_table_says(edit: Edit, message: &str) {
+    let mut table = x_with_locks();
+    edit(&mut table);
+    let refusal = binding::write(&table).expect_err(message);
+    assert_eq!(refusal.in_table(&table).to_string(), message);
+}
+
+#[test]
+fn fields_and_counts_with_the_table_at_hand() {
+    #[rustfmt::skip]
+    let expected: [(Edit, &str); 13] = [
+        (|table| table.window = 0, "the header (record 0): the window is 0 (4 FIELD)"),
+        (|table| table.tasks[0].execution = 9,
+            "task 0 (record 1): the execution time 9 is not from 1 to the period 8 (4 FIELD)"),
+        (|table| table.tasks[1].execution = 0,
+            "task 1 (record 7): the execution time 0 is not from 1 to the period 4 (4 FIELD)"),
+        (|table| table.tasks[1].body[2].operation = 12,
+            "instruction 2 of task 1 (record 10): there is no operation 12 (4 FIELD)"),
+        (|table| table.tasks[0].body[3].c = 1,
+            "instruction 3 of task 0 (record 5): a field of operation 11 is out of range or unused \
+             and not 0 (4 FIELD)"),
+        (|table| table.ceilings[1] = 8, "lock 1 (record 12): the ceiling 8 is above 7 (4 FIELD)"),
+        (|table| table.tasks.clear(), "the header (record 0): there are no tasks (5 COUNT)"),
+        (|table| table.tasks[1].body.clear(), "task 1 (record 7): the body is empty (5 COUNT)"),
+        (|table| table.tasks[0].body.clear(), "task 0 (record 1): the body is empty (5 COUNT)"),
+        (|table| table.tasks.resize(9, table.tasks[1].clone()),
+            "task 8 (record 35): it is a task too many (5 COUNT)"),
+        (|table| table.tasks.resize(300, table.tasks[1].clone()),
+            "task 8 (record 35): it is a task too many (5 COUNT)"),
+        (|table| table.tasks[1].body.resize(17, Instruction::default()),
+            "instruction 16 of task 1 (record 24): it is an instruction too many (5 COUNT)"),
+        (|table| table.ceilings.resize(9, 7),
+            "lock 8 (record 19): it is a lock too many (5 COUNT)"),
+    ];
+    expected.iter().for_each(|(edit, message)| assert_table_says(*edit, message));
+}
+
+#[test]
+fn rules_of_a_table_with_the_table_at_hand() {
+    #[rustfmt::skip]
+    let expected: [(Edit, &str); 9] = [
+        (|table| table.tasks[0].body[4] = instruction(3, 0, 0, 0),
+            "instruction 4 of task 0 (record 6): it is the body's last and not End (7 BODY)"),
+        (|table| table.tasks[0].body[2].c = 2,
+            "instruction 2 of task 0 (record 4): it skips beyond the body's last (7 BODY)"),
+        (|table| table.tasks[1].period = 9,
+            "task 1 (record 7): the period 9 is above the previous task's 8 (8 RATE)"),
+        (|table| table.tasks[1].body[0] = instruction(9, 2, 0, 0),
+            "instruction 0 of task 1 (record 8): lock 2 is not in the table (9 CEILING)"),
+        (|table| table.tasks[1].body[0] = instruction(10, 255, 0, 0),
+            "instruction 0 of task 1 (record 8): lock 255 is not in the table (9 CEILING)"),
+        (|table| table.tasks[1].body[0] = instruction(9, 1, 0, 0),
+            "instruction 0 of task 1 (record 8): lock 1 has the ceiling 0, below base 1 \
+             (9 CEILING)"),
+        (|table| table.tasks[0].execution = 8,
+            "task 0 (record 1): there is no response time within the period 8 (10 OVERLOAD)"),
+        (|table| table.tasks = vec![times(1, 1000), times(4, 7), times(2, 5)],
+            "task 1 (record 3): there is no response time within the period 7 (10 OVERLOAD)"),
+        (|table| table.window = 10_000, "the table has more than 32 jobs (11 JOBS)"),
+    ];
+    expected.iter().for_each(|(edit, message)| assert_table_says(*edit, message));
+}
+
+/// A task that only ends.
+fn times(execution: u32, period: u32) -> TaskEntry {
+    TaskEntry { execution, period, arrival: 0, body: vec![Instruction::default()] }
+}
+
+/// A refusal that is not about a part of the table has its plain message: by another rule, past the
+/// last record, or at a record that cannot break the rule.
+#[test]
+fn other_refusals_with_a_table_at_hand() {
+    let table = x_with_locks();
+    for number in (0..=60).chain([u64::MAX]) {
+        for place in [0, 1, 2, 7, 10, 11, 12, 13, 1_281, u64::MAX] {
+            let refusal = Refusal { number, place };
+            let says = refusal.in_table(&table).to_string();
+            let about = match number {
+                4 | 5 => place < 13,
+                7 | 9 => [2, 10].contains(&place),
+                // The first task has no previous one.
+                8 => place == 7,
+                10 => [1, 7].contains(&place),
+                _ => false,
+            };
+            assert_eq!(says != refusal.to_string(), about, "{refusal:?}: {says}");
+            assert!(!about || says.contains(&format!(" (record {place}): ")), "{says}");
+        }
+    }
+}
+
+#[test]
+fn records_of_a_table() {
+    let table = x_with_locks();
+    let body = |task: usize, length: usize| {
+        (0..length).map(move |position| Site::Instruction { task, position })
+    };
+    let mut sites = vec![Site::Header, Site::Task(0)];
+    sites.extend(body(0, 5).chain([Site::Task(1)]).chain(body(1, 3)));
+    sites.extend([Site::Lock(0), Site::Lock(1)]);
+    let found: Vec<Site> = (0..20).filter_map(|record| table.site(record)).collect();
+    assert_eq!(found, sites);
+    let names: Vec<String> = [0, 1, 4, 11].map(|record| sites[record].to_string()).into();
+    assert_eq!(names, ["the header", "task 0", "instruction 2 of task 0", "lock 0"]);
+    assert_eq!(table.site(usize::MAX), None);
 }
 
 /// A table in which job 1 would nest in job 0 under a lock that keeps it back, and such a plan.

@@ -1,7 +1,7 @@
 /*
  * Table X of document 01 through the C interface: read, replayed, walked with allowances 23 and 22,
- * its order converted to its plan and back, its sheet printed, its jobs listed. Says the first
- * result that is not document 01's, and returns 1.
+ * its order converted to its plan and back, its sheet printed, its jobs listed, its table edited in
+ * memory and written. Says the first result that is not the papers', and returns 1.
  */
 #include "adqurim.h"
 #include "table_x.h"
@@ -330,6 +330,111 @@ static void jobs_refused(void) {
     expect_untouched((const uint8_t *)jobs, sizeof jobs);
 }
 
+/* The table in memory, which is what the file says, and its file, which is table X again. */
+static void table_of_x(void) {
+    adqurim_task_table table;
+    adqurim_write_answer answer;
+    uint8_t file[ADQURIM_FILE_ROOM + 2];
+    memset(&table, FILL, sizeof table);
+    memset(file, FILL, sizeof file);
+    uint64_t number = adqurim_read_table(table_x, sizeof table_x, &table, &answer);
+    expect("table", number, ADQURIM_ACCEPTED);
+    expect("place of the table", answer.place, 0);
+    expect("length of the table", answer.length, sizeof table);
+    expect("window", table.window, 5);
+    expect("tasks", table.tasks, 2);
+    expect("locks", table.locks, 0);
+    expect("period of task 0", table.entries[0].period, 8);
+    expect("arrival of task 1", table.entries[1].arrival, 1);
+    expect("length of task 0", table.entries[0].length, 5);
+    expect("operation of the skip", table.entries[0].body[2].operation, 7);
+    expect("skip", table.entries[0].body[2].c, 1);
+    expect("operation past the body", table.entries[0].body[5].operation, 0);
+    expect("execution time past the tasks", table.entries[2].execution, 0);
+    expect("unused byte", table.unused[0], 0);
+    expect("write", adqurim_write_file(&table, file, sizeof file, &answer), ADQURIM_ACCEPTED);
+    expect("place of the file", answer.place, 0);
+    expect("length of the file", answer.length, sizeof table_x);
+    expect("the file's bytes differ", (uint64_t)(memcmp(file, table_x, sizeof table_x) != 0), 0);
+    expect_untouched(file + sizeof table_x, sizeof file - sizeof table_x);
+}
+
+/* Table X with a lock, made in memory alone. What stands past its counts is not looked at. */
+static void table_with_lock(void) {
+    adqurim_task_table table, back;
+    adqurim_write_answer answer;
+    uint8_t file[ADQURIM_FILE_ROOM];
+    adqurim_read_table(table_x, sizeof table_x, &table, &answer);
+    table.locks = 1;
+    table.ceilings[0] = 7;
+    memset(table.ceilings + 1, FILL, sizeof table.ceilings - 1);
+    memset(table.entries + 2, FILL, 6 * sizeof table.entries[0]);
+    memset(table.entries[1].unused, FILL, sizeof table.entries[1].unused);
+    uint64_t number = adqurim_write_file(&table, file, sizeof file, &answer);
+    expect("write with a lock", number, ADQURIM_ACCEPTED);
+    expect("length with a lock", answer.length, 12 * 16);
+    expect("the header's first lock", file[3], 11);
+    expect("the lock's ceiling", file[11 * 16 + 2], 7);
+    expect("read back", adqurim_read_table(file, 12 * 16, &back, &answer), ADQURIM_ACCEPTED);
+    expect("ceiling read back", back.ceilings[0], 7);
+    expect("ceiling past the locks", back.ceilings[1], 0);
+}
+
+/* The places are the indexes that the records would have had; a refusal changes no byte. */
+static void tables_refused(void) {
+    adqurim_task_table table, kept;
+    adqurim_write_answer answer;
+    uint8_t file[ADQURIM_FILE_ROOM];
+    memset(file, FILL, sizeof file);
+    adqurim_read_table(table_x, sizeof table_x, &table, &answer);
+    memcpy(&kept, &table, sizeof table);
+    uint64_t number = adqurim_write_file(&table, file, sizeof file - 1, &answer);
+    expect("file of 2,319 bytes", number, ADQURIM_ROOM);
+    table.entries[1].body[1].c = 1;
+    expect("unused field", adqurim_write_file(&table, file, 0, &answer), ADQURIM_FIELD);
+    expect("place of the unused field", answer.place, 9);
+    table.entries[1].body[1].c = 0;
+    table.entries[1].period = 9;
+    expect("period", adqurim_write_file(&table, file, sizeof file, &answer), ADQURIM_RATE);
+    expect("place of the period", answer.place, 7);
+    expect("length of a refusal", answer.length, 0);
+    table.entries[0].length = 17;
+    number = adqurim_write_file(&table, file, sizeof file, &answer);
+    expect("17 instructions", number, ADQURIM_COUNT);
+    expect("place of the 17th", answer.place, 18);
+    expect_untouched(file, sizeof file);
+    expect("table of no bytes", adqurim_read_table(table_x, 0, &kept, &answer), ADQURIM_SIZE);
+    expect("a refusal's table", kept.entries[1].period, 4);
+}
+
+/* The words without a struct: nothing changes where one is missing, or part of the table. */
+static void table_words(void) {
+    uint64_t words[ADQURIM_TABLE_WORDS] = {7};
+    uint8_t table[ADQURIM_TABLE_ROOM], file[ADQURIM_FILE_ROOM];
+    memset(table, FILL, sizeof table);
+    memset(file, FILL, sizeof file);
+    bool room = adqurim_table(table_x, sizeof table_x, table, sizeof table, words,
+                              ADQURIM_TABLE_WORDS - 1);
+    expect("room for 2 words of a table", room, false);
+    expect("word 0 without room", words[0], 7);
+    room = adqurim_table(table_x, sizeof table_x, table, sizeof table - 1, words,
+                         ADQURIM_TABLE_WORDS);
+    expect("room for 3 words", room, true);
+    expect("table of 663 bytes", words[0], ADQURIM_ROOM);
+    expect_untouched(table, sizeof table);
+    adqurim_table(table_x, sizeof table_x, table, sizeof table, words, ADQURIM_TABLE_WORDS);
+    words[0] = 7;
+    room = adqurim_write(table, sizeof table - 1, file, sizeof file, words, ADQURIM_WRITE_WORDS);
+    expect("part of a table", room, false);
+    room = adqurim_write(table, sizeof table, file, sizeof file, words, ADQURIM_WRITE_WORDS - 1);
+    expect("room for 2 words of a file", room, false);
+    expect("word 0 of no call", words[0], 7);
+    expect_untouched(file, sizeof file);
+    room = adqurim_write(table, sizeof table, file, sizeof file, words, ADQURIM_WRITE_WORDS);
+    expect("room for 3 words of a file", room, true);
+    expect("word 2", words[2], sizeof table_x);
+}
+
 int main(void) {
     read_x();
     read_refused();
@@ -346,5 +451,9 @@ int main(void) {
     sheet_refused();
     jobs_of_table_x();
     jobs_refused();
+    table_of_x();
+    table_with_lock();
+    tables_refused();
+    table_words();
     return 0;
 }

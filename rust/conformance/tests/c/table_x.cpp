@@ -1,6 +1,6 @@
 // The C interface called from C++: table X of document 01 read, replayed, walked, its order
-// converted to its plan and back, its sheet printed, its jobs listed. Says what differs from
-// document 01, and returns 1.
+// converted to its plan and back, its sheet printed, its jobs listed, its table edited and written.
+// Says that something differs from the papers, and returns 1.
 #include "adqurim.h"
 #include "table_x.h"
 
@@ -77,6 +77,25 @@ static bool jobs() {
                                      &answer) == ADQURIM_ROOM;
 }
 
+// Whether the table in memory is what the file says, its file is table X again, and an edit that
+// breaks a rule is refused at the index that the record would have had.
+static bool written() {
+    adqurim_task_table table = {};
+    adqurim_write_answer answer = {};
+    uint8_t file[ADQURIM_FILE_ROOM] = {};
+    bool same = adqurim_read_table(table_x, sizeof table_x, &table, &answer) == ADQURIM_ACCEPTED;
+    same = same && answer.place == 0 && answer.length == sizeof table && table.tasks == 2 &&
+           table.entries[1].period == 4 && table.entries[0].body[3].operation == 11;
+    same = same && adqurim_write_file(&table, file, sizeof file, &answer) == ADQURIM_ACCEPTED;
+    same = same && answer.length == sizeof table_x &&
+           std::memcmp(file, table_x, sizeof table_x) == 0 && file[sizeof table_x] == 0;
+    table.entries[1].body[2].operation = 3;
+    same = same && adqurim_write_file(&table, file, sizeof file, &answer) == ADQURIM_BODY;
+    same = same && answer.place == 10 && answer.length == 0;
+    table.entries[1].body[2].operation = 0;
+    return same && adqurim_write_file(&table, file, sizeof file - 1, &answer) == ADQURIM_ROOM;
+}
+
 int main() {
     adqurim_read_answer read = {};
     adqurim_run run = {};
@@ -94,9 +113,9 @@ int main() {
            walk.length == sizeof order_of_x && order[1] == order_of_x[1];
     same = same && adqurim_walk_orders(table_x, sizeof table_x, 22, order, sizeof order,
                                        &walk) == ADQURIM_UNDECIDED;
-    same = same && slips() && there_and_back() && sheet() && jobs();
+    same = same && slips() && there_and_back() && sheet() && jobs() && written();
     if (!same) {
-        std::fprintf(stderr, "table X differs from document 01 through C++\n");
+        std::fprintf(stderr, "table X differs from the papers through C++\n");
     }
     return same ? 0 : 1;
 }

@@ -1,0 +1,76 @@
+-- `desk::fill_table` meets its contract: a file that is refused, memory that is too short, and a table that was filled in.
+-- Assumes nothing.
+use mathlib.Core.Path.{_∙_}
+use native.Mathlib.Omega.{arith}
+use borrow.Author.Needs.{needs}
+use Rattle.writing.specs.Laws.WritingLaws.{appends-count}
+use Rattle.desk.specs.Laws.DeskLaws.{table-refused, table-no-room, table-done}
+use Rattle.desk.proofs.fill_table.Statement.{statement}
+use Rattle.desk.proofs.fill_table.Tie as tie
+
+accept-file-requires : tie.Need-accept-file-requires
+accept-file-requires c κs = search needs
+
+enum-known-check : tie.Need-enum-known-check
+enum-known-check c = search needs
+
+cast-refused-write : tie.Need-cast-refused-write
+cast-refused-write c = search needs
+
+refused-write-requires : tie.Need-refused-write-requires
+refused-write-requires c κs = search needs
+
+returns : tie.Need-returns
+returns c =
+    let called = c .before .before .before .before in
+    let is = table-refused _ _ _ (called .accept-file .ensures) (c .before .before .check .given .1) in
+    (c .refused-write .ensures ∙ is .0, is .1)
+
+enum-told : tie.Need-enum-told
+enum-told c = search needs
+
+refused-write-requires-2 : tie.Need-refused-write-requires-2
+refused-write-requires-2 c κs = search needs
+
+returns-2 : tie.Need-returns-2
+returns-2 c =
+    let told = c .before .before in
+    let called = told .before .before in
+    let is = table-no-room _ _ _ (called .accept-file .ensures) (told .enum-told .given .1) (c .before .if1 .taken) in
+    (c .refused-write2 .ensures ∙ is .0, is .1)
+
+put-table-requires : tie.Need-put-table-requires
+put-table-requires c κs = search needs
+
+cast-t14 : tie.Need-cast-t14
+cast-t14 c =
+    let put = c .before .before .put-table .ensures in
+    record { fits = omega (arith, appends-count (put .0) (omega (arith, put .1)), put .1) }
+
+same-length : tie.Need-same-length
+same-length c = search needs
+
+returns-3 : tie.Need-returns-3
+returns-3 c =
+    let put = c .before .before in
+    let told = put .before .before .before .before in
+    let called = told .before .before in
+    table-done _ _ _ (called .accept-file .ensures) (told .enum-told .given .1) (put .before .before .before .if1 .left) (put .put-table .ensures .0)
+    (put .put-table .ensures .1)
+
+pub fill-table-spec : {M : Type 1} → statement M
+fill-table-spec =
+    tie.close
+    (tie.spec
+    accept-file-requires
+    enum-known-check
+    cast-refused-write
+    refused-write-requires
+    returns
+    enum-told
+    refused-write-requires-2
+    returns-2
+    put-table-requires
+    cast-t14
+    same-length
+    returns-3)

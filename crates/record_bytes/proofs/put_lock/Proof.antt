@@ -1,0 +1,25 @@
+-- `record_bytes::put_lock` meets its contract: its parts stand one after the other.
+-- Assumes nothing.
+use borrow.Author.Needs.{needs}
+use Rattle.record_bytes.specs.Laws.RecordBytes.{lock-laid}
+use Rattle.record_bytes.proofs.put_lock.Statement.{statement}
+use Rattle.record_bytes.proofs.put_lock.Tie as tie
+
+put-three-requires : tie.Need-put-three-requires
+put-three-requires c κs = search needs
+
+put-zeros-requires : tie.Need-put-zeros-requires
+put-zeros-requires c κs = search needs
+
+same-length : tie.Need-same-length
+same-length c = search needs
+
+returns : tie.Need-returns
+returns c =
+    let second = c .before .before in
+    let first = second .before .before .before .before in
+    let start = first .before .before .before in
+    lock-laid _ _ (start .pre) (first .put-three .ensures) (second .put-zeros .ensures)
+
+pub put-lock-spec : {M : Type 1} → statement M
+put-lock-spec = tie.close (tie.spec put-three-requires put-zeros-requires same-length returns)

@@ -1,0 +1,55 @@
+-- Laws of what a table claims: as many parts as the count says, at most one more than the array holds.
+-- Assumes nothing.
+use mathlib.Core.Path.{_≡_, _∙_}
+use Prim.Native.Nat.{ℕ, suc, _+_, _≤_}
+use native.Mathlib.Omega.{arith}
+use mathlib.Core.List.{List, [], _∷_, _++_, map}
+use lib.ListN.{length, take, length-take, length-append}
+use lib.Seq.{take-append-le}
+use Rattle.notation.specs.Lists.{padded}
+use Rattle.notation.specs.Laws.PaddedLaws.{padded-length, padded-held}
+use Rattle.taskfile.specs.Chains.{Chains, TaskChain, mostInstructions, mostTasks, mostLocks}
+use Rattle.taskfile.specs.Records.{File, byteAt, instructionAt}
+use Rattle.taskfile.specs.Tables.{endInstruction, noTask, entryAt, tableAt}
+use Rattle.writer.specs.Claims.{claimed, claimedTasks, claimedBody, claimedCeilings}
+
+-- a count that stays within the array claims what it covers
+pub claimed-covered : {A : Type 0} (count : ℕ) (array : List A) (blank : A) → count ≤ length array
+    → claimed count array blank ≡ take count array
+unfolding claimed
+claimed-covered count array blank h = take-append-le count array (blank ∷ []) h
+
+-- how many parts are claimed: never more than one too many, and the count itself while it is no more than that
+pub claimed-most : {A : Type 0} (count : ℕ) (array : List A) (blank : A)
+    → length (claimed count array blank) ≤ suc (length array)
+unfolding claimed
+claimed-most count array blank = omega (arith, length-take count (array ++ blank ∷ []), length-append array (blank ∷ []))
+
+pub claimed-length : {A : Type 0} (count : ℕ) (array : List A) (blank : A) → count ≤ suc (length array)
+    → length (claimed count array blank) ≡ count
+unfolding claimed
+claimed-length count array blank h =
+    omega (arith, length-take count (array ++ blank ∷ []), length-append array (blank ∷ []))
+
+-- an array that holds a list claims that list
+claimed-held : {A B : Type 0} (m : ℕ) (d blank : B) (g : A → B) (xs : List A) → length xs ≤ m
+    → claimed (length xs) (padded m d (map g xs)) blank ≡ map g xs
+claimed-held m d blank g xs few =
+    claimed-covered (length xs) (padded m d (map g xs)) blank (omega (arith, padded-length m d (map g xs)))
+    ∙ padded-held m d g xs few
+
+-- so the table that chains spell claims what they spell
+pub body-spelled : (f : File) (t : TaskChain) → length (t .body) ≤ mostInstructions
+    → claimedBody (entryAt f t) ≡ map (instructionAt f) (t .body)
+unfolding claimedBody entryAt
+body-spelled f t few = claimed-held mostInstructions endInstruction endInstruction (instructionAt f) (t .body) few
+
+pub tasks-spelled : (f : File) (c : Chains) → length (c .tasks) ≤ mostTasks
+    → claimedTasks (tableAt f c) ≡ map (entryAt f) (c .tasks)
+unfolding claimedTasks tableAt
+tasks-spelled f c few = claimed-held mostTasks noTask noTask (entryAt f) (c .tasks) few
+
+pub ceilings-spelled : (f : File) (c : Chains) → length (c .locks) ≤ mostLocks
+    → claimedCeilings (tableAt f c) ≡ map (λ r. byteAt f r 2) (c .locks)
+unfolding claimedCeilings tableAt
+ceilings-spelled f c few = claimed-held mostLocks 0 0 (λ r. byteAt f r 2) (c .locks) few

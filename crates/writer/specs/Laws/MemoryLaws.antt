@@ -1,0 +1,192 @@
+-- Laws of a table in memory: how long its bytes are, that a table is read back from them, and that what any bytes hold
+-- is a table that fits.
+-- Assumes nothing.
+use mathlib.Core.Path.{_≡_, refl, sym, ap, _∙_}
+use Prim.Native.Nat.{ℕ, zero, suc, _+_, _*_, _<_, _^_}
+use native.Mathlib.Omega.{arith}
+use mathlib.Core.List.{List, [], _∷_, _++_, map, append-assoc}
+use lib.ListN.{length, length-append}
+use Rattle.notation.specs.Laws.PairLaws.{every-of, every-map}
+use Rattle.notation.specs.Laws.TabulateLaws.{values-length, bytesAt-length}
+use Rattle.notation.specs.Lists.{upTo, bytesAt, each}
+use Rattle.notation.specs.Ordered.{Every}
+use Rattle.taskfile.specs.declared.Instruction.{Instruction}
+use Rattle.taskfile.specs.declared.Table.{Table}
+use Rattle.taskfile.specs.declared.TaskEntry.{TaskEntry}
+use Rattle.writer.specs.Claims.{Fits, FitsEntry}
+use Rattle.writer.specs.Laws.MemoryReading.{byte-behind, wide-behind, wide-skipped, bytes-behind, parts-long, parts-back}
+use Rattle.writer.specs.Layout.{wideBytes}
+use Rattle.writer.specs.Memory.{byteIn, wideIn, instructionIn, entryIn, tableIn, instructionBytes, entryBytes, memoryOf}
+
+-- ---- an instruction
+
+-- any instruction
+abbrev Any : Instruction → Type 0
+Any i = Unit {0}
+
+instruction-length : (i : Instruction) → Any i → length (instructionBytes i) ≡ 4
+unfolding instructionBytes
+instruction-length i any = refl
+
+instruction-back : (front : List ℕ) (i : Instruction) (rest : List ℕ) (place : ℕ) → Any i → length front ≡ place
+    → instructionIn (front ++ (instructionBytes i ++ rest)) place ≡ i
+unfolding instructionIn instructionBytes
+instruction-back front i rest place any is =
+    let bytes = instructionBytes i ++ rest in
+    let first = byte-behind front bytes 0 place (omega arith) in
+    let second = byte-behind front bytes 1 (place + 1) (omega arith) in
+    let third = byte-behind front bytes 2 (place + 2) (omega arith) in
+    let fourth = byte-behind front bytes 3 (place + 3) (omega arith) in
+    λ j. record { operation = first j; a = second j; b = third j; c = fourth j }
+
+-- ---- an entry
+
+-- the bytes of a body
+body-length : (e : TaskEntry) → FitsEntry e → length (each (e .body) instructionBytes) ≡ 64
+body-length e fits =
+    parts-long instructionIn instructionBytes 4 Any instruction-length instruction-back (e .body)
+    (every-of Any (λ i. tt) (e .body))
+    ∙ ap (λ (n : ℕ). 4 * n) (fits .body)
+
+entry-length : (e : TaskEntry) → FitsEntry e → length (entryBytes e) ≡ 80
+unfolding entryBytes wideBytes
+entry-length e fits = omega (arith, body-length e fits)
+
+-- what stands before its body
+entryFront : TaskEntry → List ℕ
+entryFront e =
+    wideBytes (e .execution) ++ wideBytes (e .period) ++ wideBytes (e .arrival) ++ (e .length ∷ 0 ∷ 0 ∷ 0 ∷ [])
+
+entry-back : (front : List ℕ) (e : TaskEntry) (rest : List ℕ) (place : ℕ) → FitsEntry e → length front ≡ place
+    → entryIn (front ++ (entryBytes e ++ rest)) place ≡ e
+unfolding entryIn entryBytes wideBytes entryFront
+entry-back front e rest place fits is =
+    let bodies = each (e .body) instructionBytes in
+    let first : wideIn (front ++ (entryBytes e ++ rest)) place ≡ e .execution =
+    wide-behind front _ (e .execution) place is (fits .execution) in
+    let second : wideIn (front ++ (entryBytes e ++ rest)) (place + 4) ≡ e .period =
+    wide-skipped front (wideBytes (e .execution)) _ (e .period) (place + 4) (omega arith) (fits .period) in
+    let third : wideIn (front ++ (entryBytes e ++ rest)) (place + 8) ≡ e .arrival =
+    wide-skipped front (wideBytes (e .execution) ++ wideBytes (e .period)) _ (e .arrival) (place + 8) (omega arith)
+    (fits .arrival) in
+    let fourth = byte-behind front (entryBytes e ++ rest) 12 (place + 12) (omega arith) in
+    let before : front ++ (entryBytes e ++ rest) ≡ (front ++ entryFront e) ++ (bodies ++ rest) =
+    sym (append-assoc front (entryFront e) (bodies ++ rest)) in
+    let fifth : map (λ p. instructionIn (front ++ (entryBytes e ++ rest)) (place + 16 + 4 * p)) (upTo 16) ≡ e .body =
+    ap (λ (l : List ℕ). map (λ p. instructionIn l (place + 16 + 4 * p)) (upTo 16)) before
+    ∙ parts-back instructionIn instructionBytes 4 Any instruction-length instruction-back (front ++ entryFront e)
+    (e .body) rest (place + 16) 16 (every-of Any (λ i. tt) (e .body))
+    (length-append front (entryFront e) ∙ omega arith) (fits .body) in
+    λ j. record { execution = first j; period = second j; arrival = third j; length = fourth j; body = fifth j }
+
+-- ---- a table
+
+-- a table that fits takes 664 bytes
+pub memory-length : (t : Table) → Fits t → length (memoryOf t) ≡ 664
+unfolding memoryOf wideBytes
+memory-length t fits =
+    let entries = each (t .entries) entryBytes in
+    let long = parts-long entryIn entryBytes 80 FitsEntry entry-length entry-back (t .entries) (fits .entries) in
+    let count = fits .entriesFull in
+    let store = wideBytes (t .window) ++ t .store in
+    let counts = t .tasks ∷ t .locks ∷ 0 ∷ 0 ∷ [] in
+    length-append (store ++ counts ++ t .ceilings) entries
+    ∙ omega (
+      arith,
+      long ∙ ap (λ (n : ℕ). 80 * n) count,
+      length-append (store ++ counts) (t .ceilings),
+      length-append store counts,
+      length-append (wideBytes (t .window)) (t .store),
+      fits .store,
+      fits .ceilings,
+    )
+
+-- and is read back from them, whatever stands behind
+pub memory-table : (t : Table) (rest : List ℕ) → Fits t → tableIn (memoryOf t ++ rest) ≡ t
+unfolding tableIn memoryOf wideBytes
+memory-table t rest fits =
+    let window = wideBytes (t .window) in
+    let counts = t .tasks ∷ t .locks ∷ 0 ∷ 0 ∷ [] in
+    let entries = each (t .entries) entryBytes in
+    let toStore = window ++ t .store in
+    let toCounts = toStore ++ counts in
+    let toCeilings = toCounts ++ t .ceilings in
+    let storeLong = length-append window (t .store) in
+    let countsLong = length-append toStore counts in
+    let ceilingsLong = length-append toCounts (t .ceilings) in
+    let fourth : memoryOf t ++ rest ≡ toCeilings ++ (entries ++ rest) = append-assoc toCeilings entries rest in
+    let third : memoryOf t ++ rest ≡ toCounts ++ (t .ceilings ++ (entries ++ rest)) =
+    fourth ∙ append-assoc toCounts (t .ceilings) (entries ++ rest) in
+    let second : memoryOf t ++ rest ≡ toStore ++ (counts ++ (t .ceilings ++ (entries ++ rest))) =
+    third ∙ append-assoc toStore counts (t .ceilings ++ (entries ++ rest)) in
+    let first : memoryOf t ++ rest ≡ window ++ (t .store ++ (counts ++ (t .ceilings ++ (entries ++ rest)))) =
+    second ∙ append-assoc window (t .store) (counts ++ (t .ceilings ++ (entries ++ rest))) in
+    let isWindow : wideIn (memoryOf t ++ rest) 0 ≡ t .window =
+    ap (λ (l : List ℕ). wideIn l 0) first ∙ wide-behind [] _ (t .window) 0 refl (fits .window) in
+    let isStore : bytesAt (memoryOf t ++ rest) 4 8 ≡ t .store =
+    ap (λ (l : List ℕ). bytesAt l 4 8) first ∙ bytes-behind window (t .store) _ 8 4 refl (fits .store) in
+    let isTasks : byteIn (memoryOf t ++ rest) 12 ≡ t .tasks =
+    ap (λ (l : List ℕ). byteIn l 12) second ∙ byte-behind toStore _ 0 12 (omega (arith, storeLong, fits .store)) in
+    let isLocks : byteIn (memoryOf t ++ rest) 13 ≡ t .locks =
+    ap (λ (l : List ℕ). byteIn l 13) second ∙ byte-behind toStore _ 1 13 (omega (arith, storeLong, fits .store)) in
+    let isCeilings : bytesAt (memoryOf t ++ rest) 16 8 ≡ t .ceilings =
+    ap (λ (l : List ℕ). bytesAt l 16 8) third
+    ∙ bytes-behind toCounts (t .ceilings) _ 8 16 (omega (arith, storeLong, countsLong, fits .store)) (fits .ceilings) in
+    let isEntries : map (λ i. entryIn (memoryOf t ++ rest) (24 + 80 * i)) (upTo 8) ≡ t .entries =
+    ap (λ (l : List ℕ). map (λ i. entryIn l (24 + 80 * i)) (upTo 8)) fourth
+    ∙ parts-back entryIn entryBytes 80 FitsEntry entry-length entry-back toCeilings (t .entries) rest 24 8
+    (fits .entries) (omega (arith, storeLong, countsLong, ceilingsLong, fits .store, fits .ceilings))
+    (fits .entriesFull) in
+    λ j. record {
+      window = isWindow j;
+      store = isStore j;
+      tasks = isTasks j;
+      entries = isEntries j;
+      locks = isLocks j;
+      ceilings = isCeilings j;
+    }
+
+-- ---- any bytes
+
+-- a byte of the memory, or 0 past its end
+byte-small : (memory : List ℕ) (at : ℕ) → Every (λ (b : ℕ). b < 256) memory → byteIn memory at < 256
+unfolding byteIn
+byte-small [] at small = omega arith
+byte-small (b ∷ memory) zero small = small .0
+byte-small (b ∷ memory) (suc at) small = byte-small memory at (small .1)
+
+wide-small : (memory : List ℕ) (at : ℕ) → Every (λ (b : ℕ). b < 256) memory → wideIn memory at < 2 ^ 32
+unfolding wideIn
+wide-small memory at small =
+    omega (
+      arith,
+      byte-small memory at small,
+      byte-small memory (at + 1) small,
+      byte-small memory (at + 2) small,
+      byte-small memory (at + 3) small,
+    )
+
+entry-small : (memory : List ℕ) (at : ℕ) → Every (λ (b : ℕ). b < 256) memory → FitsEntry (entryIn memory at)
+unfolding entryIn
+entry-small memory at small =
+    record {
+      execution = wide-small memory at small;
+      period = wide-small memory (at + 4) small;
+      arrival = wide-small memory (at + 8) small;
+      body = values-length (λ p. instructionIn memory (at + 16 + 4 * p)) 16;
+    }
+
+-- whatever bytes hold is a table that fits
+pub memory-fits : (memory : List ℕ) → Every (λ (b : ℕ). b < 256) memory → Fits (tableIn memory)
+unfolding tableIn
+memory-fits memory small =
+    let at : ℕ → TaskEntry = λ i. entryIn memory (24 + 80 * i) in
+    record {
+      window = wide-small memory 0 small;
+      store = bytesAt-length memory 4 8;
+      entriesFull = values-length at 8;
+      entries =
+          every-map FitsEntry at (upTo 8)
+          (every-of (λ i. FitsEntry (at i)) (λ i. entry-small memory (24 + 80 * i) small) (upTo 8));
+      ceilings = bytesAt-length memory 16 8;
+    }

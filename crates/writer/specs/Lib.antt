@@ -1,0 +1,9 @@
+pub mod Claims
+pub mod Fields
+pub mod Laws
+pub mod Layout
+pub mod Memory
+pub mod SameTable
+pub mod WalkOrder
+pub mod WriteEntries
+pub mod WriterDemand

@@ -1,0 +1,75 @@
+-- A table in memory, as a caller of C lends it: 664 bytes, wide fields low byte first. Bytes 0 to 3 are the window,
+-- 4 to 11 the store, 12 the number of tasks, 13 the number of locks, 16 to 23 the ceilings; from byte 24 on stand eight
+-- entries of 80 bytes: execution time, period and first arrival, 4 bytes each, byte 12 the number of instructions, and
+-- from byte 16 on sixteen instructions of 4 bytes: operation, a, b, c. The other bytes are unused.
+-- Any bytes are a table.
+-- Assumes nothing.
+use Prim.Native.Nat.{ℕ, _+_, _*_}
+use mathlib.Core.List.{List, [], _∷_, _++_, map}
+use lib.ListN.{getD}
+use Rattle.notation.specs.Lists.{upTo, bytesAt, each}
+use Rattle.taskfile.specs.declared.Instruction.{Instruction}
+use Rattle.taskfile.specs.declared.Table.{Table}
+use Rattle.taskfile.specs.declared.TaskEntry.{TaskEntry}
+use Rattle.writer.specs.Layout.{wideBytes}
+
+abbrev pub tableBytes : ℕ
+tableBytes = 664
+
+unfoldable pub byteIn : List ℕ → ℕ → ℕ
+byteIn memory at = getD memory at 0
+
+unfoldable pub wideIn : List ℕ → ℕ → ℕ
+wideIn memory at =
+    byteIn memory at + 256 * byteIn memory (at + 1) + 65536 * byteIn memory (at + 2) + 16777216 * byteIn memory (at + 3)
+
+-- what stands at a byte of the memory: an instruction, an entry; and the whole table
+unfoldable pub instructionIn : List ℕ → ℕ → Instruction
+instructionIn memory at =
+    record {
+      operation = byteIn memory at;
+      a = byteIn memory (at + 1);
+      b = byteIn memory (at + 2);
+      c = byteIn memory (at + 3);
+    }
+
+unfoldable pub entryIn : List ℕ → ℕ → TaskEntry
+entryIn memory at =
+    record {
+      execution = wideIn memory at;
+      period = wideIn memory (at + 4);
+      arrival = wideIn memory (at + 8);
+      length = byteIn memory (at + 12);
+      body = map (λ p. instructionIn memory (at + 16 + 4 * p)) (upTo 16);
+    }
+
+unfoldable pub tableIn : List ℕ → Table
+tableIn memory =
+    record {
+      window = wideIn memory 0;
+      store = bytesAt memory 4 8;
+      tasks = byteIn memory 12;
+      entries = map (λ i. entryIn memory (24 + 80 * i)) (upTo 8);
+      locks = byteIn memory 13;
+      ceilings = bytesAt memory 16 8;
+    }
+
+-- the bytes of an instruction, of an entry, and of the whole table; unused bytes are zero
+unfoldable pub instructionBytes : Instruction → List ℕ
+instructionBytes i = i .operation ∷ i .a ∷ i .b ∷ i .c ∷ []
+
+unfoldable pub entryBytes : TaskEntry → List ℕ
+entryBytes e =
+    wideBytes (e .execution)
+    ++ wideBytes (e .period)
+    ++ wideBytes (e .arrival)
+    ++ (e .length ∷ 0 ∷ 0 ∷ 0 ∷ [])
+    ++ each (e .body) instructionBytes
+
+unfoldable pub memoryOf : Table → List ℕ
+memoryOf t =
+    wideBytes (t .window)
+    ++ t .store
+    ++ (t .tasks ∷ t .locks ∷ 0 ∷ 0 ∷ [])
+    ++ t .ceilings
+    ++ each (t .entries) entryBytes

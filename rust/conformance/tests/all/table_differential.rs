@@ -1,0 +1,126 @@
+//! The proved entry that fills a table in memory from a file, called through its C interface,
+//! against the interpreter: the answer, every byte of the lent memory, and the lent words.
+
+use binding::raw::{table, table_words, WriteAnswer, TABLE_WORDS};
+use binding::TABLE_ROOM;
+use conformance::cases::{edited, full_table, table_x};
+use conformance::entries::{amid, pattern, word_pattern};
+use conformance::families::*;
+use conformance::proved::expected_table;
+use generator::files::{damaged, random_bytes, random_records};
+use generator::hostile::hostile_files;
+use generator::{random_nest, random_race, Random};
+
+/// The seeds differ, so that no family repeats the tables of another.
+const FAMILIES: [Family; 8] = [
+    Family { name: "small tables", seed: 820, tables: 4_000, make: small },
+    Family { name: "long bodies", seed: 821, tables: 2_000, make: long },
+    Family { name: "races", seed: 822, tables: 2_000, make: random_race },
+    Family { name: "nests", seed: 823, tables: 2_000, make: random_nest },
+    Family { name: "nests of four", seed: 824, tables: 1_000, make: nest_of_four },
+    Family { name: "tables of any size", seed: 825, tables: 8_000, make: any },
+    Family { name: "many jobs", seed: 826, tables: 4_000, make: crowded },
+    Family { name: "the largest table", seed: 827, tables: 200, make: largest_with_assertions },
+];
+
+/// Asserts that both sides give one answer and leave one memory of this size: the table at its
+/// front, and every other byte as it was.
+fn compare(file: &[u8], size: usize) -> WriteAnswer {
+    let (mut memory, mut left) = (pattern(size), pattern(size));
+    let expected = expected_table(file, &mut left);
+    let case = || format!("{size} bytes lent: {file:02x?}");
+    assert_eq!(table(file, &mut memory), expected, "{}", case());
+    assert!(memory == left, "the tables differ, {}", case());
+    let length = expected.length as usize;
+    assert!(memory[length..] == pattern(size)[length..], "{}", case());
+    expected
+}
+
+#[test]
+fn tables_of_random_files() {
+    let mut numbers = [0; 21];
+    for family in FAMILIES {
+        let mut random = Random::new(family.seed);
+        for _ in 0..family.tables {
+            let described = (family.make)(&mut random);
+            let file = described.write_shuffled(&mut random).0;
+            let size = TABLE_ROOM + random.index(60);
+            let answer = compare(&file, size);
+            // The description is a third opinion on what stands in memory.
+            let mut memory = pattern(size);
+            if table(&file, &mut memory).number == 0 {
+                assert!(memory[..TABLE_ROOM] == described.memory(), "{file:02x?}");
+            }
+            numbers[answer.number as usize] += 1;
+            numbers[compare(&file, random.index(TABLE_ROOM)).number as usize] += 1;
+        }
+        println!("{}: {numbers:?}", family.name);
+    }
+    assert!([0, 10, 20].iter().all(|number| numbers[*number] >= 1_000), "{numbers:?}");
+}
+
+#[test]
+fn files_that_are_refused() {
+    for (at, file) in refused_files().iter().enumerate() {
+        for size in [0, 1, TABLE_ROOM - 1, TABLE_ROOM, TABLE_ROOM + 1] {
+            assert_eq!(compare(file, size).number, at as u64 + 1);
+        }
+    }
+    let mut random = Random::new(828);
+    let mut files = hostile_files(&mut random);
+    for _ in 0..6_000 {
+        let file = any(&mut random).write_shuffled(&mut random).0;
+        files.extend([damaged(&mut random, &file), random_records(&mut random)]);
+    }
+    files.extend((0..1_000).map(|_| random_bytes(&mut random)));
+    let x = table_x().write();
+    files.extend((0..x.len() * 16).map(|at| edited(&x, &[(at / 16, 17 * (at % 16) as u8)])));
+    let mut numbers = [0; 21];
+    for file in files {
+        numbers[compare(&file, TABLE_ROOM + random.index(3)).number as usize] += 1;
+        numbers[compare(&file, TABLE_ROOM - 1).number as usize] += 1;
+    }
+    println!("{numbers:?}");
+    assert!((0..=11).chain([20]).all(|number| numbers[number] >= 20), "{numbers:?}");
+}
+
+#[test]
+fn memory_of_every_size() {
+    let x = table_x().write();
+    for file in [&x[..], &full_table().write()] {
+        for size in 0..=TABLE_ROOM + 60 {
+            let answer = compare(file, size);
+            let expected = if size < TABLE_ROOM { (20, 0, 0) } else { (0, 0, TABLE_ROOM as u64) };
+            assert_eq!((answer.number, answer.place, answer.length), expected, "{size}");
+        }
+    }
+}
+
+/// Lends part of a larger memory, some words of a larger list, and the file amid other bytes. Only
+/// the three words and the table's bytes change, and none without room for the words.
+fn compare_lent(random: &mut Random, file: &[u8], size: usize, length: usize) {
+    let (files, at) = amid(random, file);
+    let unchanged = files.clone();
+    let (mut memory, mut words) = (pattern(size + 16), word_pattern(length + 16));
+    let (mut left, mut expected) = (memory.clone(), words.clone());
+    let room = table_words(&files[at], &mut memory[8..][..size], &mut words[8..][..length]);
+    assert_eq!(room, length >= TABLE_WORDS);
+    if room {
+        let answer = expected_table(file, &mut left[8..][..size]);
+        expected[8..][..TABLE_WORDS].copy_from_slice(&<[u64; TABLE_WORDS]>::from(answer));
+    }
+    assert!(memory == left && words == expected && files == unchanged, "{size} {length}");
+}
+
+#[test]
+fn lent_memory_and_answers_of_many_lengths() {
+    let mut random = Random::new(829);
+    let (x, full) = (table_x().write(), full_table().write());
+    for file in [&x[..], &x[..17], &[], &full] {
+        for length in 0..=2 * TABLE_WORDS {
+            for size in (0..3).chain(TABLE_ROOM - 3..TABLE_ROOM + 3).chain([2 * TABLE_ROOM]) {
+                compare_lent(&mut random, file, size, length);
+            }
+        }
+    }
+}

@@ -1,0 +1,280 @@
+//! Tables in memory, good and bad: 664 bytes as the C interface lays them out.
+
+use crate::description::{code, InstructionDescription, TableDescription, TaskDescription};
+use crate::hostile::{nearly_full, WIDEST};
+use crate::random::Random;
+use crate::tables::{random_nest, random_race, random_table, Sizes};
+
+/// How many bytes a table in memory has.
+pub const TABLE_ROOM: usize = 664;
+/// A table in memory.
+pub type Memory = [u8; TABLE_ROOM];
+
+/// How many tasks, locks and instructions there is room for.
+const MOST_TASKS: usize = 8;
+const MOST_LOCKS: usize = 8;
+const MOST_INSTRUCTIONS: usize = 16;
+
+/// Where the counts and the ceilings are, and the unused bytes between them.
+pub const TASKS: usize = 12;
+pub const LOCKS: usize = 13;
+pub const CEILINGS: usize = 16;
+
+/// Where a task's entry begins, where the length of its body is, and where an instruction is.
+pub fn entry_at(task: usize) -> usize {
+    24 + 80 * task
+}
+
+pub fn length_at(task: usize) -> usize {
+    entry_at(task) + 12
+}
+
+pub fn instruction_at(task: usize, position: usize) -> usize {
+    entry_at(task) + 16 + 4 * position
+}
+
+/// A count's byte; 255 for what it cannot hold.
+fn count(parts: usize) -> u8 {
+    parts.min(255) as u8
+}
+
+/// Writes bytes at an offset.
+fn put(memory: &mut Memory, at: usize, bytes: &[u8]) {
+    memory[at..at + bytes.len()].copy_from_slice(bytes);
+}
+
+impl TableDescription {
+    /// The table in memory, with zeros past its counts. Parts that have no room are left out, but
+    /// the counts have them.
+    pub fn memory(&self) -> Memory {
+        let mut memory = [0; TABLE_ROOM];
+        put(&mut memory, 0, &self.window.to_le_bytes());
+        put(&mut memory, 4, &self.initial_store);
+        memory[TASKS] = count(self.tasks.len());
+        memory[LOCKS] = count(self.ceilings.len());
+        put(&mut memory, CEILINGS, &self.ceilings[..self.ceilings.len().min(MOST_LOCKS)]);
+        for (number, task) in self.tasks.iter().take(MOST_TASKS).enumerate() {
+            let times = [task.execution, task.period, task.first_arrival];
+            put(&mut memory, entry_at(number), &times.map(u32::to_le_bytes).concat());
+            memory[length_at(number)] = count(task.body.len());
+            for (position, one) in task.body.iter().take(MOST_INSTRUCTIONS).enumerate() {
+                let InstructionDescription { operation, a, b, c } = *one;
+                put(&mut memory, instruction_at(number, position), &[operation, a, b, c]);
+            }
+        }
+        memory
+    }
+}
+
+/// Random bytes wherever a table in memory has no part: in unused bytes and past the counts.
+pub fn litter(random: &mut Random, memory: &mut Memory) {
+    let [tasks, locks] = [TASKS, LOCKS].map(|at| usize::from(memory[at]));
+    let mut free = vec![
+        LOCKS + 1..CEILINGS,
+        CEILINGS + locks.min(MOST_LOCKS)..CEILINGS + MOST_LOCKS,
+        entry_at(tasks.min(MOST_TASKS))..TABLE_ROOM,
+    ];
+    for task in 0..tasks.min(MOST_TASKS) {
+        let length = usize::from(memory[length_at(task)]).min(MOST_INSTRUCTIONS);
+        free.push(length_at(task) + 1..instruction_at(task, 0));
+        free.push(instruction_at(task, length)..entry_at(task + 1));
+    }
+    for byte in free.into_iter().flatten() {
+        memory[byte] = random.byte();
+    }
+}
+
+/// The table in memory, with litter in half of the cases.
+fn kept(random: &mut Random, table: &TableDescription) -> Memory {
+    let mut memory = table.memory();
+    if random.chance(1, 2) {
+        litter(random, &mut memory);
+    }
+    memory
+}
+
+/// A random table of small, long or any size, or one of the two special shapes.
+fn drawn(random: &mut Random) -> TableDescription {
+    match random.between(0, 7) {
+        0 => random_table(random, &Sizes::SMALL),
+        1 => random_table(random, &Sizes::LONG),
+        2 => random_race(random),
+        3 => random_nest(random),
+        _ => random_table(random, &Sizes::ANY),
+    }
+}
+
+/// A table of any size with so short execution times that it is mostly accepted.
+fn light(random: &mut Random) -> TableDescription {
+    let mut table = random_table(random, &Sizes::ANY);
+    for task in &mut table.tasks {
+        (task.execution, task.period) = (1, task.period * 8);
+    }
+    table
+}
+
+/// Tables that are mostly accepted.
+pub fn good(random: &mut Random) -> Memory {
+    let table = if random.chance(1, 2) { light(random) } else { drawn(random) };
+    kept(random, &table)
+}
+
+/// Tables with one count that is another: of tasks, of locks, or of a body's instructions. What
+/// stands past the counts is litter, or End and zeros.
+pub fn miscounted(random: &mut Random) -> Memory {
+    let table = light(random);
+    let mut memory = kept(random, &table);
+    let task = random.index(table.tasks.len());
+    let at = [TASKS, LOCKS, length_at(task)][random.index(3)];
+    let others = [0, 1, 7, 8, 9, 10, 15, 16, 17, 18, 200, 255, random.byte()];
+    memory[at] = others[random.index(others.len())];
+    memory
+}
+
+/// Good tables with more parts than there is room for, up to 300 of a kind.
+pub fn overfull(random: &mut Random) -> Memory {
+    let mut table = light(random);
+    let many = [8, 9, 10, 16, 17, 18, 255, 256, 300][random.index(9)];
+    let last = table.tasks.len() - 1;
+    match random.between(0, 2) {
+        0 => table.tasks.resize(many, table.tasks[last].clone()),
+        1 => table.ceilings.resize(many, random.between(6, 8) as u8),
+        _ => table.tasks[random.index(last + 1)].body.resize(many, code::end()),
+    }
+    kept(random, &table)
+}
+
+/// Tables with one byte changed, mostly by a little.
+pub fn one_byte(random: &mut Random) -> Memory {
+    let table = if random.chance(1, 2) { light(random) } else { drawn(random) };
+    let mut memory = table.memory();
+    let at = match random.chance(1, 2) {
+        true => random.index(TABLE_ROOM),
+        false => random.index(entry_at(table.tasks.len())),
+    };
+    let change = if random.chance(1, 2) { random.between(1, 3) } else { random.between(1, 255) };
+    memory[at] = memory[at].wrapping_add(change as u8);
+    memory
+}
+
+/// A number near to a limit, or any byte.
+fn near(random: &mut Random) -> u8 {
+    let likely = [0, 1, 2, 3, 4, 7, 8, 9, 15, 16, 255, random.byte()];
+    likely[random.index(likely.len())]
+}
+
+/// Tables with an instruction that breaks a rule or nearly does: an unused or a wrong field, a skip
+/// beyond the end, a lock that is missing or has a low ceiling, a last instruction that is not End.
+pub fn wrong_instruction(random: &mut Random) -> Memory {
+    let mut table = light(random);
+    let task = random.index(table.tasks.len());
+    let body = &mut table.tasks[task].body;
+    let (at, last) = (random.index(body.len()), body.len() - 1);
+    match random.between(0, 7) {
+        0 => body[at].operation = random.between(0, 13) as u8,
+        1 => body[at].a = near(random),
+        2 => body[at].b = near(random),
+        3 => body[at].c = near(random),
+        4 => body[at] = code::skip_if_less(0, 1, random.between(0, 16) as u8),
+        5 => body[at] = code::acquire(near(random)),
+        6 => body[at] = code::release(near(random)),
+        _ => body[last] = code::set(0, random.byte()),
+    }
+    if random.chance(1, 4) {
+        table.ceilings.iter_mut().for_each(|ceiling| *ceiling /= 2);
+    }
+    kept(random, &table)
+}
+
+/// A time from 0 to the widest, mostly near to an end or small.
+fn time(random: &mut Random) -> u32 {
+    match random.between(0, 5) {
+        0 => random.between(0, 2) as u32,
+        1 => WIDEST - random.between(0, 2) as u32,
+        2 => random.bits() as u32,
+        _ => random.between(1, 300) as u32,
+    }
+}
+
+/// Tables with one or more times, ceilings or the window drawn anew.
+pub fn wrong_times(random: &mut Random) -> Memory {
+    let mut table = light(random);
+    let task = random.index(table.tasks.len());
+    match random.between(0, 6) {
+        0 => table.window = time(random),
+        1 => table.tasks[task].execution = time(random),
+        2 => table.tasks[task].period = time(random),
+        3 => table.tasks[task].first_arrival = time(random),
+        4 => table.tasks.iter_mut().for_each(|task| task.execution = time(random)),
+        5 => table.tasks.iter_mut().for_each(|task| task.period = time(random)),
+        _ => table.ceilings.iter_mut().for_each(|ceiling| *ceiling = near(random)),
+    }
+    kept(random, &table)
+}
+
+/// A table in which only one task, mostly a middle one, has no response time within its period: 4
+/// of each 7 under 2 of each 5. The tasks below it have far longer periods.
+fn bottleneck(random: &mut Random) -> TableDescription {
+    let mut table = light(random);
+    let middle = random.index(table.tasks.len());
+    for (number, task) in table.tasks.iter_mut().enumerate() {
+        (task.execution, task.period) = match number {
+            _ if number < middle => (1, 4_000_000),
+            _ if number == middle => (4_000, 7_000),
+            _ if number == middle + 1 => (2_000, 5_000),
+            _ => (1, 5_000),
+        };
+    }
+    table
+}
+
+/// Tables whose processor is full or nearly so.
+pub fn busy(random: &mut Random) -> Memory {
+    let table = match random.between(0, 19) {
+        0 => nearly_full(random),
+        1..=9 => bottleneck(random),
+        _ => {
+            let mut table = light(random);
+            let tasks = table.tasks.len() as u32;
+            let share = |task: &TaskDescription| (task.period / tasks).max(1);
+            table.tasks.iter_mut().for_each(|task| task.execution = share(task));
+            table
+        }
+    };
+    kept(random, &table)
+}
+
+/// Tables with about 32 jobs, and with far more.
+pub fn many_jobs(random: &mut Random) -> Memory {
+    let mut table = light(random);
+    let tasks = table.tasks.len() as u64;
+    let longest = u64::from(table.tasks[0].period);
+    table.window = match random.chance(1, 4) {
+        true => time(random).max(1),
+        false => (longest * random.between(20, 44) / tasks).max(1) as u32,
+    };
+    table.tasks.iter_mut().for_each(|task| task.period = longest as u32);
+    kept(random, &table)
+}
+
+/// Any bytes, or bytes that are likely in a table, so that a reader goes further.
+pub fn random_bytes(random: &mut Random) -> Memory {
+    if random.chance(1, 4) {
+        return std::array::from_fn(|_| random.byte());
+    }
+    let mut memory = [0; TABLE_ROOM];
+    memory[0] = random.between(0, 20) as u8;
+    memory[TASKS] = random.between(0, 9) as u8;
+    memory[LOCKS] = random.between(0, 9) as u8;
+    memory[CEILINGS..][..MOST_LOCKS].iter_mut().for_each(|c| *c = random.between(4, 8) as u8);
+    for task in 0..MOST_TASKS {
+        let times = [random.between(0, 3) as u8, 0, 0, 0, random.between(1, 99) as u8];
+        put(&mut memory, entry_at(task), &times);
+        memory[length_at(task)] = random.between(0, 3) as u8;
+        for position in 0..random.index(3) {
+            let one = [random.between(0, 11) as u8, random.between(0, 3) as u8, 0, 0];
+            put(&mut memory, instruction_at(task, position), &one);
+        }
+    }
+    memory
+}
