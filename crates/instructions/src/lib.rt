@@ -28,11 +28,12 @@ use taskfile::operations::STORE;
 use taskfile::operations::SUBTRACT;
 ghost use mathlib.Core.Path.{_≡_};
 ghost use Prim.Native.Nat.{_<_};
+ghost use Rattle.machine.specs.Code.Within.{LocksWithin};
 ghost use Rattle.machine.specs.Instructions.{perform};
 
 // What an instruction does, where v is the Pick's choice. An operation above 11 is taken as End.
 pub fn perform_instruction(i: Instruction, v: u8, l: Local, s: [u8; VARIABLES]) -> Effect
-    requires { ⌜ l .next < 16 ⌝ }
+    requires { ⌜ (l .next < 16) × LocksWithin l ⌝ }
     ensures { λ e. ⌜ e ≡ perform i v l s ⌝ }
 {
     let operation = i.operation;

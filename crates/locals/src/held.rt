@@ -5,6 +5,7 @@ ghost use mathlib.Core.Path.{_≡_};
 ghost use Prim.Native.Nat.{_≤_, _<_};
 ghost use lib.ListN.{take};
 ghost use Rattle.machine.specs.Held.{noLocks, holds, acquire, release, priority};
+ghost use Rattle.machine.specs.Code.Within.{Within};
 
 // No lock.
 pub fn no_locks() -> [u8; LOCKS]
@@ -23,6 +24,7 @@ pub fn holds_lock(held: [u8; LOCKS], lock: u8) -> bool
 
 // The held locks and this one. A number that is no lock's changes nothing.
 pub fn acquire_lock(held: [u8; LOCKS], lock: u8) -> [u8; LOCKS]
+    requires { ⌜ Within 15 held ⌝ }
     ensures { λ r. ⌜ r ≡ acquire held lock ⌝ }
 {
     let mut more = held;

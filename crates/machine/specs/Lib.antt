@@ -1,4 +1,5 @@
 pub mod Buffers
+pub mod Code
 pub mod Ends
 pub mod Held
 pub mod Instructions

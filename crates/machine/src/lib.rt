@@ -9,8 +9,8 @@ use taskfile::limits::VARIABLES;
 // The position of a running job's next instruction is below this.
 pub const POSITIONS: u16 = INSTRUCTIONS as u16;
 
-// A job's own state: the position of its next instruction, registers 0 to 3, and for each lock 1 if the
-// job holds it, else 0.
+// A job's own state: the position of its next instruction, registers 0 to 3, and what it holds of each lock, as
+// `Held` says.
 pub struct Local {
     pub next: u16,
     pub registers: [u8; REGISTERS],

@@ -20,6 +20,7 @@ ghost use Rattle.notation.specs.Lists.{if_then_else_};
 ghost use Rattle.machine.specs.Instructions.{endJob, loadVariable, store, setNumber, add, subtract, skipLess, skipEqual, pick};
 ghost use Rattle.machine.specs.Instructions.{acquireLock, releaseLock, assert};
 ghost use Rattle.machine.specs.Instructions.{goesOn, skipping, withHeld, withRegister};
+ghost use Rattle.machine.specs.Code.Within.{LocksWithin};
 
 // The effect of an instruction that gives register r the value x.
 fn register_taken(l: Local, r: u8, x: u8, s: [u8; VARIABLES]) -> Effect
@@ -141,7 +142,7 @@ pub fn pick_value(i: Instruction, v: u8, l: Local, s: [u8; VARIABLES]) -> Effect
 
 // 9 Acquire lock a.
 pub fn acquire_step(i: Instruction, v: u8, l: Local, s: [u8; VARIABLES]) -> Effect
-    requires { ⌜ l .next < 16 ⌝ }
+    requires { ⌜ (l .next < 16) × LocksWithin l ⌝ }
     ensures { λ e. ⌜ e ≡ acquireLock i v l s ⌝ }
 {
     let held = l.held;

@@ -20,6 +20,7 @@ use timing::Job;
 ghost use mathlib.Core.Path.{_≡_};
 ghost use Prim.Native.Nat.{_+_, _≤_, _<_};
 ghost use lib.ListN.{length, getD, take};
+ghost use Rattle.machine.specs.Code.Within.{LocksWithin};
 ghost use Rattle.machine.specs.Held.{priority};
 ghost use Rattle.machine.specs.Instructions.{perform};
 ghost use Rattle.plan.specs.Runs.{roundAt};
@@ -78,7 +79,7 @@ pub fn make_step(
     marks: &mut [u8; MARKS],
 ) -> Effect
     requires bytes { ⌜ (offset + 1 < length (now plan)) × (roundAt (now plan) offset .0 < 32) ⌝ }
-    requires bounds { ⌜ (locks .count ≤ 8) × (x .0 < 32) × (n < 16) × (local .next < 16) ⌝ }
+    requires bounds { ⌜ (locks .count ≤ 8) × (x .0 < 32) × (n < 16) × (local .next < 16) × LocksWithin local ⌝ }
     requires arrays { ⌜ (length (now stores) ≡ 256) × (length (now marks) ≡ 1568) ⌝ }
     ensures effect { λ e. ⌜ e ≡ perform i (getD (now (plan .entry)) (offset + 1) 0) local
         (storeAt (now (stores .entry)) (roundAt (now (plan .entry)) offset .0)) ⌝ }

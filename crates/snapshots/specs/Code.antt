@@ -2,4 +2,5 @@ pub mod Lent
 pub mod ReplayParts
 pub mod Shows
 pub mod SnapshotSteps
+pub mod SnapshotWithin
 pub mod Snapshots

@@ -4,6 +4,7 @@ pub mod ReplayLaws
 pub mod ReplayLoopLaws
 pub mod ShowLaws
 pub mod SnapshotLaws
+pub mod SnapshotWithinLaws
 pub mod StartAgreed
 pub mod StartLaws
 pub mod StepPartLaws

@@ -21,12 +21,13 @@ use turns::turn_of;
 ghost use mathlib.Core.Path.{_≡_};
 ghost use Prim.Native.Nat.{_/_, _%_, _≤_, _<_};
 ghost use mathlib.Core.Bool.{true};
+ghost use Rattle.machine.specs.Code.Within.{LocksWithin};
 ghost use Rattle.snapshots.specs.Code.SnapshotSteps.{afterIn, stepIn, madeIn};
 ghost use Rattle.states.specs.Code.StateBytes.{snapshotIn, IsState};
 
 // Makes of a state what it is after job x of task i has had an effect, with so many active jobs under it.
 pub fn put_effect(s: &mut [u8; STATE], x: Job, under: u8, i: Task, effect: Effect)
-    requires { ⌜ IsState (now s) × (x .0 < 32) × (under < 8) × (i .0 < 8) ⌝ }
+    requires { ⌜ IsState (now s) × (x .0 < 32) × (under < 8) × (i .0 < 8) × LocksWithin (effect .local) ⌝ }
     ensures made { λ _. ⌜ snapshotIn (now (s .exit)) ≡ afterIn (snapshotIn (now (s .entry))) x under (i .0) effect ⌝ }
     ensures whole { λ _. ⌜ IsState (now (s .exit)) ⌝ }
 {
@@ -46,7 +47,8 @@ pub fn put_effect(s: &mut [u8; STATE], x: Job, under: u8, i: Task, effect: Effec
 
 // Makes the step of the job in the frame, of task i, with the value v.
 pub fn step_with(program: &[u8; PROGRAM], s: &mut [u8; STATE], f: Frame, under: u8, i: Task, v: u8)
-    requires { ⌜ IsState (now s) × (f .job .0 < 32) × (f .local .next < 16) × (under < 8) × (i .0 < 8) ⌝ }
+    requires bounds { ⌜ (f .job .0 < 32) × (f .local .next < 16) × (under < 8) × (i .0 < 8) ⌝ }
+    requires states { ⌜ IsState (now s) × LocksWithin (f .local) ⌝ }
     ensures made { λ _. ⌜ snapshotIn (now (s .exit))
         ≡ madeIn (now (program .entry)) (snapshotIn (now (s .entry))) f under (i .0) v ⌝ }
     ensures whole { λ _. ⌜ IsState (now (s .exit)) ⌝ }

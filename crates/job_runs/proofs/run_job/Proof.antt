@@ -102,6 +102,7 @@ make-step-requires c κs =
           start .pre .0 .2,
           checked .before .before .before .before .loop-test .taken,
           checked .before .before .if2 .left,
+          loop .loop .inv .within,
         ),
         (loop .loop .inv .room, loop .loop .inv .isMarks .whole),
       ),

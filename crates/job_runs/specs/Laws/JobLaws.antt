@@ -32,7 +32,9 @@ use Rattle.marks.specs.Laws.StoreLaws.{put-length}
 use Rattle.job_runs.specs.Laws.ByteLaws.{bytes-refused, bytes-passed, bytes-round}
 use Rattle.job_runs.specs.Laws.FlagLaws.{flag-kept}
 use Rattle.job_runs.specs.Laws.LentSteps.{lentStep, bodySize, fresh-inside, inside-short, owner-small, bytes-lent, effect-lent, inside-on, made-lent, after-lent}
+use Rattle.machine.specs.Code.Within.{LocksWithin}
 use Rattle.machine.specs.Laws.InstructionLaws.{perform-length}
+use Rattle.machine.specs.Laws.WithinLaws.{fresh-within, perform-within}
 use Rattle.job_runs.specs.Laws.StepLaws.{afterSteps, made-none, made-more, step-refused, step-ended, step-goes}
 
 -- a job's first n steps
@@ -54,6 +56,7 @@ pub record Running (program : List ℕ) (locks : Ceilings) (plan : Plan) (k x st
   pub few : n ≤ 16
   pub owned : owner ≡ ownerIn program x
   pub counted : 0 < n → stepCount marks x ≡ n
+  pub within : LocksWithin local
   pub inside : (a : Accepted) (times : List ℕ) → Holds a program times locks k → IsJob a (record { 0 = x })
       → local .next < bodySize a x
   pub runs : (a : Accepted) (times : List ℕ) → Holds a program times locks k → IsJob a (record { 0 = x })
@@ -75,6 +78,7 @@ run-starts program locks plan k x start stores marks room isMarks owned new = re
   few = omega arith;
   owned = owned;
   counted = λ some. absurd (omega arith);
+  within = rw new fresh-within;
   inside = λ a times held isJob. rw new (fresh-inside held x isJob);
   runs = λ a times held isJob flags. rw (new, ← flag-kept false x flags refl) (made-none _);
 }
@@ -264,6 +268,7 @@ module _ {program : List ℕ} {locks : Ceilings} {plan : Plan} {k x start : ℕ}
         few = omega arith;
         owned = run .owned;
         counted = λ some. counted′;
+        within = rw does (perform-within _ _ _ _ (run .within));
         inside = λ a times held isJob.
             inside-on held x isJob (run .owned) local (run .inside a times held isJob) reads plan stores [] offset isRound
             does goes;

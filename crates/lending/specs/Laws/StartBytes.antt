@@ -1,6 +1,6 @@
 -- The bytes of the state that an order starts from: zeros, then the store and the first jobs written.
 -- Assumes nothing.
-use mathlib.Core.Path.{_≡_, refl, sym, ap, _∙_}
+use mathlib.Core.Path.{_≡_, refl, sym, ap, subst, _∙_}
 use mathlib.Core.Logic.{inl, inr}
 use Prim.Native.Nat.{ℕ, _+_, _*_, _≤_, _<_}
 use native.Mathlib.Omega.{arith}
@@ -13,6 +13,8 @@ use Rattle.machine.specs.Ends.{noFlags}
 use Rattle.machine.specs.Held.{noLocks}
 use Rattle.machine.specs.Instructions.{fresh}
 use Rattle.snapshots.specs.Code.SnapshotSteps.{noFrame, firstFrom, firstSnapshot}
+use Rattle.snapshots.specs.Code.SnapshotWithin.{AllWithin}
+use Rattle.snapshots.specs.Laws.SnapshotWithinLaws.{first-snapshot-within}
 use Rattle.states.specs.Code.StateBytes.{frameAt, frameIn, flagIn, snapshotIn, IsState, Replaced}
 use Rattle.notation.specs.Laws.TabulateLaws.{values-length, values-are}
 
@@ -76,4 +78,8 @@ module _ (program store : List ℕ) {upcoming filled bytes : List ℕ} (size : l
 
   pub start-whole : IsState bytes
   start-whole =
-      record { whole = second .same ∙ first .same ∙ length-replicate {A = ℕ} 192 0; few = omega (arith, flat) }
+      record {
+        whole = second .same ∙ first .same ∙ length-replicate {A = ℕ} 192 0;
+        few = omega (arith, flat);
+        within = subst AllWithin (sym start-shown) (first-snapshot-within program store);
+      }

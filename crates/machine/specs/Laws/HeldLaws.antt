@@ -7,21 +7,71 @@ use mathlib.Core.Logic.{_≢_, _⊎_, inl, inr}
 use mathlib.Core.Path.{_≡_, refl, sym, _∙_}
 use mathlib.Core.Bool.{Bool, true, false}
 use mathlib.Core.List.{List, [], _∷_}
-use lib.ListN.{length, getD, take, drop, length-take, getD-replicate, drop-of-length-le, List·getD-eq-default}
+use lib.ListN.{length, getD, set, take, drop, length-set, length-take, getD-replicate, length-replicate, drop-of-length-le, List·getD-eq-default}
 use lib.Seq.{set-out, getD-set-same, getD-set-other, drop-cons, getD-take}
 use Rattle.notation.specs.Lists.{if_then_else_}
 use Rattle.notation.specs.Laws.TestLaws.{not-both}
 use Rattle.machine.specs.Held.{Held, noLocks, holds, acquire, release, raised, priority}
+use Rattle.machine.specs.Code.Within.{Within}
+
+-- ---- how many locks there are
+
+pub none-length : length noLocks ≡ 8
+unfolding noLocks
+none-length = length-replicate {A = ℕ} 8 0
+
+pub acquire-length : (held : Held) (lock : ℕ) → length (acquire held lock) ≡ length held
+unfolding acquire
+acquire-length held lock = length-set held lock 1
+
+pub release-length : (held : Held) (lock : ℕ) → length (release held lock) ≡ length held
+unfolding release
+release-length held lock = length-set held lock 0
+
+-- ---- how much is held
+
+no-number : (lock : ℕ) → getD noLocks lock 0 ≡ 0
+unfolding noLocks
+no-number lock =
+    elim (decLe 8 lock) [
+      | yes past ↦ List·getD-eq-default noLocks 0 past
+      | no below ↦ getD-replicate {A = ℕ} 8 lock 0 0 (omega arith)
+    ]
+
+pub no-locks-within : (n : ℕ) → Within n noLocks
+no-locks-within n = record { most = λ lock. omega (arith, no-number lock) }
+
+-- the same of locks that are not there
+pub nothing-within : (n : ℕ) → Within n []
+nothing-within n = record { most = λ lock. omega arith }
+
+module _ {n : ℕ} {held : Held} (within : Within n held) where
+  pub within-more : (m : ℕ) → n ≤ m → Within m held
+  within-more m le = record { most = λ lock. omega (arith, within .most lock) }
+
+  set-within : (lock x : ℕ) → x ≤ n → Within n (set held lock x)
+  set-within lock x le = record { most = λ k. go k (ℕ-discrete k lock) }
+    where
+      go : (k : ℕ) → Dec (k ≡ lock) → getD (set held lock x) k 0 ≤ n
+      go k (no apart) = rw (getD-set-other held lock k x 0 apart) (within .most k)
+      go k (yes same) = elim (decLe (length held) lock) [
+        | yes past ↦ rw (set-out held lock x past) (within .most k)
+        | no below ↦ rw (same, getD-set-same held lock x 0 (omega arith)) le
+      ]
+
+pub acquire-within : {n : ℕ} {held : Held} → Within n held → (lock : ℕ) → Within (suc n) (acquire held lock)
+unfolding acquire
+acquire-within {n} within lock = set-within (within-more within (suc n) (omega arith)) lock 1 (omega arith)
+
+pub release-within : {n : ℕ} {held : Held} → Within n held → (lock : ℕ) → Within n (release held lock)
+unfolding release
+release-within within lock = set-within within lock 0 (omega arith)
 
 -- ---- which locks are held
 
 pub none-held : (lock : ℕ) → holds noLocks lock ≡ false
-unfolding holds noLocks
-none-held lock =
-    elim (decLe 8 lock) [
-      | yes past ↦ rw (List·getD-eq-default noLocks 0 past)
-      | no below ↦ rw (getD-replicate {A = ℕ} 8 lock 0 0 (omega arith))
-    ]
+unfolding holds
+none-held lock = rw (no-number lock)
 
 module _ (held : Held) (lock : ℕ) where
   pub acquired : lock < length held → holds (acquire held lock) lock ≡ true

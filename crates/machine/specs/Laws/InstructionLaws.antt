@@ -3,11 +3,12 @@
 -- Assumes nothing.
 use Prim.Native.Nat.{ℕ, zero, suc, _+_, _%_, _≤_, _<_}
 use native.Mathlib.Omega.{arith}
-use mathlib.Core.Path.{_≡_, refl, ap}
+use mathlib.Core.Path.{_≡_, refl, ap, _∙_}
 use lib.ListN.{length, getD, set, length-set, List·getD-eq-default}
 use Rattle.taskfile.specs.declared.Instruction.{Instruction}
 use Rattle.machine.specs.declared.Local.{Local}
-use Rattle.machine.specs.Held.{Held, noLocks, acquire, release}
+use Rattle.machine.specs.Held.{Held}
+use Rattle.machine.specs.Laws.HeldLaws.{none-length, acquire-length, release-length}
 use Rattle.machine.specs.Instructions.{Store, Operation, fresh, minus, operationEffects, perform, register, skipping, withRegister, withHeld, endJob, loadVariable, store, setNumber, add, subtract, skipLess, skipEqual, pick, acquireLock, releaseLock, assert}
 
 -- the number that y added to wraps back to x is the difference
@@ -51,8 +52,8 @@ pub record LocalShaped (l : Local) (s : Store) : Type 0 where
   pub held : length (l .held) ≡ 8
 
 pub fresh-shaped : (s : Store) → length s ≡ 8 → LocalShaped fresh s
-unfolding fresh noLocks
-fresh-shaped s h = record { store = h; registers = refl; held = refl }
+unfolding fresh
+fresh-shaped s h = record { store = h; registers = refl; held = none-length }
 
 -- the next instruction, another register's value, other held locks, another variable's value
 next-shaped : (n : ℕ) {l : Local} {s : Store} → LocalShaped l s → LocalShaped (skipping n l) s
@@ -74,8 +75,8 @@ variable-shaped v x h = record { store = simp length-set (h .store); registers =
 -- each operation by its number
 shaped : (o : ℕ) (i : Instruction) (v : ℕ) (l : Local) (s : Store) → LocalShaped l s
     → LocalShaped (getD operationEffects o endJob i v l s .local) (getD operationEffects o endJob i v l s .store)
-unfolding operationEffects endJob loadVariable store setNumber add subtract skipLess skipEqual pick acquireLock releaseLock assert noLocks acquire release
-shaped zero i v l s h = next-shaped _ (held-shaped _ refl h)
+unfolding operationEffects endJob loadVariable store setNumber add subtract skipLess skipEqual pick acquireLock releaseLock assert
+shaped zero i v l s h = next-shaped _ (held-shaped _ none-length h)
 shaped (suc zero) i v l s h = next-shaped _ (register-shaped _ _ h)
 shaped (suc (suc zero)) i v l s h = variable-shaped (i .a) (register l (i .b)) (next-shaped _ h)
 shaped (suc (suc (suc zero))) i v l s h = next-shaped _ (register-shaped _ _ h)
@@ -84,10 +85,10 @@ shaped (suc (suc (suc (suc (suc zero))))) i v l s h = next-shaped _ (register-sh
 shaped (suc (suc (suc (suc (suc (suc zero)))))) i v l s h = next-shaped _ h
 shaped (suc (suc (suc (suc (suc (suc (suc zero))))))) i v l s h = next-shaped _ h
 shaped (suc (suc (suc (suc (suc (suc (suc (suc zero)))))))) i v l s h = next-shaped _ (register-shaped _ _ h)
-shaped (suc (suc (suc (suc (suc (suc (suc (suc (suc zero))))))))) i v l s h = next-shaped _ (held-shaped _ (simp length-set (h .held)) h)
-shaped (suc (suc (suc (suc (suc (suc (suc (suc (suc (suc zero)))))))))) i v l s h = next-shaped _ (held-shaped _ (simp length-set (h .held)) h)
+shaped (suc (suc (suc (suc (suc (suc (suc (suc (suc zero))))))))) i v l s h = next-shaped _ (held-shaped _ (acquire-length (l .held) (i .a) ∙ h .held) h)
+shaped (suc (suc (suc (suc (suc (suc (suc (suc (suc (suc zero)))))))))) i v l s h = next-shaped _ (held-shaped _ (release-length (l .held) (i .a) ∙ h .held) h)
 shaped (suc (suc (suc (suc (suc (suc (suc (suc (suc (suc (suc zero))))))))))) i v l s h = next-shaped _ h
-shaped (suc (suc (suc (suc (suc (suc (suc (suc (suc (suc (suc (suc o)))))))))))) i v l s h = next-shaped _ (held-shaped _ refl h)
+shaped (suc (suc (suc (suc (suc (suc (suc (suc (suc (suc (suc (suc o)))))))))))) i v l s h = next-shaped _ (held-shaped _ none-length h)
 
 pub perform-shaped : (i : Instruction) (v : ℕ) (l : Local) (s : Store) → LocalShaped l s
     → LocalShaped (perform i v l s .local) (perform i v l s .store)

@@ -14,6 +14,7 @@ use lib.Dec.{eqb}
 use Rattle.notation.specs.Lists.{upTo, bytesAt}
 use Rattle.order.specs.declared.Frame.{Frame}
 use Rattle.snapshots.specs.Code.Snapshots.{Snapshot}
+use Rattle.snapshots.specs.Code.SnapshotWithin.{AllWithin}
 
 -- where the bytes of the active job at position k start
 unfoldable pub frameAt : ℕ → ℕ
@@ -45,10 +46,11 @@ snapshotIn bytes =
       stack = map (frameIn bytes) (upTo 8);
     }
 
--- the array is whole, and at most eight jobs are active
+-- the array is whole, at most eight jobs are active, and none holds more than it can by its position
 pub record IsState (bytes : List ℕ) : Type 0 where
   pub whole : length bytes ≡ 192
   pub few : getD bytes 48 0 ≤ 8
+  pub within : AllWithin (snapshotIn bytes)
 
 -- the bytes from a on were replaced by new ones, and no others
 pub record Replaced (before after : List ℕ) (a : ℕ) (new : List ℕ) : Type 0 where

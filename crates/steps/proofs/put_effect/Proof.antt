@@ -58,7 +58,7 @@ element-write-s-3 c = search needs
 returns : tie.Need-returns
 returns c =
     let start = c .before .before .before .before .before .before .before in
-    effect-ended-written (start .pre .0 .whole) (marked (c .before)) _ (start .pre .2) (c .if2 .taken)
+    effect-ended-written (start .pre .0) (start .pre .4) (marked (c .before)) _ (start .pre .2) (c .if2 .taken)
 
 add-s-4 : tie.Need-add-s-4
 add-s-4 c = search needs
@@ -74,7 +74,7 @@ put-frame-requires c κs =
 returns-2 : tie.Need-returns-2
 returns-2 c =
     let start = c .before .before .before .before .before .before .before .before .before in
-    effect-goes-on (start .pre .0 .whole) (marked (c .before .before .before)) _ (start .pre .2) (c .before .before .if2 .left) _ (c .put-frame .ensures)
+    effect-goes-on (start .pre .0) (start .pre .4) (marked (c .before .before .before)) _ (start .pre .2) (c .before .before .if2 .left) _ (c .put-frame .ensures)
 
 pub put-effect-spec : {M : Type 1} → statement M
 put-effect-spec =

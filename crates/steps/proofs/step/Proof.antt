@@ -3,6 +3,7 @@
 -- Assumes nothing.
 use borrow.Author.Tests.{not-false}
 use borrow.Author.Needs.{needs}
+use Rattle.snapshots.specs.Laws.SnapshotWithinLaws.{due-within}
 use Rattle.snapshots.specs.Laws.StepPartLaws.{offered-found}
 use Rattle.steps.specs.Laws.StepCases.{task-small, step-nobody, step-refused, step-made}
 use Rattle.steps.proofs.step.Statement.{statement}
@@ -36,7 +37,8 @@ step-with-requires c κs =
     let bounds = turned .turn-of .ensures .1 (not-false _ (due .if1 .left)) in
     let inside = offered-found _ _ _ _ (offer .offered .ensures) (c .before .if2 .left) in
     let task = task-small _ _ _ _ _ (turned .turn-of .ensures .0) (start .pre .1) (due .if1 .left) in
-    (start .pre .1, bounds .1, inside, bounds .0, task)
+    let own = due-within _ _ _ _ _ (start .pre .1 .within) (turned .turn-of .ensures .0) in
+    ((bounds .1, inside, bounds .0, task), (start .pre .1, own))
 
 returns-3 : tie.Need-returns-3
 returns-3 c =

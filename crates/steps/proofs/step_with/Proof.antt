@@ -2,6 +2,7 @@
 -- state's store.
 -- Assumes nothing.
 use borrow.Author.Needs.{needs}
+use Rattle.machine.specs.Laws.WithinLaws.{perform-within}
 use Rattle.steps.specs.Laws.StepCases.{made-so}
 use Rattle.steps.proofs.step_with.Statement.{statement}
 use Rattle.steps.proofs.step_with.Tie as tie
@@ -37,7 +38,11 @@ perform-instruction-requires : tie.Need-perform-instruction-requires
 perform-instruction-requires c κs = search needs
 
 put-effect-requires : tie.Need-put-effect-requires
-put-effect-requires c κs = search needs
+put-effect-requires c κs =
+    let performed = c .before .before in
+    let start = performed .before .before .before .before .before .before .before .before .before .before .before in
+    let own = perform-within _ _ _ _ (start .pre .1 .1) in
+    (start .pre .1 .0, start .pre .0 .0, start .pre .0 .2, start .pre .0 .3, rw (performed .perform-instruction .ensures) own)
 
 returns : tie.Need-returns
 returns c =

@@ -1,6 +1,6 @@
 -- Laws of the writes that an effect makes in a state's bytes: they hold the snapshot after it.
 -- Assumes nothing.
-use mathlib.Core.Path.{_≡_, refl, ap, _∙_}
+use mathlib.Core.Path.{_≡_, refl, sym, ap, subst, _∙_}
 use mathlib.Core.Logic.{_⊎_, inl, inr}
 use Prim.Native.Nat.{ℕ, _+_, _≤_, _<_}
 use native.Mathlib.Decide.{decLt}
@@ -14,7 +14,10 @@ use Rattle.notation.specs.Lists.{if_then_else_, upTo, bytesAt}
 use Rattle.timing.specs.declared.Job.{Job}
 use Rattle.machine.specs.declared.Effect.{Effect}
 use Rattle.machine.specs.Ends.{flagged}
+use Rattle.machine.specs.Code.Within.{LocksWithin}
 use Rattle.snapshots.specs.Code.SnapshotSteps.{afterIn}
+use Rattle.snapshots.specs.Code.SnapshotWithin.{AllWithin}
+use Rattle.snapshots.specs.Laws.SnapshotWithinLaws.{after-within}
 use Rattle.states.specs.Code.StateBytes.{frameAt, frameIn, flagIn, snapshotIn, IsState, Replaced, FrameReplaced}
 use Rattle.states.specs.Laws.StateWrites.{bytes-new, bytes-same, bytes-set}
 use Rattle.notation.specs.Laws.TabulateLaws.{same-values, set-values}
@@ -83,8 +86,8 @@ module _ (before stored : List ℕ) (x i : ℕ) (effect : Effect) (whole : lengt
 
 -- ---- and then the active jobs
 
-module _ {before noted : List ℕ} {x : Job} {i : ℕ} {effect : Effect} (whole : length before ≡ 192) (n : Noted before noted (x .0) i effect)
-    (under : ℕ) (few : under < 8) where
+module _ {before noted : List ℕ} {x : Job} {i : ℕ} {effect : Effect} (state : IsState before)
+    (own : LocksWithin (effect .local)) (n : Noted before noted (x .0) i effect) (under : ℕ) (few : under < 8) where
   -- the bytes below 48 kept, the rest as it should be
   made : (after : List ℕ) → ((k : ℕ) → k < 48 → getD after k 0 ≡ getD noted k 0)
       → getD after 48 0 ≡ (if effect .ended then under else under + 1)
@@ -103,39 +106,50 @@ module _ {before noted : List ℕ} {x : Job} {i : ℕ} {effect : Effect} (whole 
         stack = stack t;
       }
 
+  -- these bytes are a state then
+  made-state : (after : List ℕ) → length after ≡ length noted → getD after 48 0 ≤ 8
+      → snapshotIn after ≡ afterIn (snapshotIn before) x under i effect
+      → (snapshotIn after ≡ afterIn (snapshotIn before) x under i effect) × IsState after
+  made-state after same deep is = (
+    is,
+    record {
+      whole = same ∙ n .same ∙ state .whole;
+      few = deep;
+      within = subst AllWithin (sym is) (after-within (state .within) x under i effect own);
+    },
+  )
+
   -- the job has ended
   pub effect-ended-written : effect .ended ≡ true
       → (snapshotIn (set noted 48 under) ≡ afterIn (snapshotIn before) x under i effect) × IsState (set noted 48 under)
   unfolding frameAt if_then_else_
-  effect-ended-written ended = (
-    made (set noted 48 under) (λ k lt. getD-set-other noted 48 k under 0 (λ e. omega arith)) (depth ∙ rw ended refl)
-        (same-values (frameIn (set noted 48 under)) (frameIn before) 8 (λ k lt. frame-same before (set noted 48 under) k
-        (λ j low high. getD-set-other noted 48 j under 0 (λ e. omega arith) ∙ n .rest j (omega arith)))
-        ∙ rw ended refl),
-    record { whole = length-set noted 48 under ∙ n .same ∙ whole; few = omega (arith, depth) },
-  )
+  effect-ended-written ended =
+      made-state (set noted 48 under) (length-set noted 48 under) (omega (arith, depth))
+      (made (set noted 48 under) (λ k lt. getD-set-other noted 48 k under 0 (λ e. omega arith)) (depth ∙ rw ended refl)
+      (same-values (frameIn (set noted 48 under)) (frameIn before) 8 (λ k lt. frame-same before (set noted 48 under) k
+      (λ j low high. getD-set-other noted 48 j under 0 (λ e. omega arith) ∙ n .rest j (omega arith)))
+      ∙ rw ended refl))
     where
       depth : getD (set noted 48 under) 48 0 ≡ under
-      depth = getD-set-same noted 48 under 0 (omega (arith, n .same))
+      depth = getD-set-same noted 48 under 0 (omega (arith, n .same, state .whole))
 
   -- it goes on
   pub effect-goes-on : effect .ended ≡ false → (after : List ℕ)
       → FrameReplaced (set noted 48 (under + 1)) after under (record { job = x; local = effect .local })
       → (snapshotIn after ≡ afterIn (snapshotIn before) x under i effect) × IsState after
   unfolding frameAt if_then_else_
-  effect-goes-on goes after placed = (
-    made after
-        (λ k lt. placed .outside k (inl (omega arith)) ∙ getD-set-other noted 48 k (under + 1) 0 (λ e. omega arith))
-        (depth ∙ rw goes refl)
-        (set-values (frameIn after) (frameIn before) 8 under (record { job = x; local = effect .local }) (placed .inside)
-        (λ k lt apart. frame-same before after k
-        (λ j low high. placed .outside j (away k j apart low high) ∙ getD-set-other noted 48 j (under + 1) 0 (λ e. omega arith) ∙ n .rest j (omega arith)))
-        ∙ rw goes refl),
-    record { whole = placed .same ∙ length-set noted 48 (under + 1) ∙ n .same ∙ whole; few = omega (arith, depth) },
-  )
+  effect-goes-on goes after placed =
+      made-state after (placed .same ∙ length-set noted 48 (under + 1)) (omega (arith, depth))
+      (made after
+      (λ k lt. placed .outside k (inl (omega arith)) ∙ getD-set-other noted 48 k (under + 1) 0 (λ e. omega arith))
+      (depth ∙ rw goes refl)
+      (set-values (frameIn after) (frameIn before) 8 under (record { job = x; local = effect .local }) (placed .inside)
+      (λ k lt apart. frame-same before after k
+      (λ j low high. placed .outside j (away k j apart low high) ∙ getD-set-other noted 48 j (under + 1) 0 (λ e. omega arith) ∙ n .rest j (omega arith)))
+      ∙ rw goes refl))
     where
       depth : getD after 48 0 ≡ under + 1
-      depth = placed .outside 48 (inl (omega arith)) ∙ getD-set-same noted 48 (under + 1) 0 (omega (arith, n .same))
+      depth = placed .outside 48 (inl (omega arith)) ∙ getD-set-same noted 48 (under + 1) 0 (omega (arith, n .same, state .whole))
 
       away : (k j : ℕ) → (k ≡ under → ⊥) → frameAt k ≤ j → j < frameAt k + 16
           → (j < frameAt under) ⊎ (frameAt under + 16 ≤ j)

@@ -4,6 +4,7 @@ use mathlib.Core.Path.{ap, _∙_}
 use lib.ListN.{length}
 use borrow.Author.Needs.{needs}
 use borrow.Author.Tests.{not-false}
+use Rattle.snapshots.specs.Laws.SnapshotWithinLaws.{due-within}
 use Rattle.steps.specs.Laws.StepCases.{task-small}
 use Rattle.tracing.specs.Laws.NotingLaws.{noting-idle, noting-beyond, noting-ends, noting-goes, noted-whole, guess-room, eight-bytes}
 use Rattle.tracing.proofs.trace_step.Statement.{statement}
@@ -33,7 +34,8 @@ step-with-requires c κs =
     let start = turned .before .before .pre in
     let bounds = turned .turn-of .ensures .1 (not-false _ (free .if1 .left)) in
     let task = task-small _ _ _ _ _ (turned .turn-of .ensures .0) (start .1 .isState) (free .if1 .left) in
-    (start .1 .isState, bounds .1, c .before .before .if2 .left, bounds .0, task)
+    let own = due-within _ _ _ _ _ (start .1 .isState .within) (turned .turn-of .ensures .0) in
+    ((bounds .1, c .before .before .if2 .left, bounds .0, task), (start .1 .isState, own))
 
 note-step-requires : tie.Need-note-step-requires
 note-step-requires c κs =

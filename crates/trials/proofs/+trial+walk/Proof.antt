@@ -88,8 +88,8 @@ trial-step-with-requires t c κs =
     let head = c .before .before .before .before .before .before .before .before .before in
     let start = head .before .before .before .before in
     let lt = c .before .before .before .before .before .before .before .if1 .taken in
-    let bounds = move-bounds (head .loop .inv .next) lt (start .pre .1 .1 .few) in
-    (start .pre .1 .1, bounds .1, bounds .2, bounds .0, omega arith)
+    let bounds = move-bounds (head .loop .inv .next) lt (start .pre .1 .1 .few) (start .pre .1 .1 .within) in
+    ((bounds .1, bounds .2, bounds .0, omega arith), (start .pre .1 .1, bounds .3))
 
 trial-add-walk : (t : ℕ) → trial-lts.Need-add-walk (trial-claims t) (trial-at t) trial.Post trial-Inv-loop trial-μ-loop
 trial-add-walk t c = omega (arith, c .before .before .before .before .before .before .before .before .if2 .left, c .before .before .before .before .before .before .before .before .before .before .before .before .before .before .before .fits .allowance)

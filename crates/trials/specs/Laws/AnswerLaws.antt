@@ -12,6 +12,9 @@ use Rattle.notation.specs.Lists.{if_then_else_, any}
 use Rattle.snapshots.specs.Code.Snapshots.{Snapshot, Stepped}
 use Rattle.order.specs.Orders.{step}
 use Rattle.snapshots.specs.Code.SnapshotSteps.{finishedIn, stepIn, madeIn}
+use Rattle.machine.specs.Code.Within.{LocksWithin}
+use Rattle.snapshots.specs.Code.SnapshotWithin.{AllWithin}
+use Rattle.snapshots.specs.Laws.SnapshotWithinLaws.{due-within}
 use Rattle.snapshots.specs.Laws.TurnLaws.{due-bounds, step-due}
 use Rattle.snapshots.specs.Laws.StepPartLaws.{offered-inside, with-offered}
 use Rattle.moves.specs.declared.Candidate.{Candidate}
@@ -33,13 +36,19 @@ move-made {program} {times} {locks} {p} {m = m} next lt =
     (sym (step-due program times locks p (m .byte) (next .turn lt) (ap not (next .due lt))
     (sym (with-offered program p (m .turn .frame) (m .turn .under) (m .byte / 16) (m .byte % 16) (next .offered lt)))))
 
--- whose turn it is has a number below 32, at most seven active jobs under it, and an instruction to run
+-- whose turn it is has a number below 32, at most seven active jobs under it, an instruction to run, and holds no more
+-- than it can by then
 pub move-bounds : {program times : List ℕ} {locks : Ceilings} {p : Snapshot} {byte : ℕ} {m : Candidate}
-    → NextStep program times locks p byte m → m .byte < 128 → p .depth ≤ 8
+    → NextStep program times locks p byte m → m .byte < 128 → p .depth ≤ 8 → AllWithin p
     → (m .turn .under < 8) × (m .turn .frame .job .0 < 32) × (m .turn .frame .local .next < 16)
-move-bounds {program} {times} {locks} {p} {m = m} next lt le =
-    let bounds = due-bounds program times locks p (m .byte / 16) (next .turn lt) le (next .due lt) in
-    (bounds .0, bounds .1, offered-inside program (m .turn .frame) (m .byte / 16) (m .byte % 16) (next .offered lt))
+    × LocksWithin (m .turn .frame .local)
+move-bounds {program} {times} {locks} {p} {m = m} next lt le all =
+    let bounds = due-bounds program times locks p (m .byte / 16) (next .turn lt) le (next .due lt) in (
+      bounds .0,
+      bounds .1,
+      offered-inside program (m .turn .frame) (m .byte / 16) (m .byte % 16) (next .offered lt),
+      due-within program times locks p (m .byte / 16) all (next .turn lt),
+    )
 
 module _ {program times : List ℕ} {locks : Ceilings} {p : Snapshot} {left count allowance made : ℕ} {m : Candidate} {before now : List ℕ} (few : left < 512)
     (trying : Trying program times locks p left count made allowance m before now) where
