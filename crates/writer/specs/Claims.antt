@@ -32,12 +32,16 @@ claimedCeilings t = claimed (t .locks) (t .ceilings) 0
 unfoldable pub recordTotal : List TaskEntry → ℕ
 recordTotal tasks = sum (map (λ e. suc (length (claimedBody e))) tasks)
 
+-- the index of the first lock
+unfoldable pub locksAt : Table → ℕ
+locksAt t = suc (recordTotal (claimedTasks t))
+
 -- "at the index the record would have had": the header, then each task followed by its body, then the locks
 unfoldable pub indexOf : Table → Site → ℕ
 indexOf t AtHeader = 0
 indexOf t (AtTask i) = suc (recordTotal (take (i .0) (claimedTasks t)))
 indexOf t (AtInstruction i p) = suc (suc (recordTotal (take (i .0) (claimedTasks t))) + p)
-indexOf t (AtLock l) = suc (recordTotal (claimedTasks t)) + l
+indexOf t (AtLock l) = locksAt t + l
 
 -- The table with what stands past its counts made blank, as the reader leaves it: that is no part of the table.
 unfoldable pub coveredEntry : TaskEntry → TaskEntry

@@ -9,7 +9,7 @@ use Rattle.taskfile.specs.declared.Instruction.{Instruction}
 use Rattle.taskfile.specs.declared.Table.{Table}
 use Rattle.taskfile.specs.declared.TaskEntry.{TaskEntry}
 use Rattle.taskfile.specs.Records.{File}
-use Rattle.writer.specs.Claims.{claimedTasks, claimedBody, claimedCeilings, recordTotal}
+use Rattle.writer.specs.Claims.{claimedTasks, claimedBody, claimedCeilings, locksAt}
 
 -- "Wide fields are unsigned 32-bit, low byte first."
 unfoldable pub wideBytes : ℕ → List ℕ
@@ -59,10 +59,6 @@ lockRecords r (ceiling ∷ others) = lockRecord ceiling (linkTo (suc r) others) 
 -- 8-15 the initial values of shared variables 0 to 7."
 unfoldable pub headerRecord : Table → ℕ → ℕ → List ℕ
 headerRecord t firstTask firstLock = 1 ∷ 0 ∷ firstTask ∷ firstLock ∷ wideBytes (t .window) ++ t .store
-
--- the index of the first lock
-unfoldable pub locksAt : Table → ℕ
-locksAt t = suc (recordTotal (claimedTasks t))
 
 -- "header, each task followed by its body, then locks"
 unfoldable pub layout : Table → File

@@ -9,9 +9,9 @@ use lib.ListN.{length, drop, drop-of-length-le}
 use Rattle.taskfile.specs.declared.Instruction.{Instruction}
 use Rattle.taskfile.specs.declared.Table.{Table}
 use Rattle.taskfile.specs.declared.TaskEntry.{TaskEntry}
-use Rattle.writer.specs.Claims.{claimedTasks, claimedBody, claimedCeilings, recordTotal}
+use Rattle.writer.specs.Claims.{claimedTasks, claimedBody, claimedCeilings, recordTotal, locksAt}
 use Rattle.writer.specs.Layout.{linkTo, instructionRecord, bodyRecords, taskRecord, afterTask, taskRecords}
-use Rattle.writer.specs.Layout.{lockRecord, lockRecords, headerRecord, locksAt, layout}
+use Rattle.writer.specs.Layout.{lockRecord, lockRecords, headerRecord, layout}
 use Rattle.writing.specs.Laws.WritingLaws.{appends-none, appends-more, appends-length}
 use Rattle.record_bytes.specs.Laws.RecordBytes.{Lays, lays-same}
 use Rattle.claimed_parts.specs.Code.ClaimedParts.{linkAt}

@@ -25,10 +25,10 @@ use Rattle.taskfile.specs.File.{sized}
 use Rattle.taskfile.specs.Laws.CheckSteps.{noneOf-upTo-none}
 use Rattle.taskfile.specs.Records.{records, windowInRange}
 use Rattle.taskfile.specs.Tables.{endInstruction, noTask}
-use Rattle.writer.specs.Claims.{claimed, claimedTasks, claimedBody, claimedCeilings, recordTotal, indexOf}
+use Rattle.writer.specs.Claims.{claimed, claimedTasks, claimedBody, claimedCeilings, recordTotal, indexOf, locksAt}
 use Rattle.writer.specs.Claims.{FitsEntry, Fits}
 use Rattle.writer.specs.Fields.{taskFields, lockFields, fields}
-use Rattle.writer.specs.Layout.{linkTo, afterTask, headerRecord, taskRecords, lockRecords, locksAt, layout}
+use Rattle.writer.specs.Layout.{linkTo, afterTask, headerRecord, taskRecords, lockRecords, layout}
 use Rattle.writer.specs.Laws.ClaimLaws.{claimed-most}
 use Rattle.writer.specs.Laws.Laid.{laidTask, laidTasks, laidChains}
 use Rattle.writer.specs.Laws.LaidListLaws.{Below, recordOf-laid}

@@ -20,9 +20,9 @@ use Rattle.taskfile.specs.Chains.{TaskChain}
 use Rattle.taskfile.specs.File.{recordAt}
 use Rattle.taskfile.specs.Laws.ChainLaws.{InTable}
 use Rattle.taskfile.specs.Tables.{tasksOf, taskOf, bodyOf, ceilingsOf, noTask}
-use Rattle.writer.specs.Claims.{claimedTasks, claimedBody, claimedCeilings, recordTotal, indexOf, coveredEntry, covered, FitsEntry, Fits}
+use Rattle.writer.specs.Claims.{claimedTasks, claimedBody, claimedCeilings, recordTotal, indexOf, coveredEntry, covered, FitsEntry, Fits, locksAt}
 use Rattle.writer.specs.Fields.{fields}
-use Rattle.writer.specs.Layout.{afterTask, locksAt}
+use Rattle.writer.specs.Layout.{afterTask}
 use Rattle.writer.specs.Laws.CheckedTableLaws.{tasks-fit, body-claimed, fields-within, tasks-claimed, ceilings-claimed}
 use Rattle.writer.specs.Laws.CoveredLaws.{body-covered, tasks-covered, ceilings-covered, task-covered}
 use Rattle.writer.specs.Laws.Laid.{laidTask, laidTasks, laidChains}

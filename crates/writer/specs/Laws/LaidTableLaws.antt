@@ -16,10 +16,10 @@ use Rattle.taskfile.specs.declared.TaskEntry.{TaskEntry}
 use Rattle.taskfile.specs.Chains.{mostTasks, mostLocks, mostInstructions}
 use Rattle.taskfile.specs.Records.{File, byteAt, instructionAt}
 use Rattle.taskfile.specs.Tables.{tasksOf, endInstruction, noTask, entryAt, tableAt}
-use Rattle.writer.specs.Claims.{claimedTasks, claimedBody, claimedCeilings, coveredEntry, covered, FitsEntry, Fits}
+use Rattle.writer.specs.Claims.{claimedTasks, claimedBody, claimedCeilings, coveredEntry, covered, FitsEntry, Fits, locksAt}
 use Rattle.writer.specs.Fields.{fields}
 use Rattle.writer.specs.Layout.{wideBytes, linkTo, instructionRecord, bodyRecords, taskRecord, afterTask, taskRecords}
-use Rattle.writer.specs.Layout.{lockRecord, lockRecords, headerRecord, locksAt, layout}
+use Rattle.writer.specs.Layout.{lockRecord, lockRecords, headerRecord, layout}
 use Rattle.writer.specs.Laws.CheckedTableLaws.{tasks-fit, body-claimed, fields-within, tasks-claimed, ceilings-claimed}
 use Rattle.writer.specs.Laws.ClaimLaws.{claimed-length}
 use Rattle.writer.specs.Laws.Laid.{laidTask, laidTasks, laidChains}

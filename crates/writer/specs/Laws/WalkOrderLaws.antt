@@ -14,12 +14,12 @@ use Rattle.taskfile.specs.declared.Kind.the-variants.{LockRecord, InstructionRe
 use Rattle.taskfile.specs.Chains.{Chains, TaskChain, recordsOf, reachedBy, chainsOf}
 use Rattle.taskfile.specs.Records.{File, byteAt, next, instructionAt}
 use Rattle.taskfile.specs.Tables.{entryAt, tableAt}
-use Rattle.writer.specs.Claims.{claimedTasks, claimedBody, claimedCeilings, recordTotal}
+use Rattle.writer.specs.Claims.{claimedTasks, claimedBody, claimedCeilings, recordTotal, locksAt}
 use Rattle.writer.specs.Laws.ChainRecords.{LedChain, LedTasks, chains-led}
 use Rattle.writer.specs.Laws.ClaimLaws.{body-spelled, tasks-spelled, ceilings-spelled}
 use Rattle.writer.specs.Laws.MovedRecords.{lock-moved, instruction-moved, task-moved, header-moved}
 use Rattle.writer.specs.Laws.PositionLaws.{StandFrom, new-stand, stand-first, stand-second}
-use Rattle.writer.specs.Layout.{linkTo, instructionRecord, bodyRecords, taskRecord, afterTask, taskRecords, lockRecord, lockRecords, headerRecord, locksAt, layout}
+use Rattle.writer.specs.Layout.{linkTo, instructionRecord, bodyRecords, taskRecord, afterTask, taskRecords, lockRecord, lockRecords, headerRecord, layout}
 use Rattle.writer.specs.WalkOrder.{positionOf, movedRecord, inWalkOrder}
 
 -- ---- chains of one kind, laid out from index n on

@@ -11,10 +11,10 @@ use Rattle.taskfile.specs.declared.Table.{Table}
 use Rattle.taskfile.specs.declared.TaskEntry.{TaskEntry}
 use Rattle.taskfile.specs.Records.{tidyInstruction, instructionInRange, usesOf, operationUses, tidyField, fieldInRange}
 use Rattle.taskfile.specs.Tables.{endInstruction, noTask}
-use Rattle.writer.specs.Claims.{claimed, claimedTasks, claimedBody, claimedCeilings, recordTotal, indexOf}
+use Rattle.writer.specs.Claims.{claimed, claimedTasks, claimedBody, claimedCeilings, recordTotal, indexOf, locksAt}
 use Rattle.writer.specs.Fields.{bodyFields, taskFields, fields}
 use Rattle.writer.specs.Layout.{wideBytes, linkTo, instructionRecord, bodyRecords, taskRecord, afterTask, taskRecords}
-use Rattle.writer.specs.Layout.{lockRecord, lockRecords, headerRecord, locksAt, layout}
+use Rattle.writer.specs.Layout.{lockRecord, lockRecords, headerRecord, layout}
 
 -- Set register 0 to 1
 abbrev pub setInstruction : Instruction
