@@ -1,4 +1,4 @@
-// A job's held locks, one number for each lock. No other file looks at the numbers.
+// A job's held locks, a count for each lock. No other file looks at the counts.
 use taskfile::limits::LOCKS;
 use taskfile::limits::MOST_LOCKS;
 ghost use mathlib.Core.Path.{_≡_};
@@ -22,25 +22,30 @@ pub fn holds_lock(held: [u8; LOCKS], lock: u8) -> bool
     0 < held[lock as usize]
 }
 
-// The held locks and this one. A number that is no lock's changes nothing.
+// The held locks and this one, once more if it is held. A number that is no lock's changes nothing. A job that may
+// still acquire has come to its sixteenth instruction at most, so no count leaves its byte.
 pub fn acquire_lock(held: [u8; LOCKS], lock: u8) -> [u8; LOCKS]
     requires { ⌜ Within 15 held ⌝ }
     ensures { λ r. ⌜ r ≡ acquire held lock ⌝ }
 {
     let mut more = held;
     if lock < MOST_LOCKS {
-        more[lock as usize] = 1;
+        let count = held[lock as usize];
+        more[lock as usize] = count + 1;
     }
     more
 }
 
-// The held locks without this one.
+// The held locks and this one once less, if it is held.
 pub fn release_lock(held: [u8; LOCKS], lock: u8) -> [u8; LOCKS]
     ensures { λ r. ⌜ r ≡ release held lock ⌝ }
 {
     let mut kept = held;
     if lock < MOST_LOCKS {
-        kept[lock as usize] = 0;
+        let count = held[lock as usize];
+        if 0 < count {
+            kept[lock as usize] = count - 1;
+        }
     }
     kept
 }

@@ -38,7 +38,8 @@ struct Frame {
     job: u8,
     next: u16,
     registers: [u8; 4],
-    held: [bool; 8],
+    /// How many times it holds each lock; at most once for each instruction of a body.
+    held: [u8; 8],
 }
 
 /// A state of an order: the first `depth` frames are the active jobs, and `upcoming` has each
@@ -122,7 +123,7 @@ impl Lent {
     fn priority(&self, frame: &Frame) -> u8 {
         let mut highest = self.owners[frame.job as usize];
         for lock in 0..self.locks {
-            if frame.held[lock] && highest < self.ceilings[lock] {
+            if frame.held[lock] > 0 && highest < self.ceilings[lock] {
                 highest = self.ceilings[lock];
             }
         }
@@ -202,10 +203,10 @@ impl State {
             7 if registers[first] == registers[second] => frame.next += u16::from(c),
             6 | 7 => {}
             PICK => registers[first] = value,
-            9 => frame.held[first] = true,
-            10 => frame.held[first] = false,
+            9 => frame.held[first] += 1,
+            10 if frame.held[first] > 0 => frame.held[first] -= 1,
             11 if registers[first] == 0 => self.failed[frame.job as usize] = true,
-            11 => {}
+            10 | 11 => {}
             _ => ended = true,
         }
         self.upcoming[task] = frame.job + 1;

@@ -5,6 +5,7 @@ use crate::cases::{edited, full_table, rates, table_x, tasks};
 use generator::{code, random_table, Random, Sizes, TableDescription};
 
 /// A family of tables: its seed, how many there are, and how one is made.
+#[derive(Debug, Clone, Copy)]
 pub struct Family {
     pub name: &'static str,
     pub seed: u64,

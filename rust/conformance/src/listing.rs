@@ -1,10 +1,14 @@
 //! Listings of every complete order and every legal plan of a small table.
 
-use interpreter::machine::{largest_value, perform, Instruction, Local, Store};
+use interpreter::file::MOST_LOCKS;
+use interpreter::machine::{largest_value, perform, Instruction, Local, LockCounts, Store};
 use interpreter::order::{Ending, State};
 use interpreter::timing::Accepted;
 use interpreter::{plan, JobNumber};
 use std::collections::BTreeMap;
+
+/// The counts of a job that holds no lock.
+const NONE_HELD: LockCounts = [0; MOST_LOCKS];
 
 /// All complete orders, found by trying all 256 bytes at each state.
 #[derive(Debug, Default)]
@@ -75,7 +79,7 @@ fn note_step(
     found: &mut Orders,
 ) {
     let starts = state.locals[job.0].is_none();
-    let holds = |x: &JobNumber| state.locals[x.0].is_some_and(|local| local.held.contains(&true));
+    let holds = |x: &JobNumber| state.locals[x.0].is_some_and(|local| local.held != NONE_HELD);
     found.preemptions += u64::from(starts && !state.active.is_empty());
     found.preemptions_of_two += u64::from(starts && state.active.len() >= 2);
     found.preemptions_under_lock += u64::from(starts && state.active.iter().any(holds));
@@ -91,7 +95,7 @@ fn note_step(
 /// Counts a state in which a job would start if no active job held a lock.
 fn note_held_back(accepted: &Accepted, state: &State, found: &mut Orders) {
     let mut without_locks = state.clone();
-    without_locks.locals.iter_mut().flatten().for_each(|local| local.held = [false; 8]);
+    without_locks.locals.iter_mut().flatten().for_each(|local| local.held = NONE_HELD);
     let kept_back = |job: JobNumber| {
         !state.may_start(accepted, job) && without_locks.may_start(accepted, job)
     };

@@ -16,11 +16,28 @@ pub fn state_after(accepted: &Accepted, steps: &[u8]) -> State {
 
 /// A complete order: at each state one of the tasks that may move, and of its moves one, at random.
 pub fn random_order(random: &mut Random, accepted: &Accepted) -> Vec<u8> {
+    order_by(random, accepted, random_move, |_| {})
+}
+
+/// A complete order in which starts come late, so that they meet what a job does in its midst. What
+/// each step left is changed after it, which makes it an order by other rules.
+pub fn late_order(random: &mut Random, accepted: &Accepted, after_step: fn(&mut State)) -> Vec<u8> {
+    order_by(random, accepted, late_move, after_step)
+}
+
+/// An order of chosen moves.
+fn order_by(
+    random: &mut Random,
+    accepted: &Accepted,
+    choose: fn(&mut Random, &[u8]) -> u8,
+    after_step: fn(&mut State),
+) -> Vec<u8> {
     let mut state = State::first(accepted);
     let mut order = Vec::new();
     while !state.all_ended() {
-        let byte = random_move(random, &moves(accepted, &state));
+        let byte = choose(random, &moves(accepted, &state));
         state.step(accepted, byte).expect("a listed move is an allowed step");
+        after_step(&mut state);
         order.push(byte);
     }
     order
@@ -31,8 +48,22 @@ fn random_move(random: &mut Random, moves: &[u8]) -> u8 {
     let mut tasks: Vec<u8> = moves.iter().map(|byte| byte / 16).collect();
     tasks.dedup();
     let task = tasks[random.index(tasks.len())];
+    move_of(random, moves, task)
+}
+
+/// One of a task's moves.
+fn move_of(random: &mut Random, moves: &[u8], task: u8) -> u8 {
     let of_task: Vec<u8> = moves.iter().copied().filter(|byte| byte / 16 == task).collect();
     of_task[random.index(of_task.len())]
+}
+
+/// Mostly a move of the first task in the list, which is that of the running job, or the lowest if
+/// none runs; else one of all moves.
+fn late_move(random: &mut Random, moves: &[u8]) -> u8 {
+    match random.chance(1, 2) {
+        true => move_of(random, moves, moves[0] / 16),
+        false => random_move(random, moves),
+    }
 }
 
 /// Mostly 0, else any value.
@@ -80,15 +111,23 @@ fn slipped(random: &mut Random, order: &[u8], accepted: &Accepted) -> Option<Vec
     Some(slipped)
 }
 
+/// The order with one byte drawn anew.
+pub fn changed(random: &mut Random, order: &[u8], tasks: usize) -> Vec<u8> {
+    let mut changed = order.to_vec();
+    if !order.is_empty() {
+        let byte = random_byte(random, tasks);
+        changed[random.index(order.len())] = byte;
+    }
+    changed
+}
+
 /// The order cut short, extended, with a byte changed, with a byte removed, and random bytes, of
 /// which some begin as the order does; mostly also the order with a byte that is wrong there.
 pub fn variants(random: &mut Random, order: &[u8], accepted: &Accepted) -> Vec<Vec<u8>> {
     let tasks = accepted.table.tasks.len();
-    let mut changed = order.to_vec();
+    let changed = changed(random, order, tasks);
     let mut shorter = order.to_vec();
     if !order.is_empty() {
-        let byte = random_byte(random, tasks);
-        changed[random.index(order.len())] = byte;
         shorter.remove(random.index(order.len()));
     }
     let extra = [&[random_byte(random, tasks)], &random_steps(random, tasks, 3)[..]].concat();

@@ -15,12 +15,17 @@ pub fn random_plan(random: &mut Random, accepted: &Accepted) -> Vec<u8> {
     conversion::order_to_plan(accepted, &order).expect("the order is complete").0
 }
 
+/// The same table with ceilings that keep no job back.
+pub fn unlocked(accepted: &Accepted) -> Accepted {
+    let mut unlocked = accepted.clone();
+    unlocked.table.ceilings.fill(0);
+    unlocked
+}
+
 /// The plan of a random order that takes no notice of the locks. Where a job starts over a lock
 /// that keeps it back, the plan is wrong by that lock alone.
 pub fn unlocked_plan(random: &mut Random, accepted: &Accepted) -> Vec<u8> {
-    let mut unlocked = accepted.clone();
-    unlocked.table.ceilings.fill(0);
-    random_plan(random, &unlocked)
+    random_plan(random, &unlocked(accepted))
 }
 
 /// A plan with random rounds, which never fall within a job, random values, and all guesses right.
@@ -106,7 +111,7 @@ fn other_byte(random: &mut Random, byte: u8) -> u8 {
 }
 
 /// The plan with one byte of this range changed.
-fn changed(random: &mut Random, plan: &[u8], range: std::ops::Range<usize>) -> Vec<u8> {
+pub fn changed(random: &mut Random, plan: &[u8], range: std::ops::Range<usize>) -> Vec<u8> {
     let mut bytes = plan.to_vec();
     let at = range.start + random.index(range.len());
     bytes[at] = other_byte(random, bytes[at]);

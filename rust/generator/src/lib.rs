@@ -6,9 +6,11 @@ pub mod description;
 pub mod files;
 pub mod hostile;
 pub mod memory;
+pub mod nesting;
 pub mod random;
 pub mod tables;
 
 pub use description::{code, InstructionDescription, TableDescription, TaskDescription};
+pub use nesting::{random_deep_locks, random_nested_locks};
 pub use random::Random;
 pub use tables::{random_nest, random_race, random_table, Sizes};

@@ -1,5 +1,6 @@
-//! The section "Instructions".
+//! The section "Instructions", with the lock counts of document 02, E3.
 
+use crate::file::MOST_LOCKS;
 use crate::numbers::TaskNumber;
 
 /// The shared variables 0 to 7. "Values are bytes."
@@ -97,12 +98,16 @@ pub fn largest_value(instruction: Instruction) -> u8 {
     }
 }
 
+/// 02, E3: "A job shall hold a count per lock". A body has at most 16 instructions and skips go
+/// forward only, so each is performed at most once and a count cannot pass 16.
+pub type LockCounts = [u8; MOST_LOCKS];
+
 /// What one job keeps to itself while it runs.
 /// "A job has registers 0 to 3, zero at its start, and holds no lock then."
 #[derive(Debug, Clone, Copy, PartialEq, Eq, Default)]
 pub struct Local {
     pub registers: [u8; 4],
-    pub held: [bool; 8],
+    pub held: LockCounts,
     /// Position in the body of the instruction to be performed next.
     pub position: usize,
     /// "A failed assertion is noted against its job and the run goes on."
@@ -116,9 +121,9 @@ pub fn perform(local: &mut Local, store: &mut Store, instruction: Instruction, v
     local.position += 1;
     let registers = &mut local.registers;
     match instruction {
-        // "End empties it": the held set.
+        // 02, E3: "and cleared by End."
         Instruction::End => {
-            local.held = [false; 8];
+            local.held = LockCounts::default();
             local.ended = true;
         }
         Instruction::Load { register, variable } => registers[register] = store[variable],
@@ -136,16 +141,19 @@ pub fn perform(local: &mut Local, store: &mut Store, instruction: Instruction, v
             local.position += if registers[left] == registers[right] { count } else { 0 }
         }
         Instruction::Pick { register, .. } => registers[register] = value,
-        // "either changes nothing if the set is already so"
-        Instruction::Acquire { lock } => local.held[lock] = true,
-        Instruction::Release { lock } => local.held[lock] = false,
+        // 02, E3: "up by one at Acquire, down by one at Release, unchanged at zero". So 01's "either
+        // changes nothing if the set is already so" no longer stands for a second Acquire.
+        Instruction::Acquire { lock } => local.held[lock] += 1,
+        Instruction::Release { lock } if local.held[lock] > 0 => local.held[lock] -= 1,
+        Instruction::Release { .. } => {}
         // "Assert, fails if register a is 0."
         Instruction::Assert { register } => local.failed |= registers[register] == 0,
     }
 }
 
-/// "A job's priority is the largest of its base and the ceilings it holds."
-pub fn priority(base: TaskNumber, held: &[bool; 8], ceilings: &[u8]) -> u8 {
-    let of_held = ceilings.iter().zip(held).filter(|(_, held)| **held).map(|(ceiling, _)| *ceiling);
-    of_held.fold(base.0, u8::max)
+/// "A job's priority is the largest of its base and the ceilings it holds." 02, E3: "A ceiling
+/// applies while the count is above zero."
+pub fn priority(base: TaskNumber, held: &LockCounts, ceilings: &[u8]) -> u8 {
+    let applying = ceilings.iter().zip(held).filter(|(_, count)| **count > 0);
+    applying.map(|(ceiling, _)| *ceiling).fold(base.0, u8::max)
 }

@@ -141,7 +141,8 @@ fn leaves_rounds(run: &Run, x: JobNumber, y: JobNumber) -> bool {
 }
 
 /// "and after X's steps up to round start Y its priority is below Y's base." Only a nested pair
-/// has this clause.
+/// has this clause. Priorities are those of the lock counts: "the plan's lock clause reads them"
+/// (02, E3).
 pub fn priority_kept(accepted: &Accepted, run: &Run, x: JobNumber, y: JobNumber) -> bool {
     let mut up_to_start = run.steps[x.0].iter().rev().filter(|step| step.round <= run.start(y));
     let reached = up_to_start.next().map(|step| step.priority);

@@ -31,6 +31,7 @@ pub fn all() -> Vec<Sample> {
     vec![
         Sample { name: "lost-update", table: tables::lost_update() },
         Sample { name: "lost-update-locked", table: tables::lost_update_locked() },
+        Sample { name: "nested-lock", table: tables::nested_lock() },
         Sample { name: "half-changed-lane", table: tables::half_changed_lane() },
         Sample { name: "lane-kept-apart", table: tables::lane_kept_apart() },
         Sample { name: "slow-sorter", table: tables::slow_sorter() },

@@ -31,10 +31,14 @@ const NEVER_SET: u8 = 2;
 const OLD_EXIT: u8 = 1;
 const NEW_EXIT: u8 = 3;
 
+/// Reads how many parcels are on the lane.
+fn read_count() -> Vec<InstructionDescription> {
+    vec![load(COUNT, ON_LANE)]
+}
+
 /// Checks that the lane holds no fewer parcels than were scanned, then counts a parcel in.
-fn scan() -> Vec<InstructionDescription> {
-    vec![
-        load(COUNT, ON_LANE),
+fn scan(read_count: &[InstructionDescription]) -> Vec<InstructionDescription> {
+    let count_in = [
         load(OWN_COUNT, SCANNED),
         skip_if_less(COUNT, OWN_COUNT, 1),
         set(FINE, 1),
@@ -44,12 +48,18 @@ fn scan() -> Vec<InstructionDescription> {
         store(ON_LANE, COUNT),
         add(OWN_COUNT, ONE),
         store(SCANNED, OWN_COUNT),
-    ]
+    ];
+    [read_count, &count_in].concat()
 }
 
 /// Counts a parcel out that leaves the lane.
-fn route() -> Vec<InstructionDescription> {
-    vec![load(COUNT, ON_LANE), set(ONE, 1), subtract(COUNT, ONE), store(ON_LANE, COUNT)]
+fn route(read_count: &[InstructionDescription]) -> Vec<InstructionDescription> {
+    [read_count, &[set(ONE, 1), subtract(COUNT, ONE), store(ON_LANE, COUNT)]].concat()
+}
+
+/// Some steps under the lane's lock.
+fn locked(steps: &[InstructionDescription]) -> Vec<InstructionDescription> {
+    [&[acquire(LANE_LOCK)], steps, &[release(LANE_LOCK)]].concat()
 }
 
 /// A route task below a scan task that comes twice; one parcel is on the lane. The route task may
@@ -69,15 +79,21 @@ fn scan_and_route(
 
 /// The scan task comes between the route task's load and store.
 pub fn lost_update() -> TableDescription {
-    scan_and_route(&route(), &scan())
+    scan_and_route(&route(&read_count()), &scan(&read_count()))
 }
 
 /// The same bodies, each under the lane's lock; its ceiling is the scan task's priority.
 pub fn lost_update_locked() -> TableDescription {
-    let locked = |body: &[InstructionDescription]| {
-        [&[acquire(LANE_LOCK)], body, &[release(LANE_LOCK)]].concat()
-    };
-    let mut table = scan_and_route(&locked(&route()), &locked(&scan()));
+    under_lock(&read_count())
+}
+
+/// The same where both read the count by a helper that takes the lane's lock itself.
+pub fn nested_lock() -> TableDescription {
+    under_lock(&locked(&read_count()))
+}
+
+fn under_lock(read_count: &[InstructionDescription]) -> TableDescription {
+    let mut table = scan_and_route(&locked(&route(read_count)), &locked(&scan(read_count)));
     table.ceilings = vec![1];
     table
 }
@@ -123,7 +139,7 @@ pub fn lane_kept_apart() -> TableDescription {
 
 /// The times of document 01's case P4: the sorter would need 4,500,000,000 ns of its 4,000,000,000.
 pub fn slow_sorter() -> TableDescription {
-    let body = [route(), vec![end()]].concat();
+    let body = [route(&read_count()), vec![end()]].concat();
     let times = [[3_000_000_000, 4_000_000_000, 0], [1_500_000_000, 3_000_000_000, 0]];
     let tasks = times.map(|times| TaskDescription::new(times, &body));
     TableDescription::new(4_000_000_000, tasks.to_vec())

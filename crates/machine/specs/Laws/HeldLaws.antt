@@ -1,4 +1,4 @@
--- Laws of the held locks and of a job's priority, for those who use the names of `Held` and never its numbers.
+-- Laws of the held locks and of a job's priority, for those who use the names of `Held` and never its counts.
 -- Assumes nothing.
 use Prim.Native.Nat.{ℕ, zero, suc, max, _+_, _-_, _≤_, _<_}
 use native.Mathlib.Omega.{arith}
@@ -8,10 +8,11 @@ use mathlib.Core.Path.{_≡_, refl, sym, _∙_}
 use mathlib.Core.Bool.{Bool, true, false}
 use mathlib.Core.List.{List, [], _∷_}
 use lib.ListN.{length, getD, set, take, drop, length-set, length-take, getD-replicate, length-replicate, drop-of-length-le, List·getD-eq-default}
-use lib.Seq.{set-out, getD-set-same, getD-set-other, drop-cons, getD-take}
+use lib.Seq.{getD-set-same, getD-set-other, ext-getD, drop-cons, getD-take}
+use borrow.Author.Tests.{ltb-true, ltb-false, lt-ltb, le-ltb}
 use Rattle.notation.specs.Lists.{if_then_else_}
-use Rattle.notation.specs.Laws.TestLaws.{not-both}
-use Rattle.machine.specs.Held.{Held, noLocks, holds, acquire, release, raised, priority}
+use Rattle.notation.specs.Laws.TestLaws.{not-both, test-decided}
+use Rattle.machine.specs.Held.{Held, countOf, noLocks, holds, acquire, release, raised, priority}
 use Rattle.machine.specs.Code.Within.{Within}
 
 -- ---- how many locks there are
@@ -22,24 +23,110 @@ none-length = length-replicate {A = ℕ} 8 0
 
 pub acquire-length : (held : Held) (lock : ℕ) → length (acquire held lock) ≡ length held
 unfolding acquire
-acquire-length held lock = length-set held lock 1
+acquire-length held lock = length-set held lock (countOf held lock + 1)
 
 pub release-length : (held : Held) (lock : ℕ) → length (release held lock) ≡ length held
-unfolding release
-release-length held lock = length-set held lock 0
+unfolding release if_then_else_
+release-length held lock =
+    elim (test-decided (holds held lock)) [
+      | inl some ↦ rw some (length-set held lock (countOf held lock - 1))
+      | inr none ↦ rw none refl
+    ]
 
--- ---- how much is held
+-- ---- how often each is held
 
-no-number : (lock : ℕ) → getD noLocks lock 0 ≡ 0
+none-count : (lock : ℕ) → countOf noLocks lock ≡ 0
 unfolding noLocks
-no-number lock =
+none-count lock =
     elim (decLe 8 lock) [
       | yes past ↦ List·getD-eq-default noLocks 0 past
       | no below ↦ getD-replicate {A = ℕ} 8 lock 0 0 (omega arith)
     ]
 
+module _ (held : Held) (lock : ℕ) where
+  -- a lock that is held is one of the locks
+  none-past : length held ≤ lock → countOf held lock ≡ 0
+  none-past past = List·getD-eq-default held 0 past
+
+  held-inside : 0 < countOf held lock → lock < length held
+  held-inside some =
+      elim (decLe (length held) lock) [
+        | yes past ↦ absurd (omega (arith, none-past past))
+        | no below ↦ omega arith
+      ]
+
+  pub holds-some : holds held lock ≡ true → 0 < countOf held lock
+  unfolding holds
+  holds-some h = ltb-true 0 (countOf held lock) h
+
+  pub holds-none : holds held lock ≡ false → countOf held lock ≡ 0
+  unfolding holds
+  holds-none h = omega (arith, ltb-false 0 (countOf held lock) h)
+
+  pub some-holds : 0 < countOf held lock → holds held lock ≡ true
+  unfolding holds
+  some-holds some = lt-ltb 0 (countOf held lock) some
+
+  pub none-holds : countOf held lock ≡ 0 → holds held lock ≡ false
+  unfolding holds
+  none-holds none = le-ltb 0 (countOf held lock) (omega arith)
+
+module _ (held : Held) (lock : ℕ) where
+  -- "up by one at Acquire"
+  pub acquire-count : lock < length held → countOf (acquire held lock) lock ≡ countOf held lock + 1
+  unfolding acquire
+  acquire-count b = getD-set-same held lock (countOf held lock + 1) 0 b
+
+  -- "down by one at Release, unchanged at zero"
+  pub release-count : countOf (release held lock) lock ≡ countOf held lock - 1
+  unfolding release if_then_else_
+  release-count =
+      elim (test-decided (holds held lock)) [
+        | inl some ↦
+            let inside = held-inside held lock (holds-some held lock some) in
+            rw some (getD-set-same held lock (countOf held lock - 1) 0 inside)
+        | inr none ↦ rw none (omega (arith, holds-none held lock none))
+      ]
+
+  pub release-some : holds held lock ≡ true → release held lock ≡ set held lock (countOf held lock - 1)
+  unfolding release if_then_else_
+  release-some some = rw some refl
+
+  -- "unchanged at zero"
+  pub release-none : holds held lock ≡ false → release held lock ≡ held
+  unfolding release if_then_else_
+  release-none none = rw none refl
+
+  pub release-past : length held ≤ lock → release held lock ≡ held
+  release-past past = release-none (none-holds held lock (none-past held lock past))
+
+  -- either keeps every other lock as it is
+  pub acquire-count-other : (other : ℕ) → other ≢ lock → countOf (acquire held lock) other ≡ countOf held other
+  unfolding acquire
+  acquire-count-other other apart = getD-set-other held lock other (countOf held lock + 1) 0 apart
+
+  pub release-count-other : (other : ℕ) → other ≢ lock → countOf (release held lock) other ≡ countOf held other
+  unfolding release if_then_else_
+  release-count-other other apart =
+      elim (test-decided (holds held lock)) [
+        | inl some ↦ rw some (getD-set-other held lock other (countOf held lock - 1) 0 apart)
+        | inr none ↦ rw none refl
+      ]
+
+-- a helper that takes a lock and releases it leaves what was held, also if the lock was among it
+pub acquire-release : (held : Held) (lock : ℕ) → lock < length held → release (acquire held lock) lock ≡ held
+acquire-release held lock b =
+    ext-getD 0 (release (acquire held lock) lock) held
+    (release-length (acquire held lock) lock ∙ acquire-length held lock) (λ k inside. same k (ℕ-discrete k lock))
+  where
+    same : (k : ℕ) → Dec (k ≡ lock) → getD (release (acquire held lock) lock) k 0 ≡ getD held k 0
+    same k (yes is) = rw is (omega (arith, release-count (acquire held lock) lock, acquire-count held lock b))
+    same k (no apart) = release-count-other (acquire held lock) lock k apart ∙ acquire-count-other held lock k apart
+
+-- ---- how much is held at most
+
 pub no-locks-within : (n : ℕ) → Within n noLocks
-no-locks-within n = record { most = λ lock. omega (arith, no-number lock) }
+no-locks-within n = record { most = λ lock. omega (arith, none-count lock) }
 
 -- the same of locks that are not there
 pub nothing-within : (n : ℕ) → Within n []
@@ -49,74 +136,56 @@ module _ {n : ℕ} {held : Held} (within : Within n held) where
   pub within-more : (m : ℕ) → n ≤ m → Within m held
   within-more m le = record { most = λ lock. omega (arith, within .most lock) }
 
-  set-within : (lock x : ℕ) → x ≤ n → Within n (set held lock x)
-  set-within lock x le = record { most = λ k. go k (ℕ-discrete k lock) }
+  pub acquire-within : (lock : ℕ) → Within (suc n) (acquire held lock)
+  acquire-within lock = record { most = λ other. go other (ℕ-discrete other lock) (decLe (length held) lock) }
     where
-      go : (k : ℕ) → Dec (k ≡ lock) → getD (set held lock x) k 0 ≤ n
-      go k (no apart) = rw (getD-set-other held lock k x 0 apart) (within .most k)
-      go k (yes same) = elim (decLe (length held) lock) [
-        | yes past ↦ rw (set-out held lock x past) (within .most k)
-        | no below ↦ rw (same, getD-set-same held lock x 0 (omega arith)) le
-      ]
+      go : (other : ℕ) → Dec (other ≡ lock) → Dec (length held ≤ lock) → countOf (acquire held lock) other ≤ suc n
+      go other (no apart) room = omega (arith, acquire-count-other held lock other apart, within .most other)
+      go other (yes same) (no below) = rw same (omega (arith, acquire-count held lock (omega arith), within .most lock))
+      go other (yes same) (yes past) =
+          let beyond = none-past (acquire held lock) lock (omega (arith, acquire-length held lock)) in
+          rw same (omega (arith, beyond))
 
-pub acquire-within : {n : ℕ} {held : Held} → Within n held → (lock : ℕ) → Within (suc n) (acquire held lock)
-unfolding acquire
-acquire-within {n} within lock = set-within (within-more within (suc n) (omega arith)) lock 1 (omega arith)
-
-pub release-within : {n : ℕ} {held : Held} → Within n held → (lock : ℕ) → Within n (release held lock)
-unfolding release
-release-within within lock = set-within within lock 0 (omega arith)
+  pub release-within : (lock : ℕ) → Within n (release held lock)
+  release-within lock = record { most = λ other. go other (ℕ-discrete other lock) }
+    where
+      go : (other : ℕ) → Dec (other ≡ lock) → countOf (release held lock) other ≤ n
+      go other (no apart) = omega (arith, release-count-other held lock other apart, within .most other)
+      go other (yes same) = rw same (omega (arith, release-count held lock, within .most lock))
 
 -- ---- which locks are held
 
 pub none-held : (lock : ℕ) → holds noLocks lock ≡ false
-unfolding holds
-none-held lock = rw (no-number lock)
+none-held lock = none-holds noLocks lock (none-count lock)
 
 module _ (held : Held) (lock : ℕ) where
   pub acquired : lock < length held → holds (acquire held lock) lock ≡ true
-  unfolding holds acquire
-  acquired b = rw (getD-set-same held lock 1 0 b)
+  acquired b = some-holds (acquire held lock) lock (omega (arith, acquire-count held lock b))
 
-  pub released : holds (release held lock) lock ≡ false
-  unfolding holds release
-  released =
-      elim (decLe (length held) lock) [
-        | yes past ↦ rw (set-out held lock 0 past, List·getD-eq-default held 0 past)
-        | no below ↦ rw (getD-set-same held lock 0 0 (omega arith))
-      ]
+  -- the last Release frees the lock, and one before it does not
+  pub released : countOf held lock ≤ 1 → holds (release held lock) lock ≡ false
+  released few = none-holds (release held lock) lock (omega (arith, release-count held lock))
 
-  -- either keeps every other lock as it is
-  pub acquire-other : (other : ℕ) → other ≢ lock → holds (acquire held lock) other ≡ holds held other
-  unfolding holds acquire
-  acquire-other other d = rw (getD-set-other held lock other 1 0 d)
-
-  pub release-other : (other : ℕ) → other ≢ lock → holds (release held lock) other ≡ holds held other
-  unfolding holds release
-  release-other other d = rw (getD-set-other held lock other 0 0 d)
+  pub still-held : 1 < countOf held lock → holds (release held lock) lock ≡ true
+  still-held more = some-holds (release held lock) lock (omega (arith, release-count held lock))
 
   -- what is held stays held where a lock is acquired
-  itself-kept : holds held lock ≡ true → holds (acquire held lock) lock ≡ true
-  unfolding acquire
-  itself-kept h =
-      elim (decLe (length held) lock) [
-        | yes past ↦ rw (set-out held lock 1 past) h
-        | no below ↦ acquired (omega arith)
-      ]
-
   pub acquire-keeps : (other : ℕ) → holds held other ≡ true → holds (acquire held lock) other ≡ true
   acquire-keeps other h =
       elim (ℕ-discrete other lock) [
-        | yes same ↦ rw same (itself-kept (rw same at h))
-        | no apart ↦ acquire-other other apart ∙ h
+        | yes same ↦ rw same (acquired (held-inside held lock (holds-some held lock (rw same at h))))
+        | no apart ↦
+            some-holds (acquire held lock) other
+            (omega (arith, acquire-count-other held lock other apart, holds-some held other h))
       ]
 
   -- what is held after a release was held before
   pub release-takes : (other : ℕ) → holds (release held lock) other ≡ true → holds held other ≡ true
   release-takes other h =
+      let some = holds-some (release held lock) other h in
       elim (ℕ-discrete other lock) [
-        | yes same ↦ absurd (not-both _ h (rw same released))
-        | no apart ↦ sym (release-other other apart) ∙ h
+        | yes same ↦ some-holds held other (rw same (omega (arith, release-count held lock, rw same at some)))
+        | no apart ↦ some-holds held other (omega (arith, release-count-other held lock other apart))
       ]
 
 -- ---- the priority, for locks from one on

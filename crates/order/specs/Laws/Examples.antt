@@ -3,12 +3,12 @@
 use mathlib.Core.Path.{_≡_, refl}
 use Prim.Native.Nat.{ℕ}
 use mathlib.Core.List.{List, [], _∷_, _++_}
-use lib.ListN.{take}
+use lib.ListN.{take, replicate}
 use Rattle.notation.specs.Checked.{Checked, refused, passed}
 use Rattle.machine.specs.Ends.{Flags, End, noFlags, noStore}
 use Rattle.machine.specs.Instructions.{Store}
 use Rattle.samples.specs.Laws.Opened.{opened}
-use Rattle.samples.specs.Laws.Samples.{nest, pair, idle, samplesOpened, twoSet, firstFailed}
+use Rattle.samples.specs.Laws.Samples.{nest, pair, idle, twice, samplesOpened, twoSet, firstFailed}
 use Rattle.order.specs.Laws.Opened.{ordersOpened}
 use Rattle.order.specs.Replay.{replay}
 
@@ -18,6 +18,10 @@ use Rattle.order.specs.Replay.{replay}
 -- then job 0
 abbrev nested : List ℕ
 nested = 0 ∷ 0 ∷ 16 ∷ 34 ∷ 32 ∷ 32 ∷ 16 ∷ 16 ∷ 0 ∷ 0 ∷ 0 ∷ []
+
+-- of the table `twice`: job 1 starts after so many steps of job 0, which has seven
+abbrev startsAfter : ℕ → ℕ → List ℕ
+startsAfter made left = replicate made 0 ++ (16 ∷ replicate left 0)
 
 abbrev endsWith : Store → Flags → Checked ℕ End
 endsWith store failed = passed (record { store = store; failed = failed })
@@ -55,6 +59,13 @@ pub record OrderExamples : Type 0 where
   -- "32 EXTRA: bytes remain after all jobs ended", checked before the others
   pub extra : replay nest (nested ++ (0 ∷ [])) ≡ refused 32 11
   pub extraIdle : replay idle (255 ∷ []) ≡ refused 32 0
+  -- Document 02, E3: a Release at zero changes nothing; a lock taken twice and released once is held, and released
+  -- twice it is free; the next Acquire holds it anew; End clears the count that is left.
+  pub releasedAtZero : replay twice (startsAfter 1 6) ≡ endsWith noStore noFlags
+  pub releasedOnce : replay twice (startsAfter 4 3) ≡ refused 30 4
+  pub releasedTwice : replay twice (startsAfter 5 2) ≡ endsWith noStore noFlags
+  pub heldAnew : replay twice (startsAfter 6 1) ≡ refused 30 6
+  pub clearedByEnd : replay twice (startsAfter 7 0) ≡ endsWith noStore noFlags
 
 pub order-examples : OrderExamples
 unfolding opened samplesOpened ordersOpened
@@ -78,4 +89,9 @@ order-examples =
       shortLast = refl;
       extra = refl;
       extraIdle = refl;
+      releasedAtZero = refl;
+      releasedOnce = refl;
+      releasedTwice = refl;
+      heldAnew = refl;
+      clearedByEnd = refl;
     }

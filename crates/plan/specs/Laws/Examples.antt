@@ -9,7 +9,7 @@ use Rattle.notation.specs.Lists.{each}
 use Rattle.machine.specs.Ends.{Flags, End, noFlags, noStore}
 use Rattle.machine.specs.Instructions.{Store}
 use Rattle.samples.specs.Laws.Opened.{opened}
-use Rattle.samples.specs.Laws.Samples.{nest, pair, idle, samplesOpened, twoSet, firstFailed}
+use Rattle.samples.specs.Laws.Samples.{nest, pair, idle, twice, samplesOpened, twoSet, firstFailed}
 use Rattle.plan.specs.Laws.Opened.{plansOpened}
 use Rattle.plan.specs.Plans.{checkPlan}
 use Rattle.plan.specs.Runs.{Plan}
@@ -49,6 +49,10 @@ overlapping rounds = planOf guesses rounds (0 ∷ 0 ∷ 0 ∷ []) 2 0 (1 ∷ 1 �
 -- a plan of the table `pair`: the round of each job's one step
 abbrev pairPlan : ℕ → ℕ → Plan
 pairPlan x y = 2 ∷ noStore ++ noStore ++ steps (x ∷ y ∷ [])
+
+-- a plan of the table `twice`: job 1 in round 0, where job 0 has these rounds
+abbrev twicePlan : List ℕ → Plan
+twicePlan rounds = 2 ∷ noStore ++ noStore ++ steps rounds ++ steps (0 ∷ [])
 
 abbrev endsWith : Store → Flags → Checked ℕ End
 endsWith store failed = passed (record { store = store; failed = failed })
@@ -90,6 +94,9 @@ pub record PlanExamples : Type 0 where
   pub orderBack : checkPlan pair (pairPlan 0 1) ≡ refused 43 0
   -- "44 LOCK": job 0 holds a lock with the ceiling 1 when job 1, whose base is 1, starts within it
   pub lock : checkPlan nest (withFirst (0 ∷ 2 ∷ 2 ∷ 2 ∷ 2 ∷ [])) ≡ refused 44 0
+  -- document 02, E3: a lock taken twice and released once is held, and released twice it is free
+  pub lockOnce : checkPlan twice (twicePlan (0 ∷ 0 ∷ 0 ∷ 0 ∷ 1 ∷ 1 ∷ 1 ∷ [])) ≡ refused 44 0
+  pub lockTwice : checkPlan twice (twicePlan (0 ∷ 0 ∷ 0 ∷ 0 ∷ 0 ∷ 1 ∷ 1 ∷ [])) ≡ endsWith noStore noFlags
   -- 43 of any pair goes before 44
   pub orderFirst : checkPlan nest (overlapping (0 ∷ 2 ∷ 2 ∷ 2 ∷ 2 ∷ [])) ≡ refused 43 1
   -- "45 GUESS: lowest round whose guess is wrong"
@@ -120,6 +127,8 @@ plan-examples =
       orderShared = refl;
       orderBack = refl;
       lock = refl;
+      lockOnce = refl;
+      lockTwice = refl;
       orderFirst = refl;
       guessFirst = refl;
       guessNext = refl;

@@ -95,9 +95,23 @@ idleTable = table 5 5 (task 1 1 5 (endInstruction ∷ []) ∷ []) []
 unfoldable pub idle : Accepted
 idle = record { table = idleTable; responses = 1 ∷ []; jobs = [] }
 
+-- Two tasks with a job each: job 1 may preempt job 0. Lock 0 has the ceiling 1. Job 0: Release 0, Acquire 0, Acquire
+-- 0, Release 0, Release 0, Acquire 0, End. Job 1: End.
+unfoldable pub twiceTable : Table
+twiceTable =
+    table 2 0
+    (task 1 8 0
+    (instruction 10 0 0 0 ∷ instruction 9 0 0 0 ∷ instruction 9 0 0 0 ∷ instruction 10 0 0 0 ∷ instruction 10 0 0 0
+    ∷ instruction 9 0 0 0 ∷ endInstruction ∷ [])
+    ∷ task 1 8 1 (endInstruction ∷ []) ∷ [])
+    (1 ∷ [])
+
+unfoldable pub twice : Accepted
+twice = record { table = twiceTable; responses = 2 ∷ 1 ∷ []; jobs = job 0 0 2 ∷ job 1 1 2 ∷ [] }
+
 -- one name for all of them
 unfoldable pub samplesOpened : Unit {0}
-unfolding nestTable nest pairTable pair pickTable pickUpTo idleTable idle
+unfolding nestTable nest pairTable pair pickTable pickUpTo idleTable idle twiceTable twice
 samplesOpened = tt
 
 -- these are the accepted tables that their tables' own times and jobs make
@@ -106,7 +120,8 @@ pub record TimedAs : Type 0 where
   pub pairTimed : timed pairTable ≡ passed pair
   pub pickTimed : timed pickTable ≡ passed pickUpTo
   pub idleTimed : timed idleTable ≡ passed idle
+  pub twiceTimed : timed twiceTable ≡ passed twice
 
 pub all-timed : TimedAs
 unfolding opened responseOf samplesOpened
-all-timed = record { nestTimed = refl; pairTimed = refl; pickTimed = refl; idleTimed = refl }
+all-timed = record { nestTimed = refl; pairTimed = refl; pickTimed = refl; idleTimed = refl; twiceTimed = refl }

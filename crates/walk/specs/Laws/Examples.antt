@@ -8,7 +8,7 @@ use Rattle.notation.specs.Checked.{refused, passed}
 use Rattle.timing.specs.Accepted.{Accepted}
 use Rattle.machine.specs.Ends.{End, noStore}
 use Rattle.samples.specs.Laws.Opened.{opened}
-use Rattle.samples.specs.Laws.Samples.{nest, pair, pickUpTo, idle, samplesOpened, firstFailed}
+use Rattle.samples.specs.Laws.Samples.{nest, pair, pickUpTo, idle, twice, samplesOpened, firstFailed}
 use Rattle.order.specs.Laws.Opened.{ordersOpened}
 use Rattle.order.specs.Orders.{run}
 use Rattle.order.specs.States.{State, initial}
@@ -45,6 +45,8 @@ pub record WalkExamples : Type 0 where
   pub undecided : decided 6 (walk pickUpTo) ≡ refused 21 0
   pub holding : walk pair ≡ record { failing = none; count = 2 }
   pub idling : walk idle ≡ record { failing = none; count = 0 }
+  -- job 1 starts before job 0 or after 1, 5 or 7 of its seven steps: 7 moves, and 1, 3, 7 and 8 more
+  pub counting : walk twice ≡ record { failing = none; count = 26 }
 
 pub walk-examples : WalkExamples
 unfolding opened samplesOpened ordersOpened walksOpened movesAt
@@ -59,4 +61,5 @@ walk-examples =
       undecided = refl;
       holding = refl;
       idling = refl;
+      counting = refl;
     }

@@ -1,17 +1,14 @@
 //! The proved conversions, called through their C interface, against the interpreter: every field
 //! of the answer and every byte of the lent buffer, and the lent words.
 
-use binding::raw::{
-    order_to_plan, order_to_plan_words, plan_to_order, plan_to_order_words, RunAnswer,
-    CONVERSION_WORDS,
-};
+use binding::raw::CONVERSION_WORDS;
 use binding::{ORDER_ROOM, PLAN_ROOM};
 use conformance::cases::{accepted, plan_of_x, table_x, ORDER_OF_X};
-use conformance::entries::{amid, filled, pattern, word_pattern};
+use conformance::comparison::{Conversion, TO_ORDER, TO_PLAN};
+use conformance::entries::{amid, pattern, word_pattern};
 use conformance::families::*;
 use conformance::orders::{random_order, variants};
 use conformance::plans::{random_plan, some_plans};
-use conformance::proved::{expected_order_to_plan, expected_plan_to_order};
 use generator::{random_nest, random_race, Random};
 use interpreter::timing::{accept, Accepted};
 use std::time::Instant;
@@ -27,51 +24,6 @@ const FAMILIES: [Family; 8] = [
     Family { name: "many jobs", seed: 626, tables: 400, make: crowded },
     Family { name: "the largest table", seed: 627, tables: 30, make: largest_with_assertions },
 ];
-
-/// Converts a file's order or plan into a lent buffer, and lent words.
-type Convert = fn(&[u8], &[u8], &mut [u8]) -> RunAnswer;
-type ConvertWords = fn(&[u8], &[u8], &mut [u8], &mut [u64]) -> bool;
-
-/// A conversion of both sides, the proved one also with lent words, and the room that it needs.
-struct Conversion {
-    proved: Convert,
-    words: ConvertWords,
-    expected: Convert,
-    room: usize,
-}
-
-const TO_PLAN: Conversion = Conversion {
-    proved: order_to_plan,
-    words: order_to_plan_words,
-    expected: expected_order_to_plan,
-    room: PLAN_ROOM,
-};
-
-const TO_ORDER: Conversion = Conversion {
-    proved: plan_to_order,
-    words: plan_to_order_words,
-    expected: expected_plan_to_order,
-    room: ORDER_ROOM,
-};
-
-impl Conversion {
-    /// Asserts that both sides give one answer and leave one buffer of this size, which a refusal
-    /// leaves as it was and an acceptance fills up to the room.
-    fn compare(&self, file: &[u8], bytes: &[u8], size: usize) -> RunAnswer {
-        let (mut buffer, mut left) = (pattern(size), pattern(size));
-        let expected = (self.expected)(file, bytes, &mut left);
-        let case = || format!("{size} bytes lent: {file:02x?} {bytes:?}");
-        assert_eq!((self.proved)(file, bytes, &mut buffer), expected, "{}", case());
-        assert!(buffer == left, "the buffers differ, {}", case());
-        if expected.number == 0 {
-            let written = &left[..expected.length as usize];
-            assert!(buffer == filled(size, self.room, written), "{}", case());
-        } else {
-            assert!(buffer == pattern(size), "{}", case());
-        }
-        expected
-    }
-}
 
 /// How often a conversion came to each number; index 0 counts acceptances.
 struct Tally {

@@ -3,7 +3,9 @@
 use conformance::cases::accepted;
 use conformance::entries::{filled, pattern};
 use conformance::listing::{orders, plans, Orders, Plans};
-use generator::{random_nest, random_race, random_table, Random, Sizes, TableDescription};
+use generator::{
+    random_nest, random_nested_locks, random_race, random_table, Random, Sizes, TableDescription,
+};
 use interpreter::order::Ending;
 use interpreter::timing::Accepted;
 use interpreter::{conversion, order, plan};
@@ -167,4 +169,16 @@ fn every_order_and_every_plan_of_jobs_two_deep() {
     assert!(totals.held_back >= 60, "{totals:?}");
     assert!(totals.refused_44 >= 60, "{totals:?}");
     assert!(totals.both_verdicts >= 10, "{totals:?}");
+}
+
+/// Document 02, E3: "demand 3 stands over" the lock counts.
+#[test]
+fn every_order_and_every_plan_of_nested_locks() {
+    let mut random = Random::new(7);
+    let totals = try_tables(400, || random_nested_locks(&mut random));
+    assert!(totals.preempting >= 250, "{totals:?}");
+    assert!(totals.under_lock >= 30, "{totals:?}");
+    assert!(totals.held_back >= 300, "{totals:?}");
+    assert!(totals.refused_44 >= 300, "{totals:?}");
+    assert!(totals.both_verdicts >= 100, "{totals:?}");
 }

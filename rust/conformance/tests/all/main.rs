@@ -10,6 +10,8 @@ mod demand_3;
 mod file_refusals;
 mod header;
 mod jobs_differential;
+mod lock_counts;
+mod nesting;
 mod order_refusals;
 mod plan_differential;
 mod plan_refusals;

@@ -211,14 +211,16 @@ fn number_30_priority_of_active_jobs() {
     complete(&below_one(&body, &[0, 7]), &[0, 16, 0, 0, 0, 0]);
 }
 
+/// By document 02, E3, the lock is held until it was released as often as it was taken.
 #[test]
 fn number_30_acquire_and_release_twice() {
     let body = [code::acquire(0), code::acquire(0), code::release(0), code::release(0), code::end()];
     let table = below_one(&body, &[1]);
+    refused(&table, &[0, 16], 30, 1);
     refused(&table, &[0, 0, 16], 30, 2);
-    complete(&table, &[0, 0, 0, 16, 0, 0]);
+    refused(&table, &[0, 0, 0, 16], 30, 3);
     complete(&table, &[0, 0, 0, 0, 16, 0]);
-    // End empties the set: a job that ends with a lock holds nobody back.
+    // End clears the counts: a job that ends with a lock holds nobody back.
     let table = below_one(&[code::acquire(0), code::end()], &[1]);
     refused(&table, &[0, 16], 30, 1);
     complete(&table, &[0, 0, 16]);

@@ -1,8 +1,9 @@
 //! The proved replay, called through its C interface, against the interpreter: every field of the
 //! answer on many files and orders, and the lent words.
 
-use binding::raw::{replay, replay_words, RunAnswer, REPLAY_WORDS};
+use binding::raw::{replay_words, RunAnswer, REPLAY_WORDS};
 use conformance::cases::{accepted, edited, rates, table_x, tables_with_picks, tasks, ORDER_OF_X};
+use conformance::comparison::compare_replay;
 use conformance::entries::word_pattern;
 use conformance::families::{any, crowded, largest_with_assertions, long, small, Family};
 use conformance::orders::{random_order, random_steps, variants};
@@ -45,8 +46,7 @@ impl Tally {
 
     /// Asserts that both replays give one answer, and counts it.
     fn compare(&mut self, name: &str, file: &[u8], order: &[u8]) -> RunAnswer {
-        let expected = expected_replay(file, order);
-        assert_eq!(replay(file, order), expected, "{name}: {file:02x?} {order:?}");
+        let expected = compare_replay(name, file, order);
         self.counts[expected.number as usize] += 1;
         self.failing += u64::from(expected.failed_jobs.contains(&1));
         self.failing_late += u64::from(expected.failed_jobs[8..].contains(&1));

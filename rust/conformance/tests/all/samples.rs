@@ -2,7 +2,7 @@
 
 use binding::{JobNumber, Refusal, Verdict};
 use conformance::cases::accepted;
-use generator::TableDescription;
+use generator::{code, TableDescription};
 use interpreter::sheet::SHEET_ALLOWANCE;
 use samples::Sample;
 use std::collections::BTreeSet;
@@ -20,6 +20,11 @@ fn committed(name: &str, extension: &str) -> Vec<u8> {
 /// The task file of a sample, as it stands in the repository.
 fn task_file(name: &str) -> Vec<u8> {
     committed(name, "task")
+}
+
+/// The page of a sample.
+fn page(name: &str) -> String {
+    String::from_utf8(committed(name, "md")).expect("a page is text")
 }
 
 fn table(name: &str) -> TableDescription {
@@ -48,13 +53,13 @@ fn the_directory_holds_three_files_for_each_sample() {
         entry.expect("it can be listed").file_name().into_string().expect("a plain name")
     };
     assert_eq!(entries.map(name).collect::<BTreeSet<String>>(), expected);
-    assert_eq!(expected.len(), 18);
+    assert_eq!(expected.len(), 21);
 }
 
 #[test]
 fn each_page_names_its_sample_and_quotes_what_the_sheet_finds() {
     for sample in samples::all() {
-        let page = String::from_utf8(committed(sample.name, "md")).expect("a page is text");
+        let page = page(sample.name);
         assert!(page.starts_with(&format!("# {}\n", sample.name)), "{}", sample.name);
         let sheet = sample.sheet();
         let finds = |line: &&str| ["verdict", "refused", "failed"].contains(&first_word(line));
@@ -85,6 +90,7 @@ fn failing(name: &str) -> (u64, Vec<JobNumber>) {
 fn the_proved_walk_finds_what_each_sample_shows() {
     assert_eq!(failing("lost-update"), (73, vec![JobNumber(2)]));
     assert_eq!(walk("lost-update-locked"), Ok(Verdict::Holds { count: 93 }));
+    assert_eq!(walk("nested-lock"), Ok(Verdict::Holds { count: 109 }));
     assert_eq!(failing("half-changed-lane"), (88, vec![JobNumber(2)]));
     assert_eq!(walk("lane-kept-apart"), Ok(Verdict::Holds { count: 19 }));
     assert_eq!(walk("slow-sorter"), Err(Refusal { number: 10, place: 1 }));
@@ -101,6 +107,40 @@ fn the_locked_sample_is_the_unlocked_one_and_a_lock() {
         task.body.retain(|instruction| !lock_steps.contains(&instruction.operation));
     }
     assert_eq!(locked, plain);
+}
+
+/// Where the helper's Acquire stands in each body of the nested sample, its load, and its Release.
+const INNER_ACQUIRE: usize = 1;
+const INNER_LOAD: usize = 2;
+const INNER_RELEASE: usize = 3;
+
+#[test]
+fn the_nested_sample_is_the_locked_one_and_a_helper() {
+    let (locked, mut nested) = (table("lost-update-locked"), table("nested-lock"));
+    for task in &mut nested.tasks {
+        assert_eq!(task.body.remove(INNER_RELEASE), code::release(0));
+        assert_eq!(task.body.remove(INNER_ACQUIRE), code::acquire(0));
+    }
+    assert_eq!(nested, locked);
+}
+
+/// Without the helper's Acquire its Release frees the lock. A second load takes the place of the
+/// Acquire, so that each job has as many steps.
+#[test]
+fn the_nested_sample_would_fail_if_the_inner_release_freed() {
+    let mut freed = table("nested-lock");
+    for task in &mut freed.tasks {
+        task.body[INNER_ACQUIRE] = task.body[INNER_LOAD];
+    }
+    let Ok(Verdict::Fails { order, ending, .. }) = binding::walk(&freed.write(), SHEET_ALLOWANCE)
+    else {
+        panic!("it fails");
+    };
+    assert_eq!(ending.failed_jobs, [JobNumber(2)]);
+    let words: Vec<String> = order.iter().map(u8::to_string).collect();
+    assert!(page("nested-lock").contains(&format!("    {}\n", words.join(" "))));
+    let refused = binding::replay(&task_file("nested-lock"), &order);
+    assert_eq!(refused, Err(Refusal { number: 30, place: 6 }));
 }
 
 #[test]

@@ -8,7 +8,7 @@ use conformance::families::*;
 use conformance::listing::{each_plan, orders};
 use conformance::orders::random_order;
 use conformance::plans::{drawn_plan, random_plan};
-use generator::{random_nest, random_race, Random, TableDescription};
+use generator::{random_nest, random_nested_locks, random_race, Random, TableDescription};
 use interpreter::timing::{accept, Accepted};
 use std::collections::{BTreeMap, BTreeSet};
 
@@ -61,7 +61,8 @@ fn plan_there_and_back(file: &[u8], plan: &[u8]) -> (RunAnswer, Vec<u8>) {
 type Make = fn(&mut Random) -> TableDescription;
 
 /// Families of tables with few steps, and with many, which come less often as they take longer.
-const FEW_STEPS: [Make; 5] = [small, long, random_race, random_nest, nest_of_four];
+const FEW_STEPS: [Make; 6] =
+    [small, long, random_race, random_nest, nest_of_four, random_nested_locks];
 const MANY_STEPS: [Make; 3] = [any, crowded, largest_with_assertions];
 
 /// Visits accepted tables of the families in turn until the visits have counted enough.
@@ -74,8 +75,8 @@ fn visit_families(
     let (mut counted, mut round) = (0, 0);
     while counted < enough {
         let make = match round % 8 {
-            0 => MANY_STEPS[round / 8 % 3],
-            _ => FEW_STEPS[round % 5],
+            0 => MANY_STEPS[round / 8 % MANY_STEPS.len()],
+            _ => FEW_STEPS[round % FEW_STEPS.len()],
         };
         let file = make(&mut random).write_shuffled(&mut random).0;
         if let Ok(accepted) = accept(&file) {
@@ -136,7 +137,7 @@ fn many_plans() {
     assert_eq!(totals.longest, PLAN_ROOM);
 }
 
-/// How many tables of each of the four families are listed whole: over 2,000 in all.
+/// How many tables of each of the five families are listed whole: over 2,500 in all.
 const TABLES: u64 = 550;
 
 /// The most orders and the most round assignments of such a table.
@@ -206,22 +207,27 @@ fn list_tables(seed: u64, make: Make) -> Listed {
     listed
 }
 
-/// Lists two families by their seeds. Of each, at least so many tables have orders that end apart.
-fn list_families(families: [(u64, Make, u64); 2]) {
+/// Lists families by their seeds. Of each, at least so many tables have orders that end apart.
+fn list_families(families: &[(u64, Make, u64)]) {
     for (seed, make, endings) in families {
-        let listed = list_tables(seed, make);
+        let listed = list_tables(*seed, *make);
         assert!(listed.orders >= 2_000 && listed.most_orders >= 40, "{listed:?}");
         assert!(listed.refused_43 >= 10_000 && listed.refused_44 >= 100, "{listed:?}");
-        assert!(listed.several_endings >= endings, "{listed:?}");
+        assert!(listed.several_endings >= *endings, "{listed:?}");
     }
 }
 
 #[test]
 fn all_orders_and_plans_of_small_tables_and_races() {
-    list_families([(642, small, 40), (643, random_race, 100)]);
+    list_families(&[(642, small, 40), (643, random_race, 100)]);
 }
 
 #[test]
 fn all_orders_and_plans_of_long_bodies_and_nests() {
-    list_families([(644, long, 100), (645, random_nest, 80)]);
+    list_families(&[(644, long, 100), (645, random_nest, 80)]);
+}
+
+#[test]
+fn all_orders_and_plans_of_nested_locks() {
+    list_families(&[(646, random_nested_locks, 100)]);
 }

@@ -3,6 +3,7 @@
 
 use binding::raw::{walk, walk_words, Verdict, WalkAnswer, WALK_WORDS};
 use conformance::cases::{table_x, tasks, ORDER_OF_X};
+use conformance::comparison::assert_walk;
 use conformance::entries::{amid, filled, pattern, word_pattern};
 use conformance::families::{
     any, free_position, largest, long, nest, nest_of_four, refused_files, small, Family,
@@ -118,12 +119,8 @@ impl Tally {
                 assert_eq!(left, pattern(length));
                 assert_eq!(expected.number, if written == 512 { 20 } else { answer.number });
             }
-            let mut buffer = pattern(length);
-            let proved = walk(file, allowance, &mut buffer);
-            let case = || format!("{name}, {allowance} moves, {length} bytes: {file:02x?}");
-            assert_eq!(proved, expected, "{}", case());
-            assert!(buffer == left, "{}", case());
-            self.count(&proved);
+            assert_walk(name, file, allowance, &expected, &left);
+            self.count(&expected);
         }
         answer
     }
