@@ -51,7 +51,7 @@ minus x y = (x + (256 - y)) % 256
 abbrev pub Operation : Type 0
 Operation = Instruction → ℕ → Local → Store → Effect
 
--- "0 End": "End empties it"
+-- "0 End"; document 02, E3: "cleared by End"
 unfoldable pub endJob : Operation
 endJob i v l s = record { local = skipping 0 (withHeld noLocks l); store = s; failed = false; ended = true }
 

@@ -9,6 +9,7 @@ pub mod PaddedLaws
 pub mod PairLaws
 pub mod QuantifierLaws
 pub mod SearchLaws
+pub mod SetLaws
 pub mod SomeLaws
 pub mod SumLaws
 pub mod TabulateLaws

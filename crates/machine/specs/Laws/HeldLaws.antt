@@ -4,13 +4,14 @@ use Prim.Native.Nat.{ℕ, zero, suc, max, _+_, _-_, _≤_, _<_}
 use native.Mathlib.Omega.{arith}
 use native.Mathlib.Decide.{decLe, ℕ-discrete}
 use mathlib.Core.Logic.{_≢_, _⊎_, inl, inr}
-use mathlib.Core.Path.{_≡_, refl, sym, _∙_}
+use mathlib.Core.Path.{_≡_, refl, _∙_}
 use mathlib.Core.Bool.{Bool, true, false}
 use mathlib.Core.List.{List, [], _∷_}
 use lib.ListN.{length, getD, set, take, drop, length-set, length-take, getD-replicate, length-replicate, drop-of-length-le, List·getD-eq-default}
 use lib.Seq.{getD-set-same, getD-set-other, ext-getD, drop-cons, getD-take}
 use borrow.Author.Tests.{ltb-true, ltb-false, lt-ltb, le-ltb}
 use Rattle.notation.specs.Lists.{if_then_else_}
+use Rattle.notation.specs.Laws.SetLaws.{set-each}
 use Rattle.notation.specs.Laws.TestLaws.{not-both, test-decided}
 use Rattle.machine.specs.Held.{Held, countOf, noLocks, holds, acquire, release, raised, priority}
 use Rattle.machine.specs.Code.Within.{Within}
@@ -44,7 +45,7 @@ none-count lock =
     ]
 
 module _ (held : Held) (lock : ℕ) where
-  -- a lock that is held is one of the locks
+  -- past the last lock nothing is held
   none-past : length held ≤ lock → countOf held lock ≡ 0
   none-past past = List·getD-eq-default held 0 past
 
@@ -137,21 +138,21 @@ module _ {n : ℕ} {held : Held} (within : Within n held) where
   within-more m le = record { most = λ lock. omega (arith, within .most lock) }
 
   pub acquire-within : (lock : ℕ) → Within (suc n) (acquire held lock)
-  acquire-within lock = record { most = λ other. go other (ℕ-discrete other lock) (decLe (length held) lock) }
-    where
-      go : (other : ℕ) → Dec (other ≡ lock) → Dec (length held ≤ lock) → countOf (acquire held lock) other ≤ suc n
-      go other (no apart) room = omega (arith, acquire-count-other held lock other apart, within .most other)
-      go other (yes same) (no below) = rw same (omega (arith, acquire-count held lock (omega arith), within .most lock))
-      go other (yes same) (yes past) =
-          let beyond = none-past (acquire held lock) lock (omega (arith, acquire-length held lock)) in
-          rw same (omega (arith, beyond))
+  unfolding acquire
+  acquire-within lock =
+      let more = within-more (suc n) (omega arith) in
+      let sum : countOf held lock + 1 ≤ suc n = omega (arith, within .most lock) in
+      record { most = set-each (λ c. c ≤ suc n) 0 held (more .most) lock (countOf held lock + 1) sum }
 
   pub release-within : (lock : ℕ) → Within n (release held lock)
-  release-within lock = record { most = λ other. go other (ℕ-discrete other lock) }
-    where
-      go : (other : ℕ) → Dec (other ≡ lock) → countOf (release held lock) other ≤ n
-      go other (no apart) = omega (arith, release-count-other held lock other apart, within .most other)
-      go other (yes same) = rw same (omega (arith, release-count held lock, within .most lock))
+  release-within lock =
+      let less : countOf held lock - 1 ≤ n = omega (arith, within .most lock) in
+      elim (test-decided (holds held lock)) [
+        | inl some ↦
+            rw (release-some held lock some)
+            (record { most = set-each (λ c. c ≤ n) 0 held (within .most) lock (countOf held lock - 1) less })
+        | inr none ↦ rw (release-none held lock none) within
+      ]
 
 -- ---- which locks are held
 

@@ -3,13 +3,13 @@
 -- Assumes nothing.
 use mathlib.Core.Path.{_≡_, sym, subst}
 use mathlib.Core.Logic.{inl, inr}
-use Prim.Native.Nat.{ℕ, _-_, _≤_}
-use native.Mathlib.Decide.{decLe, ℕ-discrete}
+use Prim.Native.Nat.{ℕ, _-_}
+use native.Mathlib.Decide.{decLe}
 use native.Mathlib.Omega.{arith}
 use mathlib.Core.List.{List}
-use lib.ListN.{length, getD, set, replicate, getD-replicate, List·getD-eq-default}
-use lib.Seq.{set-out, getD-set-same, getD-set-other}
+use lib.ListN.{replicate, getD-replicate, List·getD-eq-default}
 use Rattle.notation.specs.Lists.{if_then_else_}
+use Rattle.notation.specs.Laws.SetLaws.{set-each}
 use Rattle.notation.specs.Laws.TestLaws.{test-decided}
 use Rattle.taskfile.specs.declared.Ceilings.{Ceilings}
 use Rattle.timing.specs.declared.Job.{Job}
@@ -68,24 +68,12 @@ module _ (program times : List ℕ) (locks : Ceilings) (p : Snapshot) (i : ℕ) 
 
 -- ---- what it does
 
--- a job put into its place
-put-within : (stack : List Frame) → ((k : ℕ) → FrameWithin (getD stack k beyond)) → (f : Frame) → FrameWithin f
-    → (under k : ℕ) → FrameWithin (getD (set stack under f) k beyond)
-put-within stack all f own under k = go (ℕ-discrete k under) (decLe (length stack) under)
-  where
-    go : Dec (k ≡ under) → Dec (length stack ≤ under) → FrameWithin (getD (set stack under f) k beyond)
-    go (no apart) room = subst FrameWithin (sym (getD-set-other stack under k f beyond apart)) (all k)
-    go (yes same) (yes past) = subst (λ (l : List Frame). FrameWithin (getD l k beyond)) (sym (set-out stack under f past)) (all k)
-    go (yes same) (no below) =
-        subst (λ (j : ℕ). FrameWithin (getD (set stack under f) j beyond)) (sym same)
-        (subst FrameWithin (sym (getD-set-same stack under f beyond (omega arith))) own)
-
 pub after-within : {p : Snapshot} → AllWithin p → (x : Job) (under i : ℕ) (effect : Effect) → LocksWithin (effect .local)
     → AllWithin (afterIn p x under i effect)
 unfolding afterIn if_then_else_
 after-within {p} all x under i effect own = record {
   each = λ k. elim (test-decided (effect .ended)) [
     | inl ended ↦ rw ended (all .each k)
-    | inr goes ↦ rw goes (put-within (p .stack) (all .each) (record { job = x; local = effect .local }) own under k)
+    | inr goes ↦ rw goes (set-each FrameWithin beyond (p .stack) (all .each) under (record { job = x; local = effect .local }) own k)
   ];
 }
