@@ -7,7 +7,7 @@ use timing::Bound;
 ghost use mathlib.Core.Path.{_≡_};
 ghost use Prim.Native.Nat.{_<_};
 ghost use Rattle.timing.specs.Response.{responseOf};
-ghost use Rattle.timing.specs.Code.ResponseParts.{TimesOf, boundOf, LowerBound};
+ghost use Rattle.timing.specs.Code.ResponseParts.{TimesOf, NeedOf, boundOf, LowerBound};
 
 // Climbs from a lower bound of every solution to the least solution, or past the period.
 pub fn climb(
@@ -15,9 +15,11 @@ pub fn climb(
     executions: &[u64; TASKS],
     periods: &[u64; TASKS],
     i: Task,
+    own: u64,
     start: u64,
 ) -> Bound
-    requires { ⌜ TimesOf t (now executions) (now periods) (t .tasks) × (i .0 < t .tasks) × LowerBound t i start ⌝ }
+    requires { ⌜ TimesOf t (now executions) (now periods) (t .tasks) × (i .0 < t .tasks) × NeedOf t i own
+        × LowerBound t i start ⌝ }
     ensures { λ x. ⌜ x ≡ boundOf (responseOf t i) ⌝ }
 {
     let at = i.0 as usize;
@@ -25,7 +27,7 @@ pub fn climb(
     let tasks = t.tasks;
     let mut r = start;
     while r <= period {
-        let next = demand_of(executions, periods, tasks, i, r);
+        let next = demand_of(executions, periods, tasks, i, own, r);
         if next == r {
             return Bound::Within(r);
         }
@@ -40,10 +42,12 @@ pub fn climb_some(
     executions: &[u64; TASKS],
     periods: &[u64; TASKS],
     i: Task,
+    own: u64,
     start: u64,
     turns: u8,
 ) -> u64
-    requires { ⌜ TimesOf t (now executions) (now periods) (t .tasks) × (i .0 < t .tasks) × LowerBound t i start ⌝ }
+    requires { ⌜ TimesOf t (now executions) (now periods) (t .tasks) × (i .0 < t .tasks) × NeedOf t i own
+        × LowerBound t i start ⌝ }
     ensures { λ r. ⌜ LowerBound t i r ⌝ }
 {
     let at = i.0 as usize;
@@ -55,7 +59,7 @@ pub fn climb_some(
         if period < r {
             return r;
         }
-        let next = demand_of(executions, periods, tasks, i, r);
+        let next = demand_of(executions, periods, tasks, i, own, r);
         if next == r {
             return r;
         }

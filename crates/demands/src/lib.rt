@@ -6,7 +6,7 @@ use timing::TaskTimes;
 ghost use mathlib.Core.Path.{_≡_};
 ghost use Prim.Native.Nat.{_^_, _≤_, _<_};
 ghost use Rattle.taskfile.specs.declared.Table.{Table};
-ghost use Rattle.timing.specs.Response.{roundedUp, tasksAbove, interference, demand};
+ghost use Rattle.timing.specs.Response.{roundedUp, tasksAbove, interference, need, demand};
 ghost use Rattle.timing.specs.Code.ResponseParts.{Timeable, BoundedTimes, TimesOf};
 
 // A number of 32 bits as one of 64.
@@ -68,18 +68,18 @@ pub fn interference_of(
     total
 }
 
-// The demand of task i in an interval of length r: its own execution time and the interference of the tasks above.
+// The demand of task i in an interval of length r: its own need and the interference of the tasks above.
 pub fn demand_of(
     executions: &[u64; TASKS],
     periods: &[u64; TASKS],
     tasks: u8,
     i: Task,
+    own: u64,
     r: u64,
 ) -> u64
-    requires { ⌜ BoundedTimes (now executions) (now periods) tasks × (i .0 < tasks) × (r < 2 ^ 32) ⌝ }
+    requires { ⌜ BoundedTimes (now executions) (now periods) tasks × (i .0 < tasks) × (own < 2 ^ 33) × (r < 2 ^ 32) ⌝ }
     ensures { λ x. ⌜ ((t : Table) → TimesOf t (now (executions .entry)) (now (periods .entry)) tasks
-        → x ≡ demand t i r) ⌝ }
+        → own ≡ need t i → x ≡ demand t i r) ⌝ }
 {
-    let at = i.0 as usize;
-    executions[at] + interference_of(executions, periods, tasks, i, r)
+    own + interference_of(executions, periods, tasks, i, r)
 }

@@ -11,7 +11,7 @@ ghost use lib.ListN.{drop};
 ghost use Rattle.taskfile.specs.declared.Table.{Table};
 ghost use Rattle.taskfile.specs.Tables.{tasksOf};
 ghost use Rattle.timing.specs.Response.{tasksAbove, responseOf};
-ghost use Rattle.timing.specs.Code.ResponseParts.{BoundedTimes, TimesOf, boundOf, LowerBound, AllFit, fitsFrom};
+ghost use Rattle.timing.specs.Code.ResponseParts.{BoundedTimes, TimesOf, NeedOf, boundOf, LowerBound, AllFit, fitsFrom};
 
 // Whether, in some interval of length 1 to b, base and the tasks from j on are done. Only the last multiple of each
 // period and b itself need a look, if each of those tasks meets its own period. It calls itself on the next task.
@@ -53,30 +53,30 @@ pub fn search(
     executions: &[u64; TASKS],
     periods: &[u64; TASKS],
     i: Task,
+    own: u64,
     start: u64,
 ) -> Bound
-    requires { ⌜ TimesOf t (now executions) (now periods) (t .tasks) × (i .0 < t .tasks) × LowerBound t i start
-        × AllFit (tasksAbove t i) ⌝ }
+    requires { ⌜ TimesOf t (now executions) (now periods) (t .tasks) × (i .0 < t .tasks) × NeedOf t i own
+        × LowerBound t i start × AllFit (tasksAbove t i) ⌝ }
     ensures { λ x. ⌜ x ≡ boundOf (responseOf t i) ⌝ }
 {
     let at = i.0 as usize;
-    let execution = executions[at];
     let period = periods[at];
     let tasks = t.tasks;
     if period < start {
         return Bound::Overload;
     }
-    if demand_of(executions, periods, tasks, i, start) == start {
+    if demand_of(executions, periods, tasks, i, own, start) == start {
         return Bound::Within(start);
     }
-    if !fits_from(executions, periods, tasks, i.0 + 1, execution, period) {
+    if !fits_from(executions, periods, tasks, i.0 + 1, own, period) {
         return Bound::Overload;
     }
     let mut lo = start;
     let mut hi = period;
     while lo < hi {
         let mid = lo + (hi - lo) / 2;
-        if fits_from(executions, periods, tasks, i.0 + 1, execution, mid) {
+        if fits_from(executions, periods, tasks, i.0 + 1, own, mid) {
             hi = mid;
         } else {
             lo = mid + 1;

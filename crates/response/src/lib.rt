@@ -28,7 +28,7 @@ const MOST_PARTS: u64 = 9223372036854775807;
 const SHORT_CLIMB: u8 = 16;
 
 // The response time of task i, if it is at most the period. No interval shorter than the start can be a solution:
-// each solution R has R × (whole − part) ≥ C × whole, where the tasks above need part of whole.
+// each solution R has R × (whole − part) ≥ own × whole, where the tasks above need part of whole.
 // Where `fit` says that the tasks above all meet their periods, what a short climb leaves is found by halving.
 pub fn response_of(
     t: Table,
@@ -42,17 +42,17 @@ pub fn response_of(
     ensures { λ x. ⌜ x ≡ boundOf (responseOf t i) ⌝ }
 {
     let at = i.0 as usize;
-    let execution = executions[at];
-    let s = share_above(executions, periods, t.tasks, i, MOST_PARTS / execution);
+    let own = executions[at];
+    let s = share_above(executions, periods, t.tasks, i, MOST_PARTS / own);
     if s.whole <= s.part {
         return Bound::Overload;
     }
-    let start = rounded_up(execution * s.whole, s.whole - s.part);
+    let start = rounded_up(own * s.whole, s.whole - s.part);
     if fit {
-        let higher = climb_some(t, executions, periods, i, start, SHORT_CLIMB);
-        return search(t, executions, periods, i, higher);
+        let higher = climb_some(t, executions, periods, i, own, start, SHORT_CLIMB);
+        return search(t, executions, periods, i, own, higher);
     }
-    climb(t, executions, periods, i, start)
+    climb(t, executions, periods, i, own, start)
 }
 
 // The response times of all tasks, or 10 at the lowest task that has none. From the highest task down, so that

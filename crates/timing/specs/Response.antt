@@ -27,9 +27,13 @@ tasksAbove t i = drop (suc (i .0)) (tasksOf t)
 unfoldable pub interference : List TaskEntry → ℕ → ℕ
 interference above R = sum (map (λ e. roundedUp R (e .period) * e .execution) above)
 
+-- what task i needs beside that sum: "C_i"
+unfoldable pub need : Table → Task → ℕ
+need t i = taskOf t i .execution
+
 -- the right-hand side of the response equation
 unfoldable pub demand : Table → Task → ℕ → ℕ
-demand t i R = taskOf t i .execution + interference (tasksAbove t i) R
+demand t i R = need t i + interference (tasksAbove t i) R
 
 -- "the smallest positive R with R = .."
 pub record IsResponse (t : Table) (i : Task) (R : ℕ) : Type 0 where

@@ -3,59 +3,65 @@
 -- tasks above meet their periods, a short climb and the search.
 -- Assumes nothing.
 use mathlib.Core.Path.{sym, ap}
-use Prim.Native.Nat.{ℕ, _-_, _^_}
+use Prim.Native.Nat.{ℕ, _-_, _^_, _≤_}
 use native.Mathlib.Nat.{le-div-iff-mul-le, div-le-self, mul-div-le, mul-le-mul-left}
 use native.Mathlib.Omega.{arith}
 use lib.ListN.{getD}
 use borrow.Author.Needs.{needs}
 use Rattle.timing.specs.Laws.ClimbLaws.{overloaded, start-bound}
-use Rattle.timing.specs.Laws.LentTimesLaws.{lent-read, lent-times}
-use Rattle.timing.specs.Code.ResponseParts.{boundOf, LowerBound}
-use Rattle.timing.specs.Laws.TimeableLaws.{TimesRead}
+use Rattle.timing.specs.Laws.LentTimesLaws.{lent-need, lent-times}
+use Rattle.timing.specs.Code.ResponseParts.{NeedOf, boundOf, LowerBound}
+use Rattle.timing.specs.Response.{need}
 use Rattle.response.proofs.response_of.Statement.{statement}
 use Rattle.response.proofs.response_of.Tie as tie
 
--- the execution time that is read
-abbrev execution : tie.After-execution → ℕ
-execution c = getD (c .before .before .args .executions .now) (c .before .before .args .i .0) 0
+-- what is read
+abbrev own : tie.After-own → ℕ
+own c = getD (c .before .before .args .executions .now) (c .before .before .args .i .0) 0
 
--- it is that of task i
-read : (c : tie.After-execution)
-    → TimesRead (c .before .before .args .t) (c .before .before .args .i) (execution c)
-    (getD (c .before .before .args .periods .now) (c .before .before .args .i .0) 0)
-read c = lent-read (c .before .before .pre .0) _ (c .before .before .pre .1)
+-- it is what task i needs
+known : (c : tie.After-own) → NeedOf (c .before .before .args .t) (c .before .before .args .i) (own c)
+known c = lent-need (c .before .before .pre .0) _ (c .before .before .pre .1)
+
+-- so that is positive
+positive : (c : tie.After-own) → 1 ≤ need (c .before .before .args .t) (c .before .before .args .i)
+positive c = omega (arith, known c .same, known c .positive)
 
 -- where the call began
 abbrev entry : tie.After-struct-known4 → tie.Start
 entry c = c .before .before .before .before .before .before .before
+
+-- where what task i needs was read
+abbrev read : tie.After-rounded-up → tie.After-own
+read c = c .before .before .before .before .before .before
 
 -- the start is a lower bound of the solutions
 started : (c : tie.After-rounded-up) → LowerBound (entry (c .before) .args .t) (entry (c .before) .args .i) (c .rounded-up .result)
 started c =
     let found = c .before .before .before .before .before in
     let given = entry (c .before) .pre in
-    rw (c .rounded-up .ensures, read (found .before) .execution)
-    (start-bound _ _ (given .0 .timeable .positive _ (given .1)) (found .share-above .ensures _ (given .0)) (omega arith))
+    rw (c .rounded-up .ensures, known (found .before) .same)
+    (start-bound _ _ (positive (found .before)) (found .share-above .ensures _ (given .0)) (omega arith))
 
 cast-at : tie.Need-cast-at
 cast-at c = omega arith
 
-mul-execution : tie.Need-mul-execution
-mul-execution c = search needs
+mul-own : tie.Need-mul-own
+mul-own c = search needs
 
-element-copy-out-execution : tie.Need-element-copy-out-execution
-element-copy-out-execution c = omega (arith, lent-times (c .before .pre .0) .few)
+element-copy-out-own : tie.Need-element-copy-out-own
+element-copy-out-own c = omega (arith, lent-times (c .before .pre .0) .few)
 
 div-share-above : tie.Need-div-share-above
-div-share-above c = read c .positive
+div-share-above c = known c .positive
 
 share-above-requires : tie.Need-share-above-requires
 share-above-requires c κs =
     let given = c .before .before .pre in (
       lent-times (given .0),
       given .1,
-      le-div-iff-mul-le (read c .positive) .1 (omega (arith, read c, given .0 .periods .narrow _ (given .1))),
-      omega (arith, div-le-self (2 ^ 63 - 1) (execution c)),
+      le-div-iff-mul-le (known c .positive) .1 (omega (arith, known c .narrow)),
+      omega (arith, div-le-self (2 ^ 63 - 1) (own c)),
     )
 
 returns : tie.Need-returns
@@ -63,12 +69,12 @@ unfolding boundOf
 returns c =
     let found = c .before .before in
     let given = found .before .before .before .pre in
-    sym (ap boundOf (overloaded _ _ (given .0 .timeable .positive _ (given .1)) (found .share-above .ensures _ (given .0)) (omega arith)))
+    sym (ap boundOf (overloaded _ _ (positive (found .before)) (found .share-above .ensures _ (given .0)) (omega arith)))
 
 mul-rounded-up : tie.Need-mul-rounded-up
 mul-rounded-up c =
     let found = c .before .before .before in
-    let C = execution (found .before) in
+    let C = own (found .before) in
     omega (arith, mul-le-mul-left C (found .share-above .ensures _ (found .before .before .before .pre .0) .few), mul-div-le (2 ^ 63 - 1) C)
 
 sub-rounded-up : tie.Need-sub-rounded-up
@@ -78,18 +84,18 @@ rounded-up-requires : tie.Need-rounded-up-requires
 rounded-up-requires c κs = search needs
 
 climb-some-requires : tie.Need-climb-some-requires
-climb-some-requires c κs = let given = entry (c .before .before) .pre in (given .0, given .1, started (c .before))
+climb-some-requires c κs = let given = entry (c .before .before) .pre in (given .0, given .1, known (read (c .before)), started (c .before))
 
 search-requires : tie.Need-search-requires
 search-requires c κs =
     let given = entry (c .before .before .before) .pre in
-    (given .0, given .1, c .climb-some .ensures, given .2 (c .before .if2 .taken))
+    (given .0, given .1, known (read (c .before .before)), c .climb-some .ensures, given .2 (c .before .if2 .taken))
 
 returns-2 : tie.Need-returns-2
 returns-2 c = search needs
 
 climb-requires : tie.Need-climb-requires
-climb-requires c κs = let given = entry (c .before .before) .pre in (given .0, given .1, started (c .before))
+climb-requires c κs = let given = entry (c .before .before) .pre in (given .0, given .1, known (read (c .before)), started (c .before))
 
 returns-3 : tie.Need-returns-3
 returns-3 c = search needs
@@ -99,8 +105,8 @@ response-of-spec =
     tie.close
     (tie.spec
     cast-at
-    mul-execution
-    element-copy-out-execution
+    mul-own
+    element-copy-out-own
     div-share-above
     share-above-requires
     returns

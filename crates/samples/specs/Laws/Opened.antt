@@ -52,7 +52,7 @@ unfolding File.sized File.recordAt File.load
 fileOpened = tt
 
 unfoldable pub timingOpened : Unit {0}
-unfolding Response.roundedUp Response.tasksAbove Response.interference Response.demand Response.smallest
+unfolding Response.roundedUp Response.tasksAbove Response.interference Response.need Response.demand Response.smallest
     Jobs.arrivalOf Jobs.jobsWithin Jobs.jobCount Jobs.jobOf Jobs.jobsOfTask Jobs.jobsOf Accepted.responsesOf
     Accepted.timed Accepted.accept Relations.jobAt Relations.jobNumbers Relations.base
     Relations.before Relations.mayPreempt ReadEntries.readAnswerOf ReadEntries.readAnswer ReadEntries.listed

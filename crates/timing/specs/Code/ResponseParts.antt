@@ -23,7 +23,7 @@ use Rattle.timing.specs.declared.Bound.{Bound}
 use Rattle.timing.specs.declared.Bound.the-variants.{Within, Overload}
 use Rattle.timing.specs.declared.Responses.{Responses}
 use Rattle.timing.specs.declared.Share.{Share}
-use Rattle.timing.specs.Response.{interference, demand}
+use Rattle.timing.specs.Response.{interference, need, demand}
 
 -- a table whose times can be worked out: its arrays are full, and each task has 1 ≤ C ≤ P
 pub record Timeable (t : Table) : Type 0 where
@@ -57,6 +57,12 @@ pub record TimesOf (t : Table) (Cs Ps : List ℕ) (n : ℕ) : Type 0 where
   pub count : t .tasks ≡ n
   pub executions : Column (executionAt t) n Cs
   pub periods : Column (periodAt t) n Ps
+
+-- what task i needs beside interference, as a number of 33 bits
+pub record NeedOf (t : Table) (i : Task) (own : ℕ) : Type 0 where
+  pub same : own ≡ need t i
+  pub positive : 1 ≤ own
+  pub narrow : own < 2 ^ 33
 
 -- a task's response time as the declared enum
 unfoldable pub boundOf : Option ℕ → Bound

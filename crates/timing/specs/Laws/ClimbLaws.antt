@@ -11,15 +11,15 @@ use Rattle.taskfile.specs.declared.Table.{Table}
 use Rattle.taskfile.specs.declared.Task.{Task}
 use Rattle.taskfile.specs.Tables.{taskOf}
 use Rattle.timing.specs.declared.Share.{Share}
-use Rattle.timing.specs.Response.{roundedUp, tasksAbove, demand, responseOf}
+use Rattle.timing.specs.Response.{roundedUp, tasksAbove, need, demand, responseOf}
 use Rattle.timing.specs.Laws.ResponseLaws.{roundedUp-below, roundedUp-positive, demand-mono, response-found, response-none}
 use Rattle.timing.specs.Code.ResponseParts.{ShareOf, LowerBound}
 
 -- ---- the start
 
-module _ (t : Table) (i : Task) (positive : 1 ≤ taskOf t i .execution) {cap : ℕ} {s : Share} (share : ShareOf (tasksAbove t i) cap s) where
-  -- the demand covers the task's own execution time and the share of those above
-  demand-covers : (R : ℕ) → taskOf t i .execution * s .whole + R * s .part ≤ demand t i R * s .whole
+module _ (t : Table) (i : Task) (positive : 1 ≤ need t i) {cap : ℕ} {s : Share} (share : ShareOf (tasksAbove t i) cap s) where
+  -- the demand covers the task's own need and the share of those above
+  demand-covers : (R : ℕ) → need t i * s .whole + R * s .part ≤ demand t i R * s .whole
   unfolding demand
   demand-covers R = omega (arith, share .needed R)
 
@@ -31,15 +31,15 @@ module _ (t : Table) (i : Task) (positive : 1 ≤ taskOf t i .execution) {cap : 
 
   module _ (part : s .part < s .whole) where
     -- the demand in an interval that is shorter than the start is longer than the interval
-    start-under : (r : ℕ) → r < roundedUp (taskOf t i .execution * s .whole) (s .whole - s .part) → r < demand t i r
+    start-under : (r : ℕ) → r < roundedUp (need t i * s .whole) (s .whole - s .part) → r < demand t i r
     start-under r l =
-        let short = roundedUp-below (taskOf t i .execution * s .whole) (s .whole - s .part) r (omega arith) .0 l in
+        let short = roundedUp-below (need t i * s .whole) (s .whole - s .part) r (omega arith) .0 l in
         lt-of-mul-lt-mul-right (s .whole) (omega (arith, demand-covers r, mul-sub r (s .whole) (s .part)))
 
     -- so the start is a lower bound
-    pub start-bound : LowerBound t i (roundedUp (taskOf t i .execution * s .whole) (s .whole - s .part))
+    pub start-bound : LowerBound t i (roundedUp (need t i * s .whole) (s .whole - s .part))
     start-bound =
-        let start = roundedUp (taskOf t i .execution * s .whole) (s .whole - s .part) in
+        let start = roundedUp (need t i * s .whole) (s .whole - s .part) in
         let one : 1 ≤ start = roundedUp-positive _ _ (one-le-mul positive (share .positive)) in
         record {
           positive = one;

@@ -15,20 +15,19 @@ use Rattle.taskfile.specs.declared.Table.{Table}
 use Rattle.taskfile.specs.declared.Task.{Task}
 use Rattle.taskfile.specs.Tables.{tasksOf, taskOf}
 use Rattle.timing.specs.Laws.FitLaws.{fits-decided}
-use Rattle.timing.specs.Response.{tasksAbove, demand, responseOf}
+use Rattle.timing.specs.Response.{tasksAbove, need, demand, responseOf}
 use Rattle.timing.specs.Laws.ResponseLaws.{demand-mono, response-found, response-none}
-use Rattle.timing.specs.Code.ResponseParts.{LowerBound, Fits, AllFit, fitsFrom}
-use Rattle.timing.specs.Laws.TimeableLaws.{TimesRead}
+use Rattle.timing.specs.Code.ResponseParts.{NeedOf, LowerBound, Fits, AllFit, fitsFrom}
 
 -- task i is done within some interval of length 1 to b
 abbrev pub DoneBy : Table → Task → ℕ → Type 0
-DoneBy t i b = Fits (tasksAbove t i) (taskOf t i .execution) b
+DoneBy t i b = Fits (tasksAbove t i) (need t i) b
 
 -- a solution of the response equation up to b
 abbrev pub SolvedBy : Table → Task → ℕ → Type 0
 SolvedBy t i b = (Q : ℕ) × (1 ≤ Q) × (Q ≤ b) × (Q ≡ demand t i Q)
 
-module _ (t : Table) (i : Task) (positive : 1 ≤ taskOf t i .execution) where
+module _ (t : Table) (i : Task) (positive : 1 ≤ need t i) where
   -- below an interval that is long enough there is a solution: the demand at each that is none is shorter, and long
   -- enough too
   solution-below : (n x : ℕ) → x ≤ n → 1 ≤ x → demand t i x ≤ x → SolvedBy t i x
@@ -73,7 +72,7 @@ pub search-start : {t : Table} {i : Task} {start P : ℕ} → LowerBound t i sta
     → DoneBy t i P → Between t i start P
 search-start bound e le done = record { ordered = le; within = omega arith; done = done; below = bound .below }
 
-module _ {t : Table} {i : Task} (positive : 1 ≤ taskOf t i .execution) {lo hi : ℕ} (between : Between t i lo hi) where
+module _ {t : Table} {i : Task} (positive : 1 ≤ need t i) {lo hi : ℕ} (between : Between t i lo hi) where
   -- a look at an interval that is long enough
   pub search-down : {mid : ℕ} → lo ≤ mid → mid ≤ hi → DoneBy t i mid → Between t i lo mid
   search-down l h done =
@@ -103,9 +102,8 @@ module _ {t : Table} {i : Task} (positive : 1 ≤ taskOf t i .execution) {lo hi 
       )
 
 -- the test as the code calls it
-pub done-read : {t : Table} {i : Task} {C P b : ℕ} {r : Bool} → TimesRead t i C P → AllFit (tasksAbove t i)
-    → r ≡ fitsFrom (drop (i .0 + 1) (tasksOf t)) C b → (r ≡ true) ↔ DoneBy t i b
+pub done-read : {t : Table} {i : Task} {own b : ℕ} {r : Bool} → NeedOf t i own → AllFit (tasksAbove t i)
+    → r ≡ fitsFrom (drop (i .0 + 1) (tasksOf t)) own b → (r ≡ true) ↔ DoneBy t i b
 unfolding tasksAbove
-done-read {t} {i} {C} {P} {b} read all e =
-    rw (e, add-one, read .execution)
-    (fits-decided (tasksAbove t i) all (taskOf t i .execution) b (omega (arith, read .positive)))
+done-read {t} {i} {own} {b} known all e =
+    rw (e, add-one, ← known .same) (fits-decided (tasksAbove t i) all own b (known .positive))

@@ -13,9 +13,9 @@ use Rattle.taskfile.specs.declared.Task.{Task}
 use Rattle.taskfile.specs.declared.TaskEntry.{TaskEntry}
 use Rattle.taskfile.specs.Judgement.{numbered}
 use Rattle.taskfile.specs.Tables.{tasksOf}
-use Rattle.timing.specs.Response.{roundedUp, interference}
+use Rattle.timing.specs.Response.{roundedUp, interference, need}
 use Rattle.timing.specs.Laws.ResponseLaws.{roundedUp-tight}
-use Rattle.timing.specs.Code.ResponseParts.{Timeable, Column, executionAt, periodAt, BoundedTimes, TimesOf}
+use Rattle.timing.specs.Code.ResponseParts.{Timeable, Column, executionAt, periodAt, BoundedTimes, TimesOf, NeedOf}
 use Rattle.timing.specs.Laws.TimeableLaws.{TimesRead, task-read, interference-next, interference-end}
 
 -- ---- an array is filled
@@ -76,6 +76,17 @@ module _ {t : Table} {Cs Ps : List ℕ} {n : ℕ} (times : TimesOf t Cs Ps n) wh
         period = period;
         positive = omega (arith, times .timeable .positive i below);
         within = omega (arith, times .timeable .within i below);
+      }
+
+  -- what task i needs
+  pub lent-need : (i : Task) → i .0 < n → NeedOf t i (getD Cs (i .0) 0)
+  unfolding need
+  lent-need i lt =
+      let read = lent-read i lt in
+      record {
+        same = read .execution;
+        positive = read .positive;
+        narrow = omega (arith, read .within, times .periods .narrow (i .0) lt);
       }
 
   pub lent-times : BoundedTimes Cs Ps n

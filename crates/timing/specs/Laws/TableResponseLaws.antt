@@ -2,6 +2,7 @@
 -- Assumes nothing.
 use mathlib.Core.Path.{_≡_, refl, sym, ap, _∙_}
 use Prim.Native.Nat.{ℕ, zero, suc, _-_, _≤_, _<_}
+use native.Mathlib.Nat.{le-refl}
 use native.Mathlib.Numerals.{add-one, unary-clauses}
 use native.Mathlib.Omega.{arith}
 use mathlib.Core.Bool.{Bool, true, false, false≢true}
@@ -11,19 +12,21 @@ use lib.ListN.{length, drop, set, replicate, length-set, drop-of-length-le}
 use lib.Seq.{drop-cons, drop-set-lt, getD-set-same}
 use Rattle.taskfile.specs.declared.Site.the-variants.{AtTask}
 use Rattle.taskfile.specs.declared.Table.{Table}
+use Rattle.taskfile.specs.declared.Task.{Task}
 use Rattle.notation.specs.Checked.{refused, passed, given, _>>=_}
 use Rattle.taskfile.specs.Judgement.{numbered, taskNumbers}
 use Rattle.taskfile.specs.Code.JudgingParts.{Shaped}
 use Rattle.notation.specs.Lists.{padded}
 use Rattle.notation.specs.Laws.PaddedLaws.{padded-cons, padded-nil}
 use Rattle.taskfile.specs.Laws.TableLaws.{taskNumbers-length, taskNumbers-at}
-use Rattle.taskfile.specs.Tables.{tasksOf}
+use Rattle.taskfile.specs.Tables.{tasksOf, taskOf}
 use Rattle.timing.specs.declared.Bound.the-variants.{Within, Overload}
 use Rattle.timing.specs.Accepted.{responsesOf}
 use Rattle.timing.specs.Response.{tasksAbove, responseOf}
-use Rattle.timing.specs.Code.ResponseParts.{Timeable, boundOf, AllFit}
+use Rattle.timing.specs.Code.ResponseParts.{Timeable, boundOf, Fits, AllFit}
+use Rattle.timing.specs.Laws.FitLaws.{fits-easier}
 use Rattle.timing.specs.Laws.HalvingLaws.{response-done}
-use Rattle.timing.specs.Laws.TimeableLaws.{tasks-next, times-end}
+use Rattle.timing.specs.Laws.TimeableLaws.{tasks-next, times-end, need-least, need-positive}
 use Rattle.taskfile.specs.Laws.JudgingLaws.{tasks-length}
 
 -- ---- one task
@@ -100,6 +103,12 @@ module _ {t : Table} (timeable : Timeable t) {i : ℕ} (lt : i < t .tasks) {time
   unfolding tasksAbove
   found-fit e = found .all e .fit
 
+  -- a task that has a response time meets its period by its execution time alone
+  done-alone : (k : Task) → k .0 < t .tasks → {R : ℕ} → responseOf t k ≡ some R
+      → Fits (tasksAbove t k) (taskOf t k .execution) (taskOf t k .period)
+  done-alone k below response =
+      fits-easier (response-done t k (need-positive timeable k below) response) (need-least t k) (le-refl _)
+
   -- where task i has a response time
   pub found-more : {R : ℕ} → boundOf (responseOf t (numbered i)) ≡ Within R → FoundFrom t i (set times i R) fit lowest
   unfolding responsesOf given _>>=_ tasksAbove
@@ -109,8 +118,7 @@ module _ {t : Table} (timeable : Timeable t) {i : ℕ} (lt : i < t .tasks) {time
         all = λ e.
             let above = found .all e in
             record {
-              fit = rw (tasks-next (timeable .shaped) i lt, add-one)
-                  (response-done t (numbered i) (timeable .positive (numbered i) lt) response, above .fit);
+              fit = rw (tasks-next (timeable .shaped) i lt, add-one) (done-alone (numbered i) lt response, above .fit);
               Rs = R ∷ above .Rs;
               outcome = rw (numbers-next (timeable .shaped) i lt, response, above .outcome);
               full = simp length-set (above .full);

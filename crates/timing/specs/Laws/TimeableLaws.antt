@@ -3,6 +3,7 @@
 -- Assumes nothing.
 use mathlib.Core.Path.{_≡_, sym, _∙_}
 use Prim.Native.Nat.{ℕ, _+_, _*_, _≤_, _<_}
+use native.Mathlib.Nat.{le-refl, le-trans}
 use native.Mathlib.Numerals.{add-one}
 use native.Mathlib.Omega.{arith}
 use mathlib.Core.List.{[], _∷_, map}
@@ -16,7 +17,7 @@ use Rattle.notation.specs.Lists.{sum}
 use Rattle.taskfile.specs.Tables.{tasksOf, taskOf, noTask}
 use Rattle.taskfile.specs.Judgement.{numbered}
 use Rattle.timing.specs.Jobs.{jobsWithin}
-use Rattle.timing.specs.Response.{roundedUp, tasksAbove, interference, demand}
+use Rattle.timing.specs.Response.{roundedUp, tasksAbove, interference, need, demand}
 use Rattle.timing.specs.Code.ResponseParts.{Timeable}
 use Rattle.notation.specs.Laws.ListLaws.{getD-any}
 use Rattle.taskfile.specs.Laws.JudgingLaws.{tasks-length}
@@ -82,9 +83,19 @@ pub jobs-step : {t : Table} → Timeable t → (k : ℕ) (d : TaskEntry) {n : �
 jobs-step {t} timeable k d lt e =
     sum-step (timeable .shaped) (jobsWithin (t .window)) k lt ∙ rw (e, task-read (timeable .shaped) k d lt)
 
--- ---- demand of task i, with its execution time as read
+-- ---- what task i needs
 
-pub demand-read : {t : Table} {i : Task} {C P : ℕ} → TimesRead t i C P → (r : ℕ) {x : ℕ}
-    → x ≡ interference (tasksAbove t i) r → C + x ≡ demand t i r
+-- it is no less than the execution time
+pub need-least : (t : Table) (i : Task) → taskOf t i .execution ≤ need t i
+unfolding need
+need-least t i = le-refl _
+
+-- so it is positive
+pub need-positive : {t : Table} → Timeable t → (i : Task) → i .0 < t .tasks → 1 ≤ need t i
+need-positive {t} timeable i lt = le-trans (timeable .positive i lt) (need-least t i)
+
+-- demand of task i, with what it needs given
+pub demand-read : (t : Table) (i : Task) (r : ℕ) {own x : ℕ} → own ≡ need t i → x ≡ interference (tasksAbove t i) r
+    → own + x ≡ demand t i r
 unfolding demand
-demand-read read r e = rw (e, read .execution)
+demand-read t i r same e = rw (e, same)
