@@ -49,7 +49,7 @@ extern "C" {
 #define ADQURIM_PLAN_ROOM 1281
 #define ADQURIM_JOB_LIST_ROOM 32
 #define ADQURIM_SHEET_ROOM 4608
-#define ADQURIM_TABLE_ROOM 664
+#define ADQURIM_TABLE_ROOM 696
 #define ADQURIM_FILE_ROOM 2320
 
 /* The allowance of a sheet's walk. */
@@ -79,13 +79,14 @@ enum adqurim_number {
                             a ceiling below the task's base; the first such instruction */
 
     /* The bench that supplies times. */
-    ADQURIM_OVERLOAD = 10, /* no response time within the period; the lowest such task's record */
+    ADQURIM_OVERLOAD = 10, /* no response time within the period, the wait for a lower task's lock
+                              counted; the lowest such task's record */
     ADQURIM_JOBS = 11,     /* more than 32 jobs; place 0 */
 
     /* The caller. */
     ADQURIM_ROOM = 20,      /* order buffer below 512 bytes, plan buffer below 1,281, job list
                                below 32, a sheet's text below 4,608, a table in memory that is to
-                               be filled below 664, a file that is to be written below 2,320;
+                               be filled below 696, a file that is to be written below 2,320;
                                place 0 */
     ADQURIM_UNDECIDED = 21, /* the walk's count exceeds the allowance; place 0 */
 
@@ -207,6 +208,7 @@ typedef struct adqurim_task_table {
     uint8_t unused[2];                /* not read, and filled with zeros */
     uint8_t ceilings[ADQURIM_MOST_LOCKS];
     adqurim_task_entry entries[ADQURIM_MOST_TASKS];
+    uint32_t holdings[ADQURIM_MOST_LOCKS]; /* the longest holding time of each lock, any value */
 } adqurim_task_table;
 
 /* What adqurim_table and adqurim_write answer, word by word. */
@@ -240,12 +242,13 @@ ADQURIM_STATIC_ASSERT(offsetof(adqurim_task_entry, period) == 4, "its period is 
 ADQURIM_STATIC_ASSERT(offsetof(adqurim_task_entry, arrival) == 8, "its arrival is at byte 8");
 ADQURIM_STATIC_ASSERT(offsetof(adqurim_task_entry, length) == 12, "its length is at byte 12");
 ADQURIM_STATIC_ASSERT(offsetof(adqurim_task_entry, body) == 16, "its body is at byte 16");
-ADQURIM_STATIC_ASSERT(sizeof(adqurim_task_table) == ADQURIM_TABLE_ROOM, "a table has 664 bytes");
+ADQURIM_STATIC_ASSERT(sizeof(adqurim_task_table) == ADQURIM_TABLE_ROOM, "a table has 696 bytes");
 ADQURIM_STATIC_ASSERT(offsetof(adqurim_task_table, store) == 4, "the store is at byte 4");
 ADQURIM_STATIC_ASSERT(offsetof(adqurim_task_table, tasks) == 12, "the tasks are at byte 12");
 ADQURIM_STATIC_ASSERT(offsetof(adqurim_task_table, locks) == 13, "the locks are at byte 13");
 ADQURIM_STATIC_ASSERT(offsetof(adqurim_task_table, ceilings) == 16, "ceilings are at byte 16");
 ADQURIM_STATIC_ASSERT(offsetof(adqurim_task_table, entries) == 24, "the entries are at byte 24");
+ADQURIM_STATIC_ASSERT(offsetof(adqurim_task_table, holdings) == 664, "holdings are at byte 664");
 #undef ADQURIM_STATIC_ASSERT
 
 /*
@@ -428,14 +431,14 @@ bool adqurim_jobs(const uint8_t *file, size_t file_len, struct adqurim_job *jobs
  * Reads a task file, fills a table in memory from it, and fills the first 3 words of the answer:
  *
  *   word 0   the number: 0 if the file is accepted, else the number of the refusal, 1 to 11 for
- *            the file, 20 if the table is below 664 bytes
+ *            the file, 20 if the table is below 696 bytes
  *   word 1   the place of the refusal, a record's index for the file; else 0
- *   word 2   how many bytes were written: 664
+ *   word 2   how many bytes were written: 696
  *
  * A refusal has word 2 zero. Words past the third never change.
  *
  * The table then has the bytes of an adqurim_task_table at its front, with zeros past its counts
- * and in unused bytes. Bytes past the 664th never change, and a refusal changes none.
+ * and in unused bytes. Bytes past the 696th never change, and a refusal changes none.
  *
  * Returns whether the answer has room for the 3 words. Without room nothing changes, the table
  * neither, and the answer is false. The file is only read; file, table and answer do not overlap.
@@ -455,12 +458,12 @@ bool adqurim_table(const uint8_t *file, size_t file_len, uint8_t *table, size_t 
  *
  * A refusal has word 2 zero. Words past the third never change.
  *
- * The table is the first 664 bytes that are lent, which may be any; those past them are not read.
+ * The table is the first 696 bytes that are lent, which may be any; those past them are not read.
  * Tasks, instructions and locks past the counts are no part of it. The file that is written is
  * accepted, and reading it gives the same table. Bytes of the buffer past the file never change,
  * and a refusal changes none.
  *
- * Returns whether the answer has room for the 3 words and the table has 664 bytes. Otherwise
+ * Returns whether the answer has room for the 3 words and the table has 696 bytes. Otherwise
  * nothing changes, the buffer neither, and the answer is false. The table is only read; table, file
  * and answer do not overlap.
  */

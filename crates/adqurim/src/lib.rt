@@ -195,8 +195,8 @@ pub extern "C" fn adqurim_sheet(file: &[u8], text: &mut [u8], answer: &mut [u64]
     true
 }
 
-// The table's entry. Word 0 is the number, 1 to 11 for the file or 20 if the table is below 664 bytes, word 1 the
-// place, word 2 how many bytes were written, 664. The table's layout is the header's; a refusal leaves it as it was, and
+// The table's entry. Word 0 is the number, 1 to 11 for the file or 20 if the table is below 696 bytes, word 1 the
+// place, word 2 how many bytes were written, 696. The table's layout is the header's; a refusal leaves it as it was, and
 // bytes past it never change. It answers whether there was room for the words; without room nothing changes, the table
 // neither.
 #[no_mangle]

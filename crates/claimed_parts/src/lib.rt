@@ -8,11 +8,12 @@ use taskfile::TaskEntry;
 use taskfile::limits::MOST_INSTRUCTIONS;
 use taskfile::limits::MOST_LOCKS;
 use taskfile::limits::MOST_TASKS;
+use writer::Lock;
 ghost use mathlib.Core.Path.{_≡_};
 ghost use Prim.Native.Nat.{_+_, _≤_, _<_, min};
 ghost use lib.ListN.{length, getD};
 ghost use Rattle.taskfile.specs.Tables.{endInstruction, noTask};
-ghost use Rattle.writer.specs.Claims.{claimedTasks, claimedBody, claimedCeilings, recordTotal};
+ghost use Rattle.writer.specs.Claims.{claimedTasks, claimedBody, lockByLock, noLock, claimedLocks, recordTotal};
 ghost use Rattle.claimed_parts.specs.Code.ClaimedParts.{linkAt};
 
 // As many as the count says, and never more than one too many.
@@ -39,7 +40,7 @@ pub fn task_count(t: Table) -> u8
 
 // How many locks a table claims.
 pub fn lock_count(t: Table) -> u8
-    ensures { λ n. ⌜ (n ≡ length (claimedCeilings t)) × (n ≤ 9) ⌝ }
+    ensures { λ n. ⌜ (n ≡ length (claimedLocks t)) × (n ≤ 9) ⌝ }
 {
     claimed_count(t.locks, MOST_LOCKS)
 }
@@ -66,15 +67,23 @@ pub fn entry_of(t: Table, i: u8) -> TaskEntry
     t.entries[at]
 }
 
-// The ceiling of a lock by its number, or 0 past the array.
-pub fn ceiling_of(t: Table, l: u8) -> u8
-    ensures { λ x. ⌜ x ≡ getD (t .ceilings) l 0 ⌝ }
+// A lock by its number, or one of ceiling 0 and holding time 0 past the arrays.
+pub fn lock_of(t: Table, l: u8) -> Lock
+    ensures { λ x. ⌜ x ≡ getD (lockByLock (t .ceilings) (t .holdings)) l noLock ⌝ }
 {
     if MOST_LOCKS <= l {
-        return 0;
+        return Lock {
+            ceiling: 0,
+            holding: 0,
+        };
     }
     let at = l as usize;
-    t.ceilings[at]
+    let ceiling = t.ceilings[at];
+    let holding = t.holdings[at];
+    Lock {
+        ceiling: ceiling,
+        holding: holding,
+    }
 }
 
 // The link to index r, where part p of `count` comes to stand: zero where there is no such part.

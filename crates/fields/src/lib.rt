@@ -139,7 +139,17 @@ pub fn tidy_record(file: &[u8], r: u8, kind: Kind) -> bool
     match kind {
         Kind::Header => byte_at(file, r, offsets::NEXT) == 0,
         Kind::TaskRecord => byte_at(file, r, offsets::TASK_UNUSED) == 0,
-        Kind::LockRecord => zero_from(file, r, offsets::LOCK_UNUSED, offsets::LOCK_UNUSED_BYTES),
+        Kind::LockRecord => {
+            if byte_at(file, r, offsets::LOCK_UNUSED) != 0 {
+                return false;
+            }
+            zero_from(
+                file,
+                r,
+                offsets::LOCK_UNUSED_LAST,
+                offsets::LOCK_UNUSED_LAST_BYTES,
+            )
+        }
         Kind::InstructionRecord => {
             if !tidy_instruction(instruction_at(file, r)) {
                 return false;

@@ -6,12 +6,14 @@ use taskfile::Task;
 use taskfile::limits::TASKS;
 use timing::Bound;
 ghost use mathlib.Core.Path.{_≡_};
+ghost use mathlib.Core.Bool.{_&&_};
 ghost use Prim.Native.Nat.{_^_, _≤_, _<_};
 ghost use lib.ListN.{drop};
 ghost use Rattle.taskfile.specs.declared.Table.{Table};
 ghost use Rattle.taskfile.specs.Tables.{tasksOf};
 ghost use Rattle.timing.specs.Response.{tasksAbove, responseOf};
-ghost use Rattle.timing.specs.Code.ResponseParts.{BoundedTimes, TimesOf, NeedOf, boundOf, LowerBound, AllFit, fitsFrom};
+ghost use Rattle.timing.specs.Code.ResponseParts.{BoundedTimes, TimesOf, NeedOf, boundOf, LowerBound};
+ghost use Rattle.timing.specs.Code.ResponseParts.{AllFit, fitsFrom, fitsAlone};
 
 // Whether, in some interval of length 1 to b, base and the tasks from j on are done. Only the last multiple of each
 // period and b itself need a look, if each of those tasks meets its own period. It calls itself on the next task.
@@ -44,6 +46,33 @@ pub fn fits_from(
         }
     }
     fits_from(executions, periods, tasks, j + 1, base + f * c, f * p)
+}
+
+// Whether task i meets its period where it waits for no lock, and `above`, that those above it do. Then a holding
+// time that makes a task late does not take the search by halving from the tasks below.
+pub fn fits_alone(
+    executions: &[u64; TASKS],
+    periods: &[u64; TASKS],
+    tasks: u8,
+    i: Task,
+    above: bool,
+) -> bool
+    requires { ⌜ BoundedTimes (now executions) (now periods) tasks × (i .0 < tasks) ⌝ }
+    ensures { λ r. ⌜ ((t : Table) → TimesOf t (now (executions .entry)) (now (periods .entry)) tasks
+        → r ≡ (above && fitsAlone t i)) ⌝ }
+{
+    if !above {
+        return false;
+    }
+    let at = i.0 as usize;
+    fits_from(
+        executions,
+        periods,
+        tasks,
+        i.0 + 1,
+        executions[at],
+        periods[at],
+    )
 }
 
 // The response time of task i from a lower bound, where every task above meets its period: found by halving between

@@ -1,10 +1,10 @@
 // A table laid out as a task file: the header, each task followed by its body, then the locks.
 use claimed_parts::body_count;
-use claimed_parts::ceiling_of;
 use claimed_parts::entry_of;
 use claimed_parts::instruction_of;
 use claimed_parts::link_at;
 use claimed_parts::lock_count;
+use claimed_parts::lock_of;
 use claimed_parts::record_total;
 use claimed_parts::task_count;
 use record_bytes::put_header;
@@ -15,7 +15,7 @@ use taskfile::Table;
 use taskfile::TaskEntry;
 ghost use Prim.Native.Nat.{_≤_};
 ghost use lib.ListN.{length};
-ghost use Rattle.writer.specs.Claims.{claimedTasks, claimedBody, claimedCeilings};
+ghost use Rattle.writer.specs.Claims.{claimedTasks, claimedBody, claimedLocks};
 ghost use Rattle.writer.specs.Layout.{bodyRecords, taskRecords, lockRecords, layout};
 ghost use Rattle.writing.specs.Code.Writing.{Appends};
 ghost use Rattle.layouts.specs.Code.Layouts.{taskPart};
@@ -71,14 +71,14 @@ pub fn put_tasks(t: Table, at: usize, out: &mut [u8]) -> usize
 // Writes the records of a table's locks from index r on.
 pub fn put_locks(t: Table, r: u8, at: usize, out: &mut [u8]) -> usize
     requires { ⌜ (r ≤ 200) × (2752 ≤ length (now out)) ⌝ }
-    ensures { λ n. ⌜ Appends 2752 (now (out .entry)) at (lockRecords r (claimedCeilings t)) (now (out .exit)) n ⌝ }
+    ensures { λ n. ⌜ Appends 2752 (now (out .entry)) at (lockRecords r (claimedLocks t)) (now (out .exit)) n ⌝ }
 {
     let count = lock_count(t);
     let mut next = at;
     let mut l: u8 = 0;
     while l < count {
         let link = link_at(r + l + 1, l + 1, count);
-        next = put_lock(ceiling_of(t, l), link, next, out);
+        next = put_lock(lock_of(t, l), link, next, out);
         l += 1;
     }
     next

@@ -2,6 +2,7 @@ pub mod CheckedLaws
 pub mod ClearLaws
 pub mod CountLaws
 pub mod ElementLaws
+pub mod LargestLaws
 pub mod ListLaws
 pub mod MemberLaws
 pub mod NumberedLaws

@@ -1,11 +1,11 @@
 -- Short words for lists and choices that the definitions of every section use.
 -- The tests are the library's: `leb a b` says that a is at most b, `ltb` below, `eqb` equal.
 -- Assumes nothing.
-use Prim.Native.Nat.{ℕ, zero, suc, _+_, _≤_}
+use Prim.Native.Nat.{ℕ, zero, suc, max, _+_}
 use mathlib.Core.Bool.{Bool, true, false, _&&_, _||_}
 use mathlib.Core.List.{List, [], _∷_, _++_, map}
 use mathlib.Core.Option.{Option, none, some}
-use lib.ListN.{length, getD, take, replicate}
+use lib.ListN.{getD, take, replicate}
 use lib.Dec.{eqb}
 
 unfoldable pub if_then_else_ : {A : Type 0} → Bool → A → A → A
@@ -71,6 +71,11 @@ lastOr d (x ∷ xs) = lastOr x xs
 unfoldable pub sum : List ℕ → ℕ
 sum [] = 0
 sum (x ∷ xs) = x + sum xs
+
+-- the largest number of the list, or 0 where there is none
+unfoldable pub largest : List ℕ → ℕ
+largest [] = 0
+largest (x ∷ xs) = max x (largest xs)
 
 -- the n numbers of the list from place a on
 unfoldable pub bytesAt : List ℕ → ℕ → ℕ → List ℕ

@@ -45,6 +45,7 @@ pub fn empty_table() -> Table
         entries: [none; TASKS],
         locks: 0,
         ceilings: [0; LOCKS],
+        holdings: [0; LOCKS],
     }
 }
 

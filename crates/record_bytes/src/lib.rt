@@ -7,6 +7,7 @@ use taskfile::limits::VARIABLES;
 use taskfile::offsets;
 use wides::put_wide;
 use writer::LAYOUT_ROOM;
+use writer::Lock;
 use writing::write_byte;
 use writing::write_bytes;
 ghost use Prim.Native.Nat.{_≤_};
@@ -70,12 +71,14 @@ pub fn put_task_record(e: TaskEntry, next: u8, first: u8, at: usize, out: &mut [
 }
 
 // Writes the record of a lock whose next record is at index `next`.
-pub fn put_lock(ceiling: u8, next: u8, at: usize, out: &mut [u8]) -> usize
+pub fn put_lock(lock: Lock, next: u8, at: usize, out: &mut [u8]) -> usize
     requires { ⌜ 2752 ≤ length (now out) ⌝ }
-    ensures { λ n. ⌜ Appends 2752 (now (out .entry)) at (lockRecord ceiling next) (now (out .exit)) n ⌝ }
+    ensures { λ n. ⌜ Appends 2752 (now (out .entry)) at (lockRecord lock next) (now (out .exit)) n ⌝ }
 {
-    let unused = put_three(kinds::LOCK, next, ceiling, at, out);
-    put_zeros(offsets::LOCK_UNUSED_BYTES, unused, out)
+    let unused = put_three(kinds::LOCK, next, lock.ceiling, at, out);
+    let holding = write_byte(out, LAYOUT_ROOM, unused, 0);
+    let last = put_wide(out, LAYOUT_ROOM, holding, lock.holding);
+    put_zeros(offsets::LOCK_UNUSED_LAST_BYTES, last, out)
 }
 
 // Writes the header of a table whose first task and first lock are at these indices.

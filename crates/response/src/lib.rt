@@ -1,8 +1,10 @@
 // The response times of a table's tasks, or number 10 at the lowest task that has none.
+use blocking::blocking_of;
 use climbs::climb;
 use climbs::climb_some;
 use demands::rounded_up;
 use demands::times_of;
+use fits::fits_alone;
 use fits::search;
 use shares::share_above;
 use taskfile::Judged;
@@ -29,7 +31,8 @@ const SHORT_CLIMB: u8 = 16;
 
 // The response time of task i, if it is at most the period. No interval shorter than the start can be a solution:
 // each solution R has R × (whole − part) ≥ own × whole, where the tasks above need part of whole.
-// Where `fit` says that the tasks above all meet their periods, what a short climb leaves is found by halving.
+// Where `fit` says that the tasks above all meet their periods where none waits, what a short climb leaves is found by
+// halving.
 pub fn response_of(
     t: Table,
     executions: &[u64; TASKS],
@@ -42,7 +45,7 @@ pub fn response_of(
     ensures { λ x. ⌜ x ≡ boundOf (responseOf t i) ⌝ }
 {
     let at = i.0 as usize;
-    let own = executions[at];
+    let own = executions[at] + blocking_of(t, i);
     let s = share_above(executions, periods, t.tasks, i, MOST_PARTS / own);
     if s.whole <= s.part {
         return Bound::Overload;
@@ -56,7 +59,7 @@ pub fn response_of(
 }
 
 // The response times of all tasks, or 10 at the lowest task that has none. From the highest task down, so that
-// whether the tasks above all meet their periods is known.
+// whether the tasks above all meet their periods where none waits is known.
 pub fn responses_of(t: Table) -> Responses
     requires { ⌜ Timeable t ⌝ }
     ensures { λ x. ⌜ ResponsesAs x (responsesOf t (taskNumbers t)) ⌝ }
@@ -66,6 +69,7 @@ pub fn responses_of(t: Table) -> Responses
     let periods = lent.periods;
     let mut times = [0u64; TASKS];
     let mut fit = true;
+    let mut late = false;
     let mut lowest = Task(0);
     let mut i = t.tasks;
     while 0 < i {
@@ -77,12 +81,13 @@ pub fn responses_of(t: Table) -> Responses
                 times[at] = r;
             }
             Bound::Overload => {
-                fit = false;
+                late = true;
                 lowest = Task(i);
+                fit = fits_alone(&executions, &periods, t.tasks, Task(i), fit);
             }
         }
     }
-    if !fit {
+    if late {
         return Responses {
             check: Judged::Faulty(numbers::OVERLOAD, Site::AtTask(lowest)),
             times: [0; TASKS],

@@ -5,6 +5,7 @@ use taskfile::Instruction;
 use taskfile::Table;
 use taskfile::TaskEntry;
 use taskfile::limits::INSTRUCTIONS;
+use taskfile::limits::LOCKS;
 use taskfile::limits::TASKS;
 use taskfile::limits::VARIABLES;
 use wides::put_wide;
@@ -16,7 +17,8 @@ ghost use Prim.Native.Nat.{_+_, _≤_, _<_};
 ghost use mathlib.Core.List.{[], _∷_};
 ghost use lib.ListN.{length};
 ghost use Rattle.notation.specs.Lists.{bytesAt, each};
-ghost use Rattle.writer.specs.Memory.{byteIn, wideIn, instructionIn, entryIn, tableIn};
+ghost use Rattle.writer.specs.Layout.{wideBytes};
+ghost use Rattle.writer.specs.Memory.{tableBytes, byteIn, wideIn, instructionIn, entryIn, holdingsIn, tableIn};
 ghost use Rattle.writer.specs.Memory.{instructionBytes, entryBytes, memoryOf};
 ghost use Rattle.writing.specs.Code.Writing.{Appends};
 
@@ -54,6 +56,20 @@ fn eight_in(memory: &[u8], at: usize) -> [u8; VARIABLES]
     bytes
 }
 
+// The eight longest holding times.
+fn holdings_in(memory: &[u8]) -> [u32; LOCKS]
+    requires { ⌜ tableBytes ≤ length (now memory) ⌝ }
+    ensures { λ x. ⌜ x ≡ holdingsIn (now (memory .entry)) ⌝ }
+{
+    let mut holdings = [0u32; LOCKS];
+    let mut l: usize = 0;
+    while l < LOCKS {
+        holdings[l] = wide_in(memory, writer::HOLDINGS + writer::HOLDING * l);
+        l += 1;
+    }
+    holdings
+}
+
 fn instruction_in(memory: &[u8], at: usize) -> Instruction
     requires { ⌜ at + 4 ≤ length (now memory) ⌝ }
     ensures { λ x. ⌜ x ≡ instructionIn (now (memory .entry)) at ⌝ }
@@ -88,7 +104,7 @@ fn entry_in(memory: &[u8], at: usize) -> TaskEntry
 
 // The table that lent bytes hold.
 pub fn table_in(memory: &[u8]) -> Table
-    requires { ⌜ 664 ≤ length (now memory) ⌝ }
+    requires { ⌜ tableBytes ≤ length (now memory) ⌝ }
     ensures { λ t. ⌜ t ≡ tableIn (now (memory .entry)) ⌝ }
 {
     let none = empty_task();
@@ -105,13 +121,14 @@ pub fn table_in(memory: &[u8]) -> Table
         entries: entries,
         locks: byte_in(memory, writer::LOCKS),
         ceilings: eight_in(memory, writer::CEILINGS),
+        holdings: holdings_in(memory),
     }
 }
 
 // Writes four bytes.
 fn put_four(a: u8, b: u8, c: u8, d: u8, at: usize, out: &mut [u8]) -> usize
-    requires { ⌜ 664 ≤ length (now out) ⌝ }
-    ensures { λ n. ⌜ Appends 664 (now (out .entry)) at (a ∷ b ∷ c ∷ d ∷ []) (now (out .exit)) n ⌝ }
+    requires { ⌜ tableBytes ≤ length (now out) ⌝ }
+    ensures { λ n. ⌜ Appends tableBytes (now (out .entry)) at (a ∷ b ∷ c ∷ d ∷ []) (now (out .exit)) n ⌝ }
 {
     let first = write_byte(out, TABLE_ROOM, at, a);
     let second = write_byte(out, TABLE_ROOM, first, b);
@@ -121,16 +138,16 @@ fn put_four(a: u8, b: u8, c: u8, d: u8, at: usize, out: &mut [u8]) -> usize
 
 // Writes eight bytes.
 fn put_eight(bytes: [u8; VARIABLES], at: usize, out: &mut [u8]) -> usize
-    requires { ⌜ 664 ≤ length (now out) ⌝ }
-    ensures { λ n. ⌜ Appends 664 (now (out .entry)) at bytes (now (out .exit)) n ⌝ }
+    requires { ⌜ tableBytes ≤ length (now out) ⌝ }
+    ensures { λ n. ⌜ Appends tableBytes (now (out .entry)) at bytes (now (out .exit)) n ⌝ }
 {
     write_bytes(out, TABLE_ROOM, at, &bytes)
 }
 
 // Writes the instructions of a body.
 fn put_body(body: [Instruction; INSTRUCTIONS], at: usize, out: &mut [u8]) -> usize
-    requires { ⌜ 664 ≤ length (now out) ⌝ }
-    ensures { λ n. ⌜ Appends 664 (now (out .entry)) at (each body instructionBytes) (now (out .exit)) n ⌝ }
+    requires { ⌜ tableBytes ≤ length (now out) ⌝ }
+    ensures { λ n. ⌜ Appends tableBytes (now (out .entry)) at (each body instructionBytes) (now (out .exit)) n ⌝ }
 {
     let mut next = at;
     let mut p: usize = 0;
@@ -143,8 +160,8 @@ fn put_body(body: [Instruction; INSTRUCTIONS], at: usize, out: &mut [u8]) -> usi
 }
 
 fn put_entry(e: TaskEntry, at: usize, out: &mut [u8]) -> usize
-    requires { ⌜ 664 ≤ length (now out) ⌝ }
-    ensures { λ n. ⌜ Appends 664 (now (out .entry)) at (entryBytes e) (now (out .exit)) n ⌝ }
+    requires { ⌜ tableBytes ≤ length (now out) ⌝ }
+    ensures { λ n. ⌜ Appends tableBytes (now (out .entry)) at (entryBytes e) (now (out .exit)) n ⌝ }
 {
     let execution = put_wide(out, TABLE_ROOM, at, e.execution);
     let period = put_wide(out, TABLE_ROOM, execution, e.period);
@@ -156,8 +173,8 @@ fn put_entry(e: TaskEntry, at: usize, out: &mut [u8]) -> usize
 
 // Writes the entries of all tasks.
 fn put_entries(entries: [TaskEntry; TASKS], at: usize, out: &mut [u8]) -> usize
-    requires { ⌜ 664 ≤ length (now out) ⌝ }
-    ensures { λ n. ⌜ Appends 664 (now (out .entry)) at (each entries entryBytes) (now (out .exit)) n ⌝ }
+    requires { ⌜ tableBytes ≤ length (now out) ⌝ }
+    ensures { λ n. ⌜ Appends tableBytes (now (out .entry)) at (each entries entryBytes) (now (out .exit)) n ⌝ }
 {
     let mut next = at;
     let mut i: usize = 0;
@@ -168,11 +185,25 @@ fn put_entries(entries: [TaskEntry; TASKS], at: usize, out: &mut [u8]) -> usize
     next
 }
 
+// Writes the longest holding times of all locks.
+fn put_holdings(holdings: [u32; LOCKS], at: usize, out: &mut [u8]) -> usize
+    requires { ⌜ tableBytes ≤ length (now out) ⌝ }
+    ensures { λ n. ⌜ Appends tableBytes (now (out .entry)) at (each holdings wideBytes) (now (out .exit)) n ⌝ }
+{
+    let mut next = at;
+    let mut l: usize = 0;
+    while l < LOCKS {
+        next = put_wide(out, TABLE_ROOM, next, holdings[l]);
+        l += 1;
+    }
+    next
+}
+
 // Writes a table at the front of the bytes, and answers how many they are: the room is just enough.
 pub fn put_table(t: Table, out: &mut [u8]) -> usize
-    requires { ⌜ 664 ≤ length (now out) ⌝ }
-    ensures written { λ n. ⌜ Appends 664 (now (out .entry)) 0 (memoryOf t) (now (out .exit)) n ⌝ }
-    ensures whole { λ _. ⌜ length (memoryOf t) ≡ 664 ⌝ }
+    requires { ⌜ tableBytes ≤ length (now out) ⌝ }
+    ensures written { λ n. ⌜ Appends tableBytes (now (out .entry)) 0 (memoryOf t) (now (out .exit)) n ⌝ }
+    ensures whole { λ _. ⌜ length (memoryOf t) ≡ tableBytes ⌝ }
 {
     let windowed = put_wide(out, TABLE_ROOM, 0, t.window);
     let store = t.store;
@@ -181,5 +212,7 @@ pub fn put_table(t: Table, out: &mut [u8]) -> usize
     let ceilings = t.ceilings;
     let ceiled = put_eight(ceilings, counted, out);
     let entries = t.entries;
-    put_entries(entries, ceiled, out)
+    let entered = put_entries(entries, ceiled, out);
+    let holdings = t.holdings;
+    put_holdings(holdings, entered, out)
 }

@@ -22,7 +22,7 @@ ghost use mathlib.Core.Path.{_≡_};
 ghost use Prim.Native.Nat.{_≤_};
 ghost use lib.ListN.{length, take, drop};
 ghost use Rattle.taskfile.specs.Code.Reading.{linkedTask, linkedChains};
-ghost use Rattle.taskfile.specs.Code.ReadingParts.{chainAt, bodyAt, entriesAt, ceilingsAt};
+ghost use Rattle.taskfile.specs.Code.ReadingParts.{chainAt, bodyAt, entriesAt, ceilingsAt, holdingsAt};
 ghost use Rattle.taskfile.specs.Tables.{entryAt, tableAt};
 
 // The records of the chain from the record `first` on, at most `most`.
@@ -119,6 +119,22 @@ pub fn ceilings_at(file: &[u8], first: u8) -> Ceilings
     }
 }
 
+// The longest holding times of the locks from the record `first` on, at most 8.
+pub fn holdings_at(file: &[u8], first: u8) -> [u32; LOCKS]
+    ensures { λ x. ⌜ x ≡ holdingsAt (now (file .entry)) first ⌝ }
+{
+    let chain = chain_at(file, first, MOST_LOCKS);
+    let records = chain.records;
+    let mut holdings = [0u32; LOCKS];
+    let mut n: u8 = 0;
+    while n < chain.count {
+        let at = n as usize;
+        holdings[at] = wide_at(file, records[at], offsets::HOLDING);
+        n += 1;
+    }
+    holdings
+}
+
 // The initial values of the shared variables, bytes 8 to 15 of the header.
 pub fn store_at(file: &[u8]) -> [u8; VARIABLES]
     requires { ⌜ 16 ≤ length (now file) ⌝ }
@@ -141,7 +157,8 @@ pub fn table_at(file: &[u8]) -> Table
     ensures { λ x. ⌜ x ≡ tableAt (now (file .entry)) (linkedChains (now (file .entry))) ⌝ }
 {
     let tasks = entries_at(file, byte_at(file, 0, offsets::FIRST_TASK));
-    let locks = ceilings_at(file, byte_at(file, 0, offsets::FIRST_LOCK));
+    let lock = byte_at(file, 0, offsets::FIRST_LOCK);
+    let locks = ceilings_at(file, lock);
     let entries = tasks.entries;
     let ceilings = locks.ceilings;
     Table {
@@ -151,5 +168,6 @@ pub fn table_at(file: &[u8]) -> Table
         entries: entries,
         locks: locks.count,
         ceilings: ceilings,
+        holdings: holdings_at(file, lock),
     }
 }

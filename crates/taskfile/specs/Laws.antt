@@ -11,5 +11,6 @@ pub mod LoadedLaws
 pub mod MarksLaws
 pub mod NumberLaws
 pub mod RecordLaws
+pub mod SmallTables
 pub mod TableLaws
 pub mod TimesLaws

@@ -1,10 +1,11 @@
 -- The records of a task file, and number 4 for one record. Document 01, "The task file" and "Instructions": records
 -- of 16 bytes, a kind in byte 0, the index of the next record of the chain in byte 1. Which bytes are unused and
 -- which values are in range stand apart, since a file may be tidied for the one and not the other.
+-- Document 02, E4: "Lock bytes 4-7 become the longest holding time H, no longer unused bytes." Any H is in range.
 -- Assumes nothing.
 use Prim.Native.Nat.{ℕ, _+_, _*_, _/_}
-use mathlib.Core.Bool.{Bool, true, false, _&&_}
-use mathlib.Core.List.{List, [], _∷_, map}
+use mathlib.Core.Bool.{Bool, true, _&&_}
+use mathlib.Core.List.{List, [], _∷_}
 use lib.ListN.{length, getD}
 use lib.Dec.{leb, ltb, eqb}
 use Rattle.taskfile.specs.declared.Instruction.{Instruction}
@@ -119,7 +120,7 @@ zeroFrom f r k n = all (λ j. eqb (byteAt f r j) 0) (from k n)
 unfoldable pub tidy : File → ℕ → Kind → Bool
 tidy f r Header = eqb (byteAt f r 1) 0
 tidy f r TaskRecord = eqb (byteAt f r 3) 0
-tidy f r LockRecord = zeroFrom f r 3 13
+tidy f r LockRecord = eqb (byteAt f r 3) 0 && zeroFrom f r 8 8
 tidy f r InstructionRecord = tidyInstruction (instructionAt f r) && zeroFrom f r 6 10
 
 -- "window W (at least 1)"; "1 ≤ C ≤ P"; "ceiling, 0 to 7"

@@ -1,6 +1,6 @@
 -- What a table holds, and the table that a file's chains spell. Document 01, "The task file".
--- The arrays of a `Table` are longer than what they hold; `tasksOf`, `bodyOf` and `ceilingsOf` are what they hold, and
--- the sections above read a table by these alone.
+-- The arrays of a `Table` are longer than what they hold; `tasksOf`, `bodyOf`, `ceilingsOf` and `holdingsOf` are what
+-- they hold, and the sections above read a table by these alone.
 -- Assumes nothing.
 use Prim.Native.Nat.{ℕ}
 use mathlib.Core.List.{List, [], map}
@@ -10,7 +10,7 @@ use Rattle.taskfile.specs.declared.Table.{Table}
 use Rattle.taskfile.specs.declared.Task.{Task}
 use Rattle.taskfile.specs.declared.TaskEntry.{TaskEntry}
 use Rattle.taskfile.specs.Chains.{Chains, TaskChain, mostInstructions, mostTasks, mostLocks}
-use Rattle.notation.specs.Lists.{padded}
+use Rattle.notation.specs.Lists.{upTo, padded}
 use Rattle.taskfile.specs.Records.{File, byteAt, wideAt, instructionAt}
 
 -- the instruction End, and a task with no body: what fills the arrays up
@@ -29,6 +29,7 @@ emptyTable =
       entries = replicate 8 noTask;
       locks = 0;
       ceilings = replicate 8 0;
+      holdings = replicate 8 0;
     }
 
 -- "Tasks and locks are numbered from 0 in chain order."
@@ -44,6 +45,17 @@ bodyOf e = take (e .length) (e .body)
 unfoldable pub ceilingsOf : Table → List ℕ
 ceilingsOf t = take (t .locks) (t .ceilings)
 
+-- the longest holding time H of each lock
+unfoldable pub holdingsOf : Table → List ℕ
+holdingsOf t = take (t .locks) (t .holdings)
+
+-- the locks by number, and the longest holding time of one
+unfoldable pub lockNumbers : Table → List ℕ
+lockNumbers t = upTo (length (holdingsOf t))
+
+unfoldable pub holdingOf : Table → ℕ → ℕ
+holdingOf t lock = getD (holdingsOf t) lock 0
+
 -- "Kind 2, task: .. 4-7 execution time C, 8-11 period P, 12-15 first arrival A."
 unfoldable pub entryAt : File → TaskChain → TaskEntry
 entryAt f c =
@@ -56,7 +68,7 @@ entryAt f c =
     }
 
 -- "Kind 1, header: .. 4-7 window W, 8-15 the initial values of shared variables 0 to 7. .. Kind 3, lock: byte 2
--- ceiling"
+-- ceiling"; document 02, E4: "Lock bytes 4-7 become the longest holding time H"
 unfoldable pub tableAt : File → Chains → Table
 tableAt f c =
     record {
@@ -66,4 +78,5 @@ tableAt f c =
       entries = padded mostTasks noTask (map (entryAt f) (c .tasks));
       locks = length (c .locks);
       ceilings = padded mostLocks 0 (map (λ r. byteAt f r 2) (c .locks));
+      holdings = padded mostLocks 0 (map (λ r. wideAt f r 4) (c .locks));
     }

@@ -33,8 +33,8 @@ pub struct TaskEntry {
     pub body: [Instruction; INSTRUCTIONS],
 }
 
-// A table: the window W, the initial store, the first `tasks` of the eight entries, and the ceilings of
-// the first `locks` of the eight locks.
+// A table: the window W, the initial store, the first `tasks` of the eight entries, and of the first `locks` of
+// the eight locks the ceilings and the longest holding times.
 pub struct Table {
     pub window: u32,
     pub store: [u8; VARIABLES],
@@ -42,6 +42,7 @@ pub struct Table {
     pub entries: [TaskEntry; TASKS],
     pub locks: u8,
     pub ceilings: [u8; LOCKS],
+    pub holdings: [u32; LOCKS],
 }
 
 // The kind of a record: "Byte 0 is the kind".

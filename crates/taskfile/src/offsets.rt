@@ -23,12 +23,16 @@ pub const PERIOD: u8 = 8;
 
 pub const ARRIVAL: u8 = 12;
 
-// In a lock's record, where the bytes from one on are unused:
+// In a lock's record, where one byte and those from another on are unused:
 pub const CEILING: u8 = 2;
 
 pub const LOCK_UNUSED: u8 = 3;
 
-pub const LOCK_UNUSED_BYTES: u8 = 13;
+pub const HOLDING: u8 = 4;
+
+pub const LOCK_UNUSED_LAST: u8 = 8;
+
+pub const LOCK_UNUSED_LAST_BYTES: u8 = 8;
 
 // In an instruction's record, where the bytes from one on are unused:
 pub const OPERATION: u8 = 2;

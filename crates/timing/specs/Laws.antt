@@ -1,6 +1,8 @@
 pub mod AcceptLaws
 pub mod AcceptedLaws
 pub mod BaseLaws
+pub mod BlockingExamples
+pub mod BlockingLaws
 pub mod ClimbLaws
 pub mod FitLaws
 pub mod HalvingLaws

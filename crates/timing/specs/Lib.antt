@@ -1,4 +1,5 @@
 pub mod Accepted
+pub mod Blocking
 pub mod Code
 pub mod Jobs
 pub mod Laws

@@ -1,5 +1,6 @@
 -- The response time of a task. Document 01, "Response times and jobs": "The response time of task i is the smallest
 -- positive R with R = C_i + the sum over k > i of ceil(R / P_k) times C_k. A table needs R ≤ P_i for every task".
+-- Document 02, E4: "The response rule becomes R = C_i + B_i + the same sum, and demand 2 means this equation."
 -- `IsResponse` is that sentence. `responseOf` looks for the response time upwards from 1 as far as the period.
 -- Assumes nothing.
 use mathlib.Core.Path.{_≡_}
@@ -14,6 +15,7 @@ use Rattle.taskfile.specs.declared.Task.{Task}
 use Rattle.taskfile.specs.declared.TaskEntry.{TaskEntry}
 use Rattle.notation.specs.Lists.{if_then_else_, sum}
 use Rattle.taskfile.specs.Tables.{tasksOf, taskOf}
+use Rattle.timing.specs.Blocking.{blocking}
 
 -- ceil(n / d)
 unfoldable pub roundedUp : ℕ → ℕ → ℕ
@@ -27,9 +29,9 @@ tasksAbove t i = drop (suc (i .0)) (tasksOf t)
 unfoldable pub interference : List TaskEntry → ℕ → ℕ
 interference above R = sum (map (λ e. roundedUp R (e .period) * e .execution) above)
 
--- what task i needs beside that sum: "C_i"
+-- what task i needs beside the sum: "C_i + B_i"
 unfoldable pub need : Table → Task → ℕ
-need t i = taskOf t i .execution
+need t i = taskOf t i .execution + blocking t i
 
 -- the right-hand side of the response equation
 unfoldable pub demand : Table → Task → ℕ → ℕ

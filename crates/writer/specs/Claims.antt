@@ -13,7 +13,8 @@ use Rattle.taskfile.specs.declared.Site.the-variants.{AtHeader, AtTask, AtInstr
 use Rattle.taskfile.specs.declared.Table.{Table}
 use Rattle.taskfile.specs.declared.TaskEntry.{TaskEntry}
 use Rattle.taskfile.specs.Chains.{mostTasks, mostLocks, mostInstructions}
-use Rattle.taskfile.specs.Tables.{tasksOf, bodyOf, ceilingsOf, endInstruction, noTask}
+use Rattle.taskfile.specs.Tables.{tasksOf, bodyOf, ceilingsOf, holdingsOf, endInstruction, noTask}
+use Rattle.writer.specs.declared.Lock.{Lock}
 
 -- as many as the count says, and never more than one too many
 unfoldable pub claimed : {A : Type 0} → ℕ → List A → A → List A
@@ -25,8 +26,18 @@ claimedTasks t = claimed (t .tasks) (t .entries) noTask
 unfoldable pub claimedBody : TaskEntry → List Instruction
 claimedBody e = claimed (e .length) (e .body) endInstruction
 
-unfoldable pub claimedCeilings : Table → List ℕ
-claimedCeilings t = claimed (t .locks) (t .ceilings) 0
+-- the locks one by one: their ceilings and their holding times stand in two arrays
+unfoldable pub lockByLock : List ℕ → List ℕ → List Lock
+lockByLock [] holdings = []
+lockByLock (ceiling ∷ ceilings) [] = []
+lockByLock (ceiling ∷ ceilings) (holding ∷ holdings) =
+    record { ceiling = ceiling; holding = holding } ∷ lockByLock ceilings holdings
+
+abbrev pub noLock : Lock
+noLock = record { ceiling = 0; holding = 0 }
+
+unfoldable pub claimedLocks : Table → List Lock
+claimedLocks t = claimed (t .locks) (lockByLock (t .ceilings) (t .holdings)) noLock
 
 -- how many records tasks have with their bodies
 unfoldable pub recordTotal : List TaskEntry → ℕ
@@ -63,6 +74,7 @@ covered t =
       entries = padded mostTasks noTask (map coveredEntry (tasksOf t));
       locks = t .locks;
       ceilings = padded mostLocks 0 (ceilingsOf t);
+      holdings = padded mostLocks 0 (holdingsOf t);
     }
 
 -- what every lent slice of bytes is like
@@ -82,3 +94,5 @@ pub record Fits (t : Table) : Type 0 where
   pub entriesFull : length (t .entries) ≡ mostTasks
   pub entries : Every FitsEntry (t .entries)
   pub ceilings : length (t .ceilings) ≡ mostLocks
+  pub holdingsFull : length (t .holdings) ≡ mostLocks
+  pub holdings : Every (λ (h : ℕ). h < 2 ^ 32) (t .holdings)

@@ -17,7 +17,8 @@ use Rattle.taskfile.specs.Chains.{mostTasks, mostLocks, mostInstructions}
 use Rattle.taskfile.specs.Judgement.{numbered, judged}
 use Rattle.taskfile.specs.Records.{windowInRange, timesInRange, ceilingInRange, tidyInstruction, instructionInRange}
 use Rattle.timing.specs.Accepted.{Accepted, timed}
-use Rattle.writer.specs.Claims.{claimedTasks, claimedBody, claimedCeilings, covered, indexOf}
+use Rattle.writer.specs.declared.Lock.{Lock}
+use Rattle.writer.specs.Claims.{claimedTasks, claimedBody, claimedLocks, covered, indexOf}
 
 -- the instructions of task i from position p on: an instruction too many, then its operation and fields
 unfoldable pub bodyFields : ℕ → ℕ → List Instruction → Checked Site (Unit {0})
@@ -37,12 +38,12 @@ taskFields i (e ∷ others) = do
   bodyFields i 0 (claimedBody e)
   taskFields (suc i) others
 
--- the locks from lock l on: a lock too many, its ceiling
-unfoldable pub lockFields : ℕ → List ℕ → Checked Site (Unit {0})
+-- the locks from lock l on: a lock too many, its ceiling; any holding time will do
+unfoldable pub lockFields : ℕ → List Lock → Checked Site (Unit {0})
 lockFields l [] = passed tt
-lockFields l (ceiling ∷ others) = do
+lockFields l (lock ∷ others) = do
   require (ltb l mostLocks) 5 (AtLock l)
-  require (ceilingInRange ceiling) 4 (AtLock l)
+  require (ceilingInRange (lock .ceiling)) 4 (AtLock l)
   lockFields (suc l) others
 
 -- 4 and 5: the window, no tasks, each task followed by its body, the locks
@@ -51,7 +52,7 @@ fields t = do
   require (windowInRange (t .window)) 4 AtHeader
   require (not (eqb (t .tasks) 0)) 5 AtHeader
   taskFields 0 (claimedTasks t)
-  lockFields 0 (claimedCeilings t)
+  lockFields 0 (claimedLocks t)
 
 -- 4 and 5, then 7 to 9, then 10 and 11
 unfoldable pub judgedWhole : Table → Checked Site Accepted

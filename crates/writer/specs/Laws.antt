@@ -15,6 +15,7 @@ pub mod LaidTableLaws
 pub mod LaidTaskLaws
 pub mod LayoutLaws
 pub mod LayoutSizes
+pub mod LockLaws
 pub mod MemoryLaws
 pub mod MemoryReading
 pub mod MovedRecords

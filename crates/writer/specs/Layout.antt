@@ -9,7 +9,8 @@ use Rattle.taskfile.specs.declared.Instruction.{Instruction}
 use Rattle.taskfile.specs.declared.Table.{Table}
 use Rattle.taskfile.specs.declared.TaskEntry.{TaskEntry}
 use Rattle.taskfile.specs.Records.{File}
-use Rattle.writer.specs.Claims.{claimedTasks, claimedBody, claimedCeilings, locksAt}
+use Rattle.writer.specs.declared.Lock.{Lock}
+use Rattle.writer.specs.Claims.{claimedTasks, claimedBody, claimedLocks, locksAt}
 
 -- "Wide fields are unsigned 32-bit, low byte first."
 unfoldable pub wideBytes : ℕ → List ℕ
@@ -46,14 +47,15 @@ taskRecords r (e ∷ others) =
     ++ bodyRecords (suc r) (claimedBody e)
     ++ taskRecords (afterTask r e) others
 
--- "Kind 3, lock: byte 2 ceiling, 0 to 7; the rest zero."
-unfoldable pub lockRecord : ℕ → ℕ → List ℕ
-lockRecord ceiling next = 3 ∷ next ∷ ceiling ∷ replicate 13 0
+-- "Kind 3, lock: byte 2 ceiling, 0 to 7; the rest zero."; document 02, E4: "Lock bytes 4-7 become the longest holding
+-- time H"
+unfoldable pub lockRecord : Lock → ℕ → List ℕ
+lockRecord lock next = 3 ∷ next ∷ lock .ceiling ∷ 0 ∷ wideBytes (lock .holding) ++ replicate 8 0
 
 -- the locks' records from index r on
-unfoldable pub lockRecords : ℕ → List ℕ → File
+unfoldable pub lockRecords : ℕ → List Lock → File
 lockRecords r [] = []
-lockRecords r (ceiling ∷ others) = lockRecord ceiling (linkTo (suc r) others) ++ lockRecords (suc r) others
+lockRecords r (lock ∷ others) = lockRecord lock (linkTo (suc r) others) ++ lockRecords (suc r) others
 
 -- "Kind 1, header, record 0 only: byte 1 zero, byte 2 first task, byte 3 first lock (zero: no locks), 4-7 window W,
 -- 8-15 the initial values of shared variables 0 to 7."
@@ -63,6 +65,6 @@ headerRecord t firstTask firstLock = 1 ∷ 0 ∷ firstTask ∷ firstLock ∷ wid
 -- "header, each task followed by its body, then locks"
 unfoldable pub layout : Table → File
 layout t =
-    headerRecord t (linkTo 1 (claimedTasks t)) (linkTo (locksAt t) (claimedCeilings t))
+    headerRecord t (linkTo 1 (claimedTasks t)) (linkTo (locksAt t) (claimedLocks t))
     ++ taskRecords 1 (claimedTasks t)
-    ++ lockRecords (locksAt t) (claimedCeilings t)
+    ++ lockRecords (locksAt t) (claimedLocks t)

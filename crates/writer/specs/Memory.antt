@@ -1,8 +1,8 @@
--- A table in memory, as a caller of C lends it: 664 bytes, wide fields low byte first. Bytes 0 to 3 are the window,
+-- A table in memory, as a caller of C lends it: 696 bytes, wide fields low byte first. Bytes 0 to 3 are the window,
 -- 4 to 11 the store, 12 the number of tasks, 13 the number of locks, 16 to 23 the ceilings; from byte 24 on stand eight
 -- entries of 80 bytes: execution time, period and first arrival, 4 bytes each, byte 12 the number of instructions, and
--- from byte 16 on sixteen instructions of 4 bytes: operation, a, b, c. The other bytes are unused.
--- Any bytes are a table.
+-- from byte 16 on sixteen instructions of 4 bytes: operation, a, b, c. From byte 664 on stand eight holding times, 4
+-- bytes each (document 02, E4). The other bytes are unused. Any bytes are a table.
 -- Assumes nothing.
 use Prim.Native.Nat.{ℕ, _+_, _*_}
 use mathlib.Core.List.{List, [], _∷_, _++_, map}
@@ -14,7 +14,7 @@ use Rattle.taskfile.specs.declared.TaskEntry.{TaskEntry}
 use Rattle.writer.specs.Layout.{wideBytes}
 
 abbrev pub tableBytes : ℕ
-tableBytes = 664
+tableBytes = 696
 
 unfoldable pub byteIn : List ℕ → ℕ → ℕ
 byteIn memory at = getD memory at 0
@@ -23,7 +23,7 @@ unfoldable pub wideIn : List ℕ → ℕ → ℕ
 wideIn memory at =
     byteIn memory at + 256 * byteIn memory (at + 1) + 65536 * byteIn memory (at + 2) + 16777216 * byteIn memory (at + 3)
 
--- what stands at a byte of the memory: an instruction, an entry; and the whole table
+-- what stands at a byte of the memory: an instruction, an entry; the holding times; and the whole table
 unfoldable pub instructionIn : List ℕ → ℕ → Instruction
 instructionIn memory at =
     record {
@@ -43,6 +43,9 @@ entryIn memory at =
       body = map (λ p. instructionIn memory (at + 16 + 4 * p)) (upTo 16);
     }
 
+unfoldable pub holdingsIn : List ℕ → List ℕ
+holdingsIn memory = map (λ l. wideIn memory (664 + 4 * l)) (upTo 8)
+
 unfoldable pub tableIn : List ℕ → Table
 tableIn memory =
     record {
@@ -52,6 +55,7 @@ tableIn memory =
       entries = map (λ i. entryIn memory (24 + 80 * i)) (upTo 8);
       locks = byteIn memory 13;
       ceilings = bytesAt memory 16 8;
+      holdings = holdingsIn memory;
     }
 
 -- the bytes of an instruction, of an entry, and of the whole table; unused bytes are zero
@@ -73,3 +77,4 @@ memoryOf t =
     ++ (t .tasks ∷ t .locks ∷ 0 ∷ 0 ∷ [])
     ++ t .ceilings
     ++ each (t .entries) entryBytes
+    ++ each (t .holdings) wideBytes

@@ -7,7 +7,7 @@ use mathlib.Core.List.{List, map}
 use Rattle.taskfile.specs.declared.Instruction.{Instruction}
 use Rattle.taskfile.specs.declared.Table.{Table}
 use Rattle.taskfile.specs.declared.TaskEntry.{TaskEntry}
-use Rattle.taskfile.specs.Tables.{tasksOf, bodyOf, ceilingsOf}
+use Rattle.taskfile.specs.Tables.{tasksOf, bodyOf, ceilingsOf, holdingsOf}
 
 -- what a table says of one task: its times, and its body
 pub record TaskContents : Type 0 where
@@ -19,9 +19,10 @@ pub record TaskContents : Type 0 where
 unfoldable pub contentsOf : TaskEntry → TaskContents
 contentsOf e = record { execution = e .execution; period = e .period; arrival = e .arrival; body = bodyOf e }
 
--- they hold the same window, store, tasks and ceilings
+-- they hold the same window, store and tasks, and the same ceilings and holding times of locks
 pub record SameTable (t u : Table) : Type 0 where
   pub window : t .window ≡ u .window
   pub store : t .store ≡ u .store
   pub tasks : map contentsOf (tasksOf t) ≡ map contentsOf (tasksOf u)
   pub ceilings : ceilingsOf t ≡ ceilingsOf u
+  pub holdings : holdingsOf t ≡ holdingsOf u

@@ -7,6 +7,12 @@ pub struct WriteAnswer {
     pub length: u32,
 }
 
+// What a table says of one lock: its ceiling and its longest holding time.
+pub struct Lock {
+    pub ceiling: u8,
+    pub holding: u32,
+}
+
 // "a buffer of at least 2,320 bytes": 1 + 8 + 8 × 16 + 8 records.
 pub const FILE_ROOM: usize = 2320;
 
@@ -14,7 +20,7 @@ pub const FILE_ROOM: usize = 2320;
 pub const LAYOUT_ROOM: usize = 2752;
 
 // The bytes of a table in memory.
-pub const TABLE_ROOM: usize = 664;
+pub const TABLE_ROOM: usize = 696;
 
 // Where a table's parts stand in memory, by byte; bytes 14 and 15 are unused.
 pub const WINDOW: usize = 0;
@@ -29,6 +35,8 @@ pub const CEILINGS: usize = 16;
 
 pub const ENTRIES: usize = 24;
 
+pub const HOLDINGS: usize = 664;
+
 // The bytes of a task's entry, and where its parts stand in it; bytes 13 to 15 are unused.
 pub const ENTRY: usize = 80;
 
@@ -41,6 +49,9 @@ pub const ARRIVAL: usize = 8;
 pub const LENGTH: usize = 12;
 
 pub const BODY: usize = 16;
+
+// The bytes of a holding time.
+pub const HOLDING: usize = 4;
 
 // The bytes of an instruction, and where its parts stand in it.
 pub const INSTRUCTION: usize = 4;

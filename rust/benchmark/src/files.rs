@@ -2,11 +2,16 @@
 //! tables in memory.
 
 use crate::measure::{Entry, Input};
-use conformance::cases::{accepted, full_table, plan_of_x, table_x, ORDER_OF_X};
+use conformance::cases::{
+    accepted, full_holding_table, full_table, plan_of_x, table_x, ORDER_OF_X,
+};
 use conformance::orders::random_order;
+use conformance::waits::without_holding;
+use generator::holding::late_waits;
 use generator::hostile::{nearly_full, tasks_of, WIDEST};
-use generator::{Random, TableDescription};
+use generator::{late_by_holding, Random, TableDescription};
 use interpreter::conversion::order_to_plan;
+use interpreter::timing::accept;
 use std::cmp::Ordering;
 
 /// Whether a row's files are made to take long.
@@ -36,13 +41,16 @@ pub fn read_rows() -> Vec<Row> {
     let mut refused = full_table().write();
     refused.resize(256 * 16, 0);
     let largest = "145 records: 8 tasks of 16 instructions, 8 locks, 32 jobs";
+    let held = "145 records: 15 Acquires a body, holding times ascending";
     let mut rows = vec![
         plain("table X", Input::read(table_x().write())),
         plain(largest, Input::read(full_table().write())),
         plain("256 records: the same and 111 never reached", Input::read(refused)),
+        plain(held, Input::read(full_holding_table().write())),
     ];
     rows.extend(family_rows());
     rows.extend(heavy_tables().into_iter().map(heavy_row));
+    rows.extend(late_waits().into_iter().map(waiting_row));
     rows.extend(random_rows());
     rows
 }
@@ -175,11 +183,39 @@ fn heavy_tables() -> Vec<Vec<(u32, u32)>> {
 
 /// The row of a hostile table, named by its times.
 fn heavy_row(times: Vec<(u32, u32)>) -> Row {
+    let inputs = vec![Input::read(tasks_of(&times).write())];
+    Row { name: named(&times), inputs, kind: Kind::Other }
+}
+
+fn named(times: &[(u32, u32)]) -> String {
     let words: Vec<String> = times.iter().map(|(c, p)| format!("{c}/{p}")).collect();
-    Row {
-        name: format!("C/P {}", words.join(", ")),
-        inputs: vec![Input::read(tasks_of(&times).write())],
-        kind: Kind::Other,
+    format!("C/P {}", words.join(", "))
+}
+
+/// The row of a table that is accepted without its wait and refused by 10 with it.
+fn waiting_row(table: TableDescription) -> Row {
+    assert!(is_late_by_wait(&table), "{table:?}");
+    let times: Vec<(u32, u32)> =
+        table.tasks.iter().map(|task| (task.execution, task.period)).collect();
+    let (holding, ceiling) = (table.holdings[0], table.ceilings[0]);
+    let name = format!("{}; H {holding}, ceiling {ceiling}", named(&times));
+    Row { name, inputs: vec![Input::read(table.write())], kind: Kind::Other }
+}
+
+/// Whether a table is accepted without its holding times and refused with them.
+fn is_late_by_wait(table: &TableDescription) -> bool {
+    accept(&without_holding(table).write()).is_ok() && accept(&table.write()).is_err()
+}
+
+/// A nearly full table that is late by a wait alone.
+fn late_by_wait(random: &mut Random) -> TableDescription {
+    loop {
+        let table = late_by_holding(random);
+        let share = |c: u32, p: u32| f64::from(c) / f64::from(p);
+        let above = table.tasks[1..].iter().map(|task| share(task.execution, task.period));
+        if above.sum::<f64>() > 0.99 && is_late_by_wait(&table) {
+            return table;
+        }
     }
 }
 
@@ -195,6 +231,7 @@ fn random_rows() -> Vec<Row> {
         family("7 such tasks above 1/4294967295", 201, 200, seven_tasks),
         family("the same, as near to 1 as the last C/P allows", 202, 20, seven_tasks_nearest),
         family("up to 7 tasks, P up to 2^20, nearly full", 203, 60, nearly_full),
+        family("7 tasks, utilisation above 0.99, late by a wait alone", 205, 200, late_by_wait),
     ]
 }
 

@@ -204,8 +204,9 @@ fn runs_part(tables: &Tables) -> String {
 The family of hostile files is every choice of up to seven tasks with C 1 and a period of 1, 2, 3, 7,
 43 or 1807 above a task with C 1 and P 4,294,967,295. The other hostile files are chosen by hand or
 at random; none is known to be the slowest that there is. The lowest task stands first in a list of
-C/P. Of several tables the one that is slowest by the proved entry is shown; the interpreter may be
-slower on another.
+C/P; H is how long it holds a lock, whose ceiling says which tasks wait for it, and without that wait
+such a file is accepted. Of several tables the one that is slowest by the proved entry is shown; the
+interpreter may be slower on another.
 
 {reads}
 ## Replaying an order

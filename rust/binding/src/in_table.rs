@@ -1,7 +1,7 @@
 //! What a refusal says to the author of a table in memory, who knows its tasks and no records.
 
 use crate::refusal::{Refusal, Rule};
-use crate::table::{Instruction, Site, Table};
+use crate::table::{Instruction, Site, Table, TaskEntry};
 use crate::words::MOST_TASKS;
 use std::fmt;
 
@@ -41,10 +41,7 @@ impl InTable<'_> {
             (Rule::Body, Site::Instruction { task, position }) => self.body(task, position),
             (Rule::Rate, Site::Task(task)) => self.rate(task)?,
             (Rule::Ceiling, Site::Instruction { task, position }) => self.ceiling(task, position),
-            (Rule::Overload, Site::Task(task)) => {
-                let period = self.table.tasks[task].period;
-                format!("there is no response time within the period {period}")
-            }
+            (Rule::Overload, Site::Task(task)) => self.overload(task),
             _ => return None,
         };
         Some((rule, site, says))
@@ -86,6 +83,16 @@ impl InTable<'_> {
         let previous = self.table.tasks[task.checked_sub(1)?].period;
         let period = self.table.tasks[task].period;
         Some(format!("the period {period} is above the previous task's {previous}"))
+    }
+
+    /// What the equation counts of the task itself: C and B.
+    fn overload(&self, task: usize) -> String {
+        let TaskEntry { execution, period, .. } = self.table.tasks[task];
+        let blocking = self.table.blocking(task);
+        format!(
+            "with C {execution} and B {blocking}, its wait for a lower task's lock, \
+             there is no response time within the period {period}"
+        )
     }
 
     fn ceiling(&self, task: usize, position: usize) -> String {

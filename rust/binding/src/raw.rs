@@ -313,7 +313,7 @@ pub fn table_words(file: &[u8], table: &mut [u8], answer: &mut [u64]) -> bool {
     }
 }
 
-/// Fills a table in memory, the first 664 bytes that are lent; a refusal leaves them.
+/// Fills a table in memory, the first 696 bytes that are lent; a refusal leaves them.
 pub fn table(file: &[u8], table: &mut [u8]) -> WriteAnswer {
     let mut words = [0; TABLE_WORDS];
     let room = table_words(file, table, &mut words);
@@ -322,7 +322,7 @@ pub fn table(file: &[u8], table: &mut [u8]) -> WriteAnswer {
 }
 
 /// Writes the file of a table in memory into a lent buffer, and lent words. False, and neither
-/// changed, if there is no room for 3 words or the table has fewer than 664 bytes.
+/// changed, if there is no room for 3 words or the table has fewer than 696 bytes.
 pub fn write_words(table: &[u8], file: &mut [u8], answer: &mut [u64]) -> bool {
     // SAFETY: as for the walk, with the table for the file and the file for the order.
     unsafe {

@@ -85,13 +85,14 @@ const ENTRIES: [Entry; 24] = [
         "acquires or releases a lock that is not in the table, \
          or acquires one with a ceiling below the task's base"),
     (Rule::Overload, "OVERLOAD", Place::Record,
-        "is the lowest task without a response time within its period"),
+        "is the lowest task without a response time within its period, \
+         the wait for a lower task's lock counted"),
     (Rule::Jobs, "JOBS", Place::Nowhere,
         "the table has more than 32 jobs"),
     (Rule::Room, "ROOM", Place::Nowhere,
         "the lent memory is too short: \
          an order needs 512 bytes, a plan 1,281 bytes, a job list 32 records, \
-         a sheet 4,608 bytes, a table 664 bytes, a file 2,320 bytes"),
+         a sheet 4,608 bytes, a table 696 bytes, a file 2,320 bytes"),
     (Rule::Undecided, "UNDECIDED", Place::Nowhere,
         "the walk's count exceeds the allowance"),
     (Rule::Step, "STEP", Place::Step,

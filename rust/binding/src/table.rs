@@ -31,6 +31,8 @@ pub struct Table {
     pub tasks: Vec<TaskEntry>,
     /// Of each lock.
     pub ceilings: Vec<u8>,
+    /// The longest holding time of each lock; of one without an entry it is 0.
+    pub holdings: Vec<u32>,
 }
 
 /// What a record of a table's file is. All counts start at 0.
@@ -48,6 +50,7 @@ const TASKS: usize = 12;
 const LOCKS: usize = 13;
 const CEILINGS: usize = 16;
 const ENTRIES: usize = 24;
+const HOLDINGS: usize = 664;
 
 /// A task's entry: how many bytes it has, and where its parts are.
 const ENTRY: usize = 80;
@@ -57,6 +60,9 @@ const LENGTH: usize = 12;
 const BODY: usize = 16;
 /// An instruction has as many bytes as a wide field.
 const WIDE: usize = 4;
+
+/// The operation that names a lock to wait for.
+const ACQUIRE: u8 = 9;
 
 /// A count's byte. A count that it cannot hold is far above every limit, as 255 is.
 fn count(parts: usize) -> u8 {
@@ -75,6 +81,11 @@ fn get<const LONG: usize>(bytes: &[u8], at: usize) -> [u8; LONG] {
 
 fn wide(bytes: &[u8], at: usize) -> u32 {
     u32::from_le_bytes(get(bytes, at))
+}
+
+/// Where a lock's holding time is.
+fn holding_at(lock: usize) -> usize {
+    HOLDINGS + WIDE * lock
 }
 
 impl TaskEntry {
@@ -114,22 +125,40 @@ impl Table {
         bytes[TASKS] = count(self.tasks.len());
         bytes[LOCKS] = count(self.ceilings.len());
         put(&mut bytes, CEILINGS, &self.ceilings[..self.ceilings.len().min(MOST_LOCKS)]);
-        for (task, entry) in self.tasks.iter().zip(bytes[ENTRIES..].chunks_mut(ENTRY)) {
+        for (task, entry) in self.tasks.iter().zip(bytes[ENTRIES..HOLDINGS].chunks_mut(ENTRY)) {
             task.write(entry);
+        }
+        let locks = self.ceilings.len();
+        for (lock, holding) in self.holdings.iter().take(locks.min(MOST_LOCKS)).enumerate() {
+            put(&mut bytes, holding_at(lock), &holding.to_le_bytes());
         }
         bytes
     }
 
     /// The table of an accepted file, whose counts are within their limits.
     pub(crate) fn from_bytes(bytes: &[u8; TABLE_ROOM]) -> Table {
-        let entries = bytes[ENTRIES..].chunks(ENTRY).take(bytes[TASKS].into());
+        let entries = bytes[ENTRIES..HOLDINGS].chunks(ENTRY).take(bytes[TASKS].into());
         let ceilings = bytes[CEILINGS..][..MOST_LOCKS].iter().take(bytes[LOCKS].into());
+        let holdings = (0..MOST_LOCKS).map(holding_at).take(bytes[LOCKS].into());
         Table {
             window: wide(bytes, 0),
             store: get(bytes, STORE),
             tasks: entries.map(TaskEntry::read).collect(),
             ceilings: ceilings.copied().collect(),
+            holdings: holdings.map(|place| wide(bytes, place)).collect(),
         }
+    }
+
+    /// B of a task: the longest time that it waits for a lower task to release a lock.
+    pub fn blocking(&self, task: usize) -> u32 {
+        let below = self.tasks.iter().take(task).flat_map(|task| &task.body);
+        let acquires = below.filter(|instruction| instruction.operation == ACQUIRE);
+        let holding = |instruction: &Instruction| {
+            let lock = usize::from(instruction.a);
+            let reaches = usize::from(*self.ceilings.get(lock)?) >= task;
+            self.holdings.get(lock).copied().filter(|_| reaches)
+        };
+        acquires.filter_map(holding).max().unwrap_or(0)
     }
 
     /// What the record at an index of the table's file is or would be; none past the last.
@@ -167,6 +196,7 @@ impl fmt::Display for Site {
     }
 }
 
-/// Entries fill what the counts and the ceilings leave.
-const _: () = assert!(ENTRIES + MOST_TASKS * ENTRY == TABLE_ROOM);
+/// Entries and holding times fill what the counts and the ceilings leave.
+const _: () = assert!(ENTRIES + MOST_TASKS * ENTRY == HOLDINGS);
+const _: () = assert!(HOLDINGS + MOST_LOCKS * WIDE == TABLE_ROOM);
 const _: () = assert!(BODY + MOST_INSTRUCTIONS * WIDE == ENTRY);

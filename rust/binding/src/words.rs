@@ -16,7 +16,7 @@ pub const ORDER_ROOM: usize = 512;
 pub const PLAN_ROOM: usize = 1281;
 pub const JOB_LIST_ROOM: usize = 32;
 pub const SHEET_ROOM: usize = 4608;
-pub const TABLE_ROOM: usize = 664;
+pub const TABLE_ROOM: usize = 696;
 pub const FILE_ROOM: usize = 2320;
 
 /// The allowance of a sheet's walk.

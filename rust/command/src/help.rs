@@ -37,7 +37,8 @@ its plan. The walk has an allowance of 1,000,000 moves.
 const READ: &str = "\
 adqurim read FILE
 
-Prints the totals, and each task's response time and jobs.
+Prints the totals, and each task's response time and jobs. A response time counts the longest wait
+for a lower task's lock.
 ";
 
 const JOBS: &str = "\

@@ -69,6 +69,17 @@ pub fn full_table() -> TableDescription {
     table
 }
 
+/// The largest table with as many Acquires as its bodies have room for, of locks whose holding times
+/// grow from one to the next: each of them may be the longest wait.
+pub fn full_holding_table() -> TableDescription {
+    let acquires = (0..15).map(|position| code::acquire(position % 8));
+    let body: Vec<InstructionDescription> = acquires.chain([code::end()]).collect();
+    let mut table = full_table();
+    table.tasks.iter_mut().for_each(|task| task.body = body.clone());
+    table.holdings = (1..=8).collect();
+    table
+}
+
 /// A file with some of its bytes replaced.
 pub fn edited(file: &[u8], edits: &[(usize, u8)]) -> Vec<u8> {
     let mut bytes = file.to_vec();

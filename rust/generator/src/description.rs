@@ -27,6 +27,8 @@ pub struct TableDescription {
     pub initial_store: [u8; 8],
     pub tasks: Vec<TaskDescription>,
     pub ceilings: Vec<u8>,
+    /// The longest holding time of each lock; of one without an entry it is 0.
+    pub holdings: Vec<u32>,
 }
 
 /// The operations by name, each with the fields it uses.
@@ -85,7 +87,13 @@ impl TaskDescription {
 impl TableDescription {
     /// A table without locks whose store is all zero.
     pub fn new(window: u32, tasks: Vec<TaskDescription>) -> TableDescription {
-        TableDescription { window, initial_store: [0; 8], tasks, ceilings: Vec::new() }
+        let (ceilings, holdings) = (Vec::new(), Vec::new());
+        TableDescription { window, initial_store: [0; 8], tasks, ceilings, holdings }
+    }
+
+    /// The longest holding time of a lock.
+    pub fn holding(&self, lock: usize) -> u32 {
+        self.holdings.get(lock).copied().unwrap_or(0)
     }
 
     /// How many records the file has.
@@ -149,6 +157,7 @@ impl TableDescription {
             let next = (number + 1 < self.ceilings.len()).then_some(records.len() + 1);
             let mut bytes = [0; 16];
             bytes[..3].copy_from_slice(&[3, 0, *ceiling]);
+            bytes[4..8].copy_from_slice(&self.holding(number).to_le_bytes());
             records.push((bytes, next, None));
         }
         records

@@ -4,6 +4,7 @@
 
 pub mod description;
 pub mod files;
+pub mod holding;
 pub mod hostile;
 pub mod memory;
 pub mod nesting;
@@ -11,6 +12,7 @@ pub mod random;
 pub mod tables;
 
 pub use description::{code, InstructionDescription, TableDescription, TaskDescription};
+pub use holding::{full_with_holding, late_by_holding, random_holding, random_long_hold};
 pub use nesting::{random_deep_locks, random_nested_locks};
 pub use random::Random;
 pub use tables::{random_nest, random_race, random_table, Sizes};

@@ -1,12 +1,13 @@
-//! Tables in memory, good and bad: 664 bytes as the C interface lays them out.
+//! Tables in memory, good and bad: 696 bytes as the C interface lays them out.
 
 use crate::description::{code, InstructionDescription, TableDescription, TaskDescription};
+use crate::holding::hold;
 use crate::hostile::{nearly_full, WIDEST};
 use crate::random::Random;
 use crate::tables::{random_nest, random_race, random_table, Sizes};
 
 /// How many bytes a table in memory has.
-pub const TABLE_ROOM: usize = 664;
+pub const TABLE_ROOM: usize = 696;
 /// A table in memory.
 pub type Memory = [u8; TABLE_ROOM];
 
@@ -33,6 +34,11 @@ pub fn instruction_at(task: usize, position: usize) -> usize {
     entry_at(task) + 16 + 4 * position
 }
 
+/// Where a lock's holding time is.
+pub fn holding_at(lock: usize) -> usize {
+    entry_at(MOST_TASKS) + 4 * lock
+}
+
 /// A count's byte; 255 for what it cannot hold.
 fn count(parts: usize) -> u8 {
     parts.min(255) as u8
@@ -52,7 +58,11 @@ impl TableDescription {
         put(&mut memory, 4, &self.initial_store);
         memory[TASKS] = count(self.tasks.len());
         memory[LOCKS] = count(self.ceilings.len());
-        put(&mut memory, CEILINGS, &self.ceilings[..self.ceilings.len().min(MOST_LOCKS)]);
+        let locks = self.ceilings.len().min(MOST_LOCKS);
+        put(&mut memory, CEILINGS, &self.ceilings[..locks]);
+        for lock in 0..locks {
+            put(&mut memory, holding_at(lock), &self.holding(lock).to_le_bytes());
+        }
         for (number, task) in self.tasks.iter().take(MOST_TASKS).enumerate() {
             let times = [task.execution, task.period, task.first_arrival];
             put(&mut memory, entry_at(number), &times.map(u32::to_le_bytes).concat());
@@ -72,7 +82,8 @@ pub fn litter(random: &mut Random, memory: &mut Memory) {
     let mut free = vec![
         LOCKS + 1..CEILINGS,
         CEILINGS + locks.min(MOST_LOCKS)..CEILINGS + MOST_LOCKS,
-        entry_at(tasks.min(MOST_TASKS))..TABLE_ROOM,
+        entry_at(tasks.min(MOST_TASKS))..entry_at(MOST_TASKS),
+        holding_at(locks.min(MOST_LOCKS))..TABLE_ROOM,
     ];
     for task in 0..tasks.min(MOST_TASKS) {
         let length = usize::from(memory[length_at(task)]).min(MOST_INSTRUCTIONS);
@@ -113,9 +124,12 @@ fn light(random: &mut Random) -> TableDescription {
     table
 }
 
-/// Tables that are mostly accepted.
+/// Tables that are mostly accepted, half of them with holding times.
 pub fn good(random: &mut Random) -> Memory {
-    let table = if random.chance(1, 2) { light(random) } else { drawn(random) };
+    let mut table = if random.chance(1, 2) { light(random) } else { drawn(random) };
+    if random.chance(1, 2) {
+        hold(random, &mut table);
+    }
     kept(random, &table)
 }
 
@@ -200,13 +214,14 @@ fn time(random: &mut Random) -> u32 {
 pub fn wrong_times(random: &mut Random) -> Memory {
     let mut table = light(random);
     let task = random.index(table.tasks.len());
-    match random.between(0, 6) {
+    match random.between(0, 7) {
         0 => table.window = time(random),
         1 => table.tasks[task].execution = time(random),
         2 => table.tasks[task].period = time(random),
         3 => table.tasks[task].first_arrival = time(random),
         4 => table.tasks.iter_mut().for_each(|task| task.execution = time(random)),
         5 => table.tasks.iter_mut().for_each(|task| task.period = time(random)),
+        6 => table.holdings = table.ceilings.iter().map(|_| time(random)).collect(),
         _ => table.ceilings.iter_mut().for_each(|ceiling| *ceiling = near(random)),
     }
     kept(random, &table)
@@ -267,6 +282,9 @@ pub fn random_bytes(random: &mut Random) -> Memory {
     memory[TASKS] = random.between(0, 9) as u8;
     memory[LOCKS] = random.between(0, 9) as u8;
     memory[CEILINGS..][..MOST_LOCKS].iter_mut().for_each(|c| *c = random.between(4, 8) as u8);
+    for lock in 0..MOST_LOCKS {
+        memory[holding_at(lock)] = random.between(0, 99) as u8;
+    }
     for task in 0..MOST_TASKS {
         let times = [random.between(0, 3) as u8, 0, 0, 0, random.between(1, 99) as u8];
         put(&mut memory, entry_at(task), &times);

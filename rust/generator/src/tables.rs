@@ -98,7 +98,8 @@ fn draft(random: &mut Random, sizes: &Sizes) -> TableDescription {
     }
     // Mostly not zero, so that assertions on variables hold until a job stores a zero.
     let initial_store = std::array::from_fn(|_| [0, 1, 1, 1, 2][random.index(5)]);
-    TableDescription { window: window as u32, initial_store, tasks, ceilings }
+    let (window, holdings) = (window as u32, Vec::new());
+    TableDescription { window, initial_store, tasks, ceilings, holdings }
 }
 
 /// A body whose skips stay within it and whose last instruction is End.

@@ -197,7 +197,7 @@ fn write_front(buffer: &mut [u8], bytes: &[u8]) -> WriteAnswer {
     WriteAnswer { number: 0, place: 0, length: bytes.len() }
 }
 
-/// Fills a table in memory from a file: 1 to 11, then 20 for memory below 664 bytes.
+/// Fills a table in memory from a file: 1 to 11, then 20 for memory below 696 bytes.
 pub fn table(file: &[u8], memory: &mut [u8]) -> WriteAnswer {
     let accepted = accept_with_room(file, memory.len(), TABLE_ROOM);
     let bytes = accepted.map(|accepted| TaskTable::of(&accepted.table).to_bytes());

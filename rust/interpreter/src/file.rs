@@ -19,6 +19,8 @@ pub struct Table {
     pub tasks: Vec<Task>,
     /// The ceiling of each lock.
     pub ceilings: Vec<u8>,
+    /// The longest holding time H of each lock.
+    pub holdings: Vec<u64>,
 }
 
 /// A task record and its body.
@@ -92,12 +94,12 @@ pub fn read_table(file: &[u8]) -> Result<Table, Refusal> {
     let mut reader = Reader::open(file)?;
     let header = read_header(&mut reader)?;
     let tasks = read_tasks(&mut reader, header[2])?;
-    let ceilings = read_locks(&mut reader, header[3])?;
+    let (ceilings, holdings) = read_locks(&mut reader, header[3])?;
     check_stray(&reader)?;
     check_rules(&tasks, &ceilings)?;
     let mut initial_store = [0; 8];
     initial_store.copy_from_slice(&header[8..16]);
-    Ok(Table { window: wide(header, 4), initial_store, tasks, ceilings })
+    Ok(Table { window: wide(header, 4), initial_store, tasks, ceilings, holdings })
 }
 
 /// "Kind 1, header, record 0 only: byte 1 zero, ... window W (at least 1)".
@@ -158,19 +160,22 @@ fn read_body(reader: &mut Reader, task: usize, first: u8) -> Result<Vec<BodyInst
     Ok(body)
 }
 
-/// "Kind 3, lock: byte 2 ceiling, 0 to 7; the rest zero." Zero in the header means no locks.
-fn read_locks(reader: &mut Reader, first: u8) -> Result<Vec<u8>, Refusal> {
-    let mut ceilings = Vec::new();
+/// "Kind 3, lock: byte 2 ceiling, 0 to 7; the rest zero." 02, E4: "Lock bytes 4-7 become the
+/// longest holding time H, no longer unused bytes." Zero in the header means no locks. Gives the
+/// ceiling and the holding time of each.
+fn read_locks(reader: &mut Reader, first: u8) -> Result<(Vec<u8>, Vec<u64>), Refusal> {
+    let (mut ceilings, mut holdings) = (Vec::new(), Vec::new());
     let (mut holder, mut index) = (0, first);
     while index != 0 {
         holder = reader.follow(holder, index, ceilings.len() == MOST_LOCKS, 3)?;
         let bytes = reader.record(holder);
-        let rest_zero = bytes[3..].iter().all(|byte| *byte == 0);
+        let rest_zero = bytes[3] == 0 && bytes[8..].iter().all(|byte| *byte == 0);
         demand_field(bytes[2] <= 7 && rest_zero, holder)?;
         ceilings.push(bytes[2]);
+        holdings.push(wide(bytes, 4));
         index = bytes[1];
     }
-    Ok(ceilings)
+    Ok((ceilings, holdings))
 }
 
 /// Number 6: "lowest record never reached."

@@ -1,4 +1,4 @@
-//! An interpreter of document 01, as E1 to E3 of document 02 change it. It is written from their
+//! An interpreter of document 01, as E1 to E4 of document 02 change it. It is written from their
 //! texts alone and used as a second opinion in tests.
 //!
 //! One module renders one section of document 01; [`memory`] and [`writer`] render E2. The entries,

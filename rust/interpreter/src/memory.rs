@@ -1,11 +1,11 @@
 //! The table in memory of E2 in document 02, which leaves its form to the C interface: counts, and
-//! room for as many parts as document 01 allows, in 664 bytes.
+//! room for as many parts as document 01 allows, in 696 bytes.
 
 use crate::file::{wide, Table, Task, MOST_INSTRUCTIONS, MOST_LOCKS, MOST_TASKS};
 use crate::machine::{encode, Store};
 
 /// How many bytes a table in memory has.
-pub const TABLE_ROOM: usize = ENTRIES + MOST_TASKS * ENTRY;
+pub const TABLE_ROOM: usize = HOLDINGS + MOST_LOCKS * 4;
 
 /// Where the parts of the table are.
 const STORE: usize = 4;
@@ -13,6 +13,7 @@ const TASKS: usize = 12;
 const LOCKS: usize = 13;
 const CEILINGS: usize = 16;
 const ENTRIES: usize = 24;
+const HOLDINGS: usize = ENTRIES + MOST_TASKS * ENTRY;
 
 /// How many bytes a task's entry has, and where its parts are.
 const ENTRY: usize = 80;
@@ -32,6 +33,8 @@ pub struct TaskTable {
     pub locks: u8,
     pub ceilings: [u8; MOST_LOCKS],
     pub entries: [TaskEntry; MOST_TASKS],
+    /// The longest holding time of each lock.
+    pub holdings: [u64; MOST_LOCKS],
 }
 
 /// A task's times and its body.
@@ -91,7 +94,7 @@ impl TaskEntry {
 }
 
 impl TaskTable {
-    /// The table that any 664 bytes hold. Unused bytes are not looked at.
+    /// The table that any 696 bytes hold. Unused bytes are not looked at.
     pub fn from_bytes(bytes: &[u8; TABLE_ROOM]) -> TaskTable {
         let entry = |number| TaskEntry::from_bytes(&bytes[ENTRIES + ENTRY * number..][..ENTRY]);
         TaskTable {
@@ -101,6 +104,7 @@ impl TaskTable {
             locks: bytes[LOCKS],
             ceilings: part(bytes, CEILINGS),
             entries: std::array::from_fn(entry),
+            holdings: std::array::from_fn(|lock| wide(bytes, HOLDINGS + 4 * lock)),
         }
     }
 
@@ -115,6 +119,7 @@ impl TaskTable {
         for (entry, bytes) in self.entries.iter().zip(bytes[ENTRIES..].chunks_mut(ENTRY)) {
             entry.write(bytes);
         }
+        bytes[HOLDINGS..].copy_from_slice(&self.holdings.map(narrow).concat());
         bytes
     }
 
@@ -128,6 +133,7 @@ impl TaskTable {
             ..TaskTable::default()
         };
         memory.ceilings[..table.ceilings.len()].copy_from_slice(&table.ceilings);
+        memory.holdings[..table.holdings.len()].copy_from_slice(&table.holdings);
         for (entry, task) in memory.entries.iter_mut().zip(&table.tasks) {
             *entry = TaskEntry::of(task);
         }

@@ -1,6 +1,7 @@
 //! The section "Response times and jobs", with numbers 10 and 11.
 
 use crate::file::{read_table, Table, Task};
+use crate::machine::Instruction;
 use crate::numbers::{refuse, JobNumber, Refusal, TaskNumber};
 
 /// "at most 32 jobs"
@@ -31,22 +32,23 @@ pub fn accept(file: &[u8]) -> Result<Accepted, Refusal> {
 
 /// Numbers 10 and 11, for a table that earned none before them.
 pub fn accept_table(table: Table) -> Result<Accepted, Refusal> {
-    let response_times = response_times(&table.tasks)?;
+    let response_times = response_times(&table)?;
     let jobs = jobs(&table, &response_times)?;
     Ok(Accepted { table, response_times, jobs })
 }
 
 /// "A table needs R ≤ P_i for every task"; number 10: "no R ≤ P; the lowest such task's record."
-fn response_times(tasks: &[Task]) -> Result<Vec<u64>, Refusal> {
+fn response_times(table: &Table) -> Result<Vec<u64>, Refusal> {
+    let tasks = &table.tasks;
     let mut found: Vec<Option<u64>> = vec![None; tasks.len()];
-    for number in (0..tasks.len()).rev() {
-        let (task, above) = (&tasks[number], &tasks[number + 1..]);
-        let above_fits = found[number + 1..].iter().all(Option::is_some);
-        found[number] = if above_fits {
-            least_by_points(task.execution, above, task.period)
-        } else {
-            least_by_growth(task.execution, above, task.period)
-        };
+    // Whether each task above would fit if none waited for a lock: the points ask no more.
+    let mut above_fits = true;
+    for (number, task) in tasks.iter().enumerate().rev() {
+        let above = &tasks[number + 1..];
+        let least = if above_fits { least_by_points } else { least_by_growth };
+        found[number] = least(task.execution + blocking(table, number), above, task.period);
+        let fits = || least(task.execution, above, task.period).is_some();
+        above_fits = above_fits && (found[number].is_some() || fits());
     }
     match found.iter().position(Option::is_none) {
         Some(number) => refuse(10, tasks[number].record),
@@ -54,20 +56,34 @@ fn response_times(tasks: &[Task]) -> Result<Vec<u64>, Refusal> {
     }
 }
 
-/// The right side of "R = C_i + the sum over k > i of ceil(R / P_k) times C_k". At most
-/// C_i plus the sum of R + P_k, since C_k ≤ P_k, so 64 bits hold it.
-pub fn right_side(execution: u64, above: &[Task], time: u64) -> u64 {
-    execution + above.iter().map(|task| time.div_ceil(task.period) * task.execution).sum::<u64>()
+/// 02, E4: "B_i is the largest H among locks with ceiling at least i that an Acquire in the body of
+/// some task below i names, 0 if none". Such a lock is in the table, by number 9.
+pub fn blocking(table: &Table, task: usize) -> u64 {
+    let below = table.tasks[..task].iter().flat_map(|task| &task.body);
+    let named = below.filter_map(|placed| match placed.instruction {
+        Instruction::Acquire { lock } => Some(lock),
+        _ => None,
+    });
+    let reaches = |lock: &usize| usize::from(table.ceilings[*lock]) >= task;
+    named.filter(reaches).map(|lock| table.holdings[lock]).max().unwrap_or(0)
 }
 
-/// The smallest R ≤ `limit`, when each task above has a response time within its period.
+/// The right side of "R = C_i + B_i + the same sum", which is that "over k > i of ceil(R / P_k)
+/// times C_k"; `own` is C_i + B_i. At most that plus the sum of R + P_k, since C_k ≤ P_k, so 64 bits
+/// hold it.
+pub fn right_side(own: u64, above: &[Task], time: u64) -> u64 {
+    own + above.iter().map(|task| time.div_ceil(task.period) * task.execution).sum::<u64>()
+}
+
+/// The smallest R ≤ `limit`, when each task above has a response time within its period, were it
+/// not to wait for a lock.
 ///
 /// Going from R to R + 1 raises the left side by 1 and never lowers the right side. So the smallest
 /// solution is the smallest time at or above its right side, and "there is such a time ≤ D" grows
 /// with D: bisect on D.
-pub fn least_by_points(execution: u64, above: &[Task], limit: u64) -> Option<u64> {
+pub fn least_by_points(own: u64, above: &[Task], limit: u64) -> Option<u64> {
     let within = |bound| some_point(above, bound, &|time| {
-        time > 0 && right_side(execution, above, time) <= time
+        time > 0 && right_side(own, above, time) <= time
     });
     if !within(limit) {
         return None;
@@ -85,9 +101,10 @@ pub fn least_by_points(execution: u64, above: &[Task], limit: u64) -> Option<u64
 }
 
 /// Tries the scheduling points of a bound (Bini and Buttazzo): the bound itself, and for each task
-/// the last multiple of its period, the lowest task first. If each task above has a response time
-/// within its period, time − right side is largest over 0 to the bound at one of these points:
-/// in each whole period of a task the tasks above it leave at least its execution time free.
+/// the last multiple of its period, the lowest task first. If each task above would have a response
+/// time within its period without waiting for locks, time − right side is largest over 0 to the
+/// bound at one of these points: in each whole period of a task the tasks above it leave at least
+/// its execution time free. What a task waits for is no part of the right side of those below.
 fn some_point(above: &[Task], bound: u64, test: &dyn Fn(u64) -> bool) -> bool {
     match above.split_first() {
         None => test(bound),
@@ -104,7 +121,7 @@ fn some_point(above: &[Task], bound: u64, test: &dyn Fn(u64) -> bool) -> bool {
 /// for the tasks outside F and R / P for those in F. Solved for R this is the next bound. For F take
 /// the tasks with the shortest periods, as many as gives most. When nothing grows, the empty F says
 /// that the time is at or above its right side. Rates are rounded down, which keeps lower bounds.
-pub fn least_by_growth(execution: u64, above: &[Task], limit: u64) -> Option<u64> {
+pub fn least_by_growth(own: u64, above: &[Task], limit: u64) -> Option<u64> {
     let free: Vec<u128> = (0..=above.len()).map(|counted| free_share(&above[counted..])).collect();
     if free.contains(&0) {
         return None;
@@ -113,7 +130,7 @@ pub fn least_by_growth(execution: u64, above: &[Task], limit: u64) -> Option<u64
     loop {
         let mut grown = time;
         for (counted, free) in free.iter().enumerate() {
-            let work = right_side(execution, &above[..counted], time) as u128;
+            let work = right_side(own, &above[..counted], time) as u128;
             let bound = (work * WHOLE).div_ceil(*free);
             if bound > limit as u128 {
                 return None;

@@ -30,7 +30,10 @@ fn walk_memory(memory: &TaskTable) -> Result<Table, Refusal> {
         record += 1 + usize::from(entry.length);
     }
     let ceilings = walk_locks(memory, record)?;
-    Ok(Table { window: memory.window, initial_store: memory.initial_store, tasks, ceilings })
+    // Any holding time is in range.
+    let holdings = memory.holdings[..ceilings.len()].to_vec();
+    let (window, initial_store) = (memory.window, memory.initial_store);
+    Ok(Table { window, initial_store, tasks, ceilings, holdings })
 }
 
 /// A task and its body: "1 ≤ C ≤ P", then "an empty body (place: the holder)".
@@ -78,9 +81,9 @@ pub fn lay_out(table: &Table) -> Vec<u8> {
             records.push(record(&[4, next as u8, operation, a, b, c]));
         }
     }
-    for (number, ceiling) in table.ceilings.iter().enumerate() {
+    for (number, (ceiling, holding)) in table.ceilings.iter().zip(&table.holdings).enumerate() {
         let next = if number + 1 == table.ceilings.len() { 0 } else { records.len() + 1 };
-        records.push(record(&[3, next as u8, *ceiling]));
+        records.push(record(&[&[3, next as u8, *ceiling, 0], &narrow(*holding)[..]].concat()));
     }
     records.concat()
 }

@@ -34,6 +34,7 @@ pub fn all() -> Vec<Sample> {
         Sample { name: "nested-lock", table: tables::nested_lock() },
         Sample { name: "half-changed-lane", table: tables::half_changed_lane() },
         Sample { name: "lane-kept-apart", table: tables::lane_kept_apart() },
+        Sample { name: "long-hold", table: tables::long_hold() },
         Sample { name: "slow-sorter", table: tables::slow_sorter() },
         Sample { name: "too-many-orders", table: tables::too_many_orders() },
     ]

@@ -12,6 +12,8 @@ const SCANNED: u8 = 1;
 const EXIT: u8 = 0;
 const GATE: u8 = 1;
 const SENT_TO: u8 = 2;
+/// What the lane list says of the exit.
+const LISTED: u8 = 3;
 
 /// The only lock of a table.
 const LANE_LOCK: u8 = 0;
@@ -100,7 +102,12 @@ fn under_lock(read_count: &[InstructionDescription]) -> TableDescription {
 
 /// Gives the lane another exit: first the lane's data, then its gate.
 fn change_lane() -> Vec<InstructionDescription> {
-    vec![set(LANE_EXIT, NEW_EXIT), store(EXIT, LANE_EXIT), store(GATE, LANE_EXIT), end()]
+    vec![set(LANE_EXIT, NEW_EXIT), store(EXIT, LANE_EXIT), store(GATE, LANE_EXIT)]
+}
+
+/// Puts the lane's exit into the lane list.
+fn list_lane() -> Vec<InstructionDescription> {
+    vec![load(LANE_EXIT, EXIT), store(LISTED, LANE_EXIT)]
 }
 
 /// Sends a parcel to the lane's exit, where the gate has to be set to the same one.
@@ -118,10 +125,14 @@ fn divert() -> Vec<InstructionDescription> {
 /// A lane change below a divert task with this period; both come at once, the divert task first.
 fn change_and_divert(divert_period: u32) -> TableDescription {
     let tasks = vec![
-        TaskDescription::new([20, 120, 0], &change_lane()),
+        TaskDescription::new([20, 120, 0], &[change_lane(), vec![end()]].concat()),
         TaskDescription::new([10, divert_period, 0], &divert()),
     ];
-    let mut table = TableDescription::new(120, tasks);
+    before_change(TableDescription::new(120, tasks))
+}
+
+/// The table with the lane's data and its gate at the old exit.
+fn before_change(mut table: TableDescription) -> TableDescription {
     table.initial_store[EXIT as usize] = OLD_EXIT;
     table.initial_store[GATE as usize] = OLD_EXIT;
     table
@@ -135,6 +146,21 @@ pub fn half_changed_lane() -> TableDescription {
 /// The lane change takes at most 30 ms, and the divert task comes again after 40.
 pub fn lane_kept_apart() -> TableDescription {
     change_and_divert(40)
+}
+
+/// A slow lane list below a lane change, both under the lane's lock, and the divert task above them.
+/// The list may hold the lock for 20 ms. So the lane change may take 60 ms, not 30, and the divert
+/// task comes again after 40.
+pub fn long_hold() -> TableDescription {
+    let with_end = |body: Vec<InstructionDescription>| [body, vec![end()]].concat();
+    let tasks = vec![
+        TaskDescription::new([30, 240, 0], &with_end(locked(&list_lane()))),
+        TaskDescription::new([20, 120, 10], &with_end(locked(&change_lane()))),
+        TaskDescription::new([10, 40, 10], &divert()),
+    ];
+    let mut table = before_change(TableDescription::new(60, tasks));
+    (table.ceilings, table.holdings) = (vec![1], vec![20]);
+    table
 }
 
 /// The times of document 01's case P4: the sorter would need 4,500,000,000 ns of its 4,000,000,000.

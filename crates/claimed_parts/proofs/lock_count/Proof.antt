@@ -1,23 +1,19 @@
 -- `claimed_parts::lock_count` meets its contract.
 -- Assumes nothing.
 use borrow.Author.Needs.{needs}
-use mathlib.Core.Path.{_≡_, sym, _∙_}
 use native.Mathlib.Omega.{arith}
-use lib.ListN.{length, length-map}
+use Rattle.writer.specs.Laws.FitsLaws.{table-fits}
 use Rattle.claimed_parts.specs.Laws.CountedLaws.{locks-claim}
 use Rattle.claimed_parts.proofs.lock_count.Statement.{statement}
 use Rattle.claimed_parts.proofs.lock_count.Tie as tie
-
--- the ceilings are a full array
-full : (c : tie.Start) → length (c .args .t .ceilings) ≡ 8
-full c = sym (length-map (c .args .t .ceilings) _) ∙ c .good .0 .1 .1 .1 .1 .1 .1 .1 .0 .1 .0 .1
 
 claimed-count-requires : tie.Need-claimed-count-requires
 claimed-count-requires c κs = search needs
 
 returns : tie.Need-returns
 returns c =
-    let claimed = locks-claim (c .before .args .t) (full (c .before)) in
+    let start = c .before in
+    let claimed = locks-claim (start .args .t) (table-fits (start .args .t) _ (start .good .0)) in
     (omega (arith, claimed, c .claimed-count .ensures), omega (arith, c .claimed-count .ensures))
 
 pub lock-count-spec : {M : Type 1} → statement M

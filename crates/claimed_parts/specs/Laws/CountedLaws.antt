@@ -14,7 +14,9 @@ use Rattle.taskfile.specs.declared.Instruction.{Instruction}
 use Rattle.taskfile.specs.declared.Table.{Table}
 use Rattle.taskfile.specs.declared.TaskEntry.{TaskEntry}
 use Rattle.taskfile.specs.Tables.{endInstruction, noTask}
-use Rattle.writer.specs.Claims.{claimed, claimedTasks, claimedBody, claimedCeilings, recordTotal}
+use Rattle.writer.specs.declared.Lock.{Lock}
+use Rattle.writer.specs.Claims.{claimed, claimedTasks, claimedBody, lockByLock, noLock, claimedLocks, recordTotal, Fits}
+use Rattle.writer.specs.Laws.LockLaws.{locks-full}
 use Rattle.writer.specs.Layout.{linkTo}
 use Rattle.claimed_parts.specs.Code.ClaimedParts.{linkAt}
 
@@ -66,14 +68,14 @@ module _ (t : Table) where
   unfolding claimedTasks
   tasks-from i is inside = claimed-from (t .tasks) (t .entries) noTask i is inside
 
-  pub locks-claim : length (t .ceilings) ≡ 8 → length (claimedCeilings t) ≡ min (t .locks) 9
-  unfolding claimedCeilings
-  locks-claim full = claimed-length (t .locks) (t .ceilings) 0 8 full
+  pub locks-claim : Fits t → length (claimedLocks t) ≡ min (t .locks) 9
+  unfolding claimedLocks
+  locks-claim fit = claimed-length (t .locks) (lockByLock (t .ceilings) (t .holdings)) noLock 8 (locks-full t fit)
 
-  pub locks-from : (l : ℕ) {x : ℕ} → x ≡ getD (t .ceilings) l 0 → l < length (claimedCeilings t)
-      → drop l (claimedCeilings t) ≡ x ∷ drop (suc l) (claimedCeilings t)
-  unfolding claimedCeilings
-  locks-from l is inside = claimed-from (t .locks) (t .ceilings) 0 l is inside
+  pub locks-from : (l : ℕ) {x : Lock} → x ≡ getD (lockByLock (t .ceilings) (t .holdings)) l noLock
+      → l < length (claimedLocks t) → drop l (claimedLocks t) ≡ x ∷ drop (suc l) (claimedLocks t)
+  unfolding claimedLocks
+  locks-from l is inside = claimed-from (t .locks) (lockByLock (t .ceilings) (t .holdings)) noLock l is inside
 
 -- ---- links
 

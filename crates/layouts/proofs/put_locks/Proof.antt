@@ -3,7 +3,7 @@
 -- Assumes nothing.
 use Prim.Native.Nat.{_-_, _≤_}
 use native.Mathlib.Omega.{arith}
-use Rattle.writer.specs.Claims.{claimedCeilings}
+use Rattle.writer.specs.Claims.{claimedLocks}
 use Rattle.writer.specs.Layout.{lockRecords}
 use Rattle.claimed_parts.specs.Laws.CountedLaws.{locks-from}
 use Rattle.layouts.specs.Laws.LayingLaws.{Laying, laying-whole, laying-more, laying-all, laying-length}
@@ -13,7 +13,7 @@ use Rattle.layouts.proofs.put_locks.Tie as tie
 
 abbrev Inv-loop : tie.InvT-loop
 Inv-loop t r at out₀ count next₀ l₀ out next l =
-    (l ≤ count) × Laying out₀ at (lockRecords r (claimedCeilings t)) out next (locksLeft r (claimedCeilings t) l)
+    (l ≤ count) × Laying out₀ at (lockRecords r (claimedLocks t)) out next (locksLeft r (claimedLocks t) l)
 
 abbrev μ-loop : tie.MeasureT-loop
 μ-loop t r at out₀ count next₀ l₀ out next l = count - l
@@ -36,8 +36,8 @@ add-link-at-3 c = omega arith
 link-at-requires : tie.Need-link-at-requires Inv-loop μ-loop
 link-at-requires c κs = tt
 
-ceiling-of-requires : tie.Need-ceiling-of-requires Inv-loop μ-loop
-ceiling-of-requires c κs = tt
+lock-of-requires : tie.Need-lock-of-requires Inv-loop μ-loop
+lock-of-requires c κs = tt
 
 put-lock-requires : tie.Need-put-lock-requires Inv-loop μ-loop
 put-lock-requires c κs =
@@ -57,10 +57,10 @@ loop-again c =
     let counted = at .before .lock-count .ensures .0 in
     let start = at .before .before .before in
     let here =
-    locks-from (start .args .t) (at .loop .l) (made .before .before .ceiling-of .ensures)
+    locks-from (start .args .t) (at .loop .l) (made .before .before .lock-of .ensures)
     (omega (arith, counted)) in
     let split =
-    locks-left-more (start .args .r) (claimedCeilings (start .args .t)) (at .loop .l) here counted
+    locks-left-more (start .args .r) (claimedLocks (start .args .t)) (at .loop .l) here counted
     (made .before .before .before .link-at .ensures) in
     (omega arith, laying-more (start .pre .1) split (at .loop .inv .1) (made .put-lock .ensures))
 
@@ -84,7 +84,7 @@ put-locks-spec =
     add-link-at-2
     add-link-at-3
     link-at-requires
-    ceiling-of-requires
+    lock-of-requires
     put-lock-requires
     add-l
     loop-less

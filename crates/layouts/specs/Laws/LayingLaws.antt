@@ -9,7 +9,8 @@ use lib.ListN.{length, drop, drop-of-length-le}
 use Rattle.taskfile.specs.declared.Instruction.{Instruction}
 use Rattle.taskfile.specs.declared.Table.{Table}
 use Rattle.taskfile.specs.declared.TaskEntry.{TaskEntry}
-use Rattle.writer.specs.Claims.{claimedTasks, claimedBody, claimedCeilings, recordTotal, locksAt}
+use Rattle.writer.specs.declared.Lock.{Lock}
+use Rattle.writer.specs.Claims.{claimedTasks, claimedBody, claimedLocks, recordTotal, locksAt}
 use Rattle.writer.specs.Layout.{linkTo, instructionRecord, bodyRecords, taskRecord, afterTask, taskRecords}
 use Rattle.writer.specs.Layout.{lockRecord, lockRecords, headerRecord, layout}
 use Rattle.writing.specs.Laws.WritingLaws.{appends-none, appends-more, appends-length}
@@ -93,29 +94,29 @@ body-left-none r body p all = ap (bodyRecords (r + p)) (drop-of-length-le body a
 -- ---- the locks
 
 -- the records of the locks from lock l on, where the first is at index r
-unfoldable pub locksLeft : ℕ → List ℕ → ℕ → List ℕ
-locksLeft r ceilings l = lockRecords (r + l) (drop l ceilings)
+unfoldable pub locksLeft : ℕ → List Lock → ℕ → List ℕ
+locksLeft r locks l = lockRecords (r + l) (drop l locks)
 
-pub locks-left-whole : (r : ℕ) (ceilings : List ℕ) → locksLeft r ceilings 0 ≡ lockRecords r ceilings
+pub locks-left-whole : (r : ℕ) (locks : List Lock) → locksLeft r locks 0 ≡ lockRecords r locks
 unfolding locksLeft
-locks-left-whole r ceilings = let same : r + 0 ≡ r = omega arith in ap (λ (k : ℕ). lockRecords k ceilings) same
+locks-left-whole r locks = let same : r + 0 ≡ r = omega arith in ap (λ (k : ℕ). lockRecords k locks) same
 
-pub locks-left-more : (r : ℕ) (ceilings : List ℕ) (l : ℕ) {ceiling count link : ℕ}
-    → drop l ceilings ≡ ceiling ∷ drop (suc l) ceilings → count ≡ length ceilings
+pub locks-left-more : (r : ℕ) (locks : List Lock) (l : ℕ) {lock : Lock} {count link : ℕ}
+    → drop l locks ≡ lock ∷ drop (suc l) locks → count ≡ length locks
     → link ≡ linkAt (r + l + 1) (l + 1) count
-    → locksLeft r ceilings l ≡ lockRecord ceiling link ++ locksLeft r ceilings (l + 1)
+    → locksLeft r locks l ≡ lockRecord lock link ++ locksLeft r locks (l + 1)
 unfolding locksLeft lockRecords
-locks-left-more r ceilings l {ceiling} {link = link} here counted linked =
+locks-left-more r locks l {lock} {link = link} here counted linked =
     let index : r + l + 1 ≡ suc (r + l) = after-suc r l in
-    let same : link ≡ linkTo (suc (r + l)) (drop (suc l) ceilings) =
-    link-after (r + l + 1) l ceilings counted linked ∙ ap (λ (k : ℕ). linkTo k (drop (suc l) ceilings)) index in
+    let same : link ≡ linkTo (suc (r + l)) (drop (suc l) locks) =
+    link-after (r + l + 1) l locks counted linked ∙ ap (λ (k : ℕ). linkTo k (drop (suc l) locks)) index in
     let later : suc (r + l) ≡ r + (l + 1) = omega arith in
     ap (lockRecords (r + l)) here
-    ∙ (λ j. lockRecord ceiling (sym same j) ++ lockRecords (later j) (drop (sym (add-one l) j) ceilings))
+    ∙ (λ j. lockRecord lock (sym same j) ++ lockRecords (later j) (drop (sym (add-one l) j) locks))
 
-pub locks-left-none : (r : ℕ) (ceilings : List ℕ) (l : ℕ) → length ceilings ≤ l → locksLeft r ceilings l ≡ []
+pub locks-left-none : (r : ℕ) (locks : List Lock) (l : ℕ) → length locks ≤ l → locksLeft r locks l ≡ []
 unfolding locksLeft lockRecords
-locks-left-none r ceilings l all = ap (lockRecords (r + l)) (drop-of-length-le ceilings all)
+locks-left-none r locks l all = ap (lockRecords (r + l)) (drop-of-length-le locks all)
 
 -- ---- the tasks
 
@@ -164,23 +165,23 @@ task-laid e r link {count} {first} enough counted linked one two =
 
 pub layout-laid : (t : Table) {total tasks locks task lock : ℕ} {before mid : List ℕ} {m : ℕ} {later : List ℕ} {k : ℕ}
     {after : List ℕ} {n : ℕ} → 2752 ≤ length before → total ≡ recordTotal (claimedTasks t)
-    → tasks ≡ length (claimedTasks t) → locks ≡ length (claimedCeilings t)
+    → tasks ≡ length (claimedTasks t) → locks ≡ length (claimedLocks t)
     → task ≡ linkAt 1 0 tasks → lock ≡ linkAt (1 + total) 0 locks
     → Lays before 0 (headerRecord t task lock) mid m → Lays mid m (taskRecords 1 (claimedTasks t)) later k
-    → Lays later k (lockRecords (1 + total) (claimedCeilings t)) after n → Lays before 0 (layout t) after n
+    → Lays later k (lockRecords (1 + total) (claimedLocks t)) after n → Lays before 0 (layout t) after n
 unfolding layout locksAt
 layout-laid t {total} {tasks} {locks} {task} {lock} enough counted many few to-task to-lock one two three =
     let first : task ≡ linkTo 1 (claimedTasks t) =
     to-task ∙ ap (linkAt 1 0) many ∙ sym (link-from 1 0 (claimedTasks t)) in
-    let second : lock ≡ linkTo (1 + total) (claimedCeilings t) =
-    to-lock ∙ ap (linkAt (1 + total) 0) few ∙ sym (link-from (1 + total) 0 (claimedCeilings t)) in
+    let second : lock ≡ linkTo (1 + total) (claimedLocks t) =
+    to-lock ∙ ap (linkAt (1 + total) 0) few ∙ sym (link-from (1 + total) 0 (claimedLocks t)) in
     let index : 1 + total ≡ suc (recordTotal (claimedTasks t)) = omega arith in
     let tasks-part = taskRecords 1 (claimedTasks t) in
     let to : ℕ = linkTo 1 (claimedTasks t) in
-    let named : headerRecord t task lock ≡ headerRecord t to (linkTo (1 + total) (claimedCeilings t)) =
+    let named : headerRecord t task lock ≡ headerRecord t to (linkTo (1 + total) (claimedLocks t)) =
     λ j. headerRecord t (first j) (second j) in
     lays-same
-    (ap (λ (l : List ℕ). l ++ tasks-part ++ lockRecords (1 + total) (claimedCeilings t)) named
+    (ap (λ (l : List ℕ). l ++ tasks-part ++ lockRecords (1 + total) (claimedLocks t)) named
     ∙ ap
-    (λ (k : ℕ). headerRecord t to (linkTo k (claimedCeilings t)) ++ tasks-part ++ lockRecords k (claimedCeilings t))
+    (λ (k : ℕ). headerRecord t to (linkTo k (claimedLocks t)) ++ tasks-part ++ lockRecords k (claimedLocks t))
     index) (appends-more enough (appends-more enough one two) three)

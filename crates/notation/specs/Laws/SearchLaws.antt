@@ -1,14 +1,18 @@
--- Laws of searches that count: for the first number of which a test holds, and for the first fault at the places that
--- stand under each number. Each has a record of how far it has come, for a loop to keep.
+-- Laws of searches that count: for the first number of which a test holds, for any element of a list of which it holds,
+-- and for the first fault at the places that stand under each number. Each has a record of how far it has come, for a
+-- loop to keep.
 -- Assumes nothing.
 use Prim.Native.Nat.{ℕ, suc, _+_, _-_, _≤_, _<_}
+use native.Mathlib.Decide.{ℕ-discrete}
 use native.Mathlib.Omega.{arith}
 use mathlib.Core.Path.{_≡_, refl, ap, _∙_}
 use mathlib.Core.Bool.{Bool, true, false}
 use mathlib.Core.List.{List, [], _∷_, _++_, map}
 use mathlib.Core.Option.{Option, none, some}
+use lib.ListN.{length, getD}
 use Rattle.notation.specs.Checked.{Checked, refused, passed, noneOf, _>>_}
-use Rattle.notation.specs.Lists.{from, upTo, firstWith, each, if_then_else_}
+use Rattle.notation.specs.Lists.{from, upTo, any, firstWith, each, if_then_else_}
+use Rattle.notation.specs.Laws.QuantifierLaws.{at-none}
 
 -- the numbers from p on up to n are p and those after it, or none
 pub from-first : (p n : ℕ) → p < n → from p (n - p) ≡ p ∷ from (p + 1) (n - (p + 1))
@@ -51,6 +55,27 @@ module _ (test : ℕ → Bool) (n : ℕ) where
     pub search-ends : n ≤ p → firstWith test (upTo n) ≡ none
     unfolding firstWith
     search-ends above = so-far .same ∙ ap (firstWith test) (from-none p n above)
+
+-- the search of a list for an element of which the test holds has come to place p
+pub record Unfound {A : Type 0} (test : A → Bool) (xs : List A) (d : A) (p : ℕ) : Type 0 where
+  pub none : (k : ℕ) → k < p → test (getD xs k d) ≡ false
+
+module _ {A : Type 0} (test : A → Bool) (xs : List A) (d : A) where
+  pub unfound-starts : Unfound test xs d 0
+  unfound-starts = record { none = λ k lt. absurd (omega arith) }
+
+  module _ (p : ℕ) (so-far : Unfound test xs d p) where
+    pub unfound-goes-on : test (getD xs p d) ≡ false → Unfound test xs d (p + 1)
+    unfound-goes-on fails = record {
+      none = λ k lt.
+          elim (ℕ-discrete k p) [
+            | yes same ↦ ap (λ (j : ℕ). test (getD xs j d)) same ∙ fails
+            | no other ↦ so-far .none k (omega arith)
+          ];
+    }
+
+    pub unfound-ends : length xs ≤ p → any test xs ≡ false
+    unfound-ends above = at-none test xs d (λ k lt. so-far .none k (omega arith))
 
 -- a function of a choice is the choice of its values
 if-under : {A B : Type 0} (f : A → B) (test : Bool) (x y : A) → (if test then f x else f y) ≡ f (if test then x else y)

@@ -8,6 +8,12 @@ use Rattle.record_bytes.proofs.put_lock.Tie as tie
 put-three-requires : tie.Need-put-three-requires
 put-three-requires c κs = search needs
 
+write-byte-requires : tie.Need-write-byte-requires
+write-byte-requires c κs = search needs
+
+put-wide-requires : tie.Need-put-wide-requires
+put-wide-requires c κs = search needs
+
 put-zeros-requires : tie.Need-put-zeros-requires
 put-zeros-requires c κs = search needs
 
@@ -16,10 +22,15 @@ same-length c = search needs
 
 returns : tie.Need-returns
 returns c =
-    let second = c .before .before in
+    let fourth = c .before .before in
+    let third = fourth .before .before .before .before in
+    let second = third .before .before .before .before in
     let first = second .before .before .before .before in
     let start = first .before .before .before in
-    lock-laid _ _ (start .pre) (first .put-three .ensures) (second .put-zeros .ensures)
+    lock-laid _ _ (start .pre) (first .put-three .ensures) (second .write-byte .ensures) (third .put-wide .ensures)
+    (fourth .put-zeros .ensures)
 
 pub put-lock-spec : {M : Type 1} → statement M
-put-lock-spec = tie.close (tie.spec put-three-requires put-zeros-requires same-length returns)
+put-lock-spec =
+    tie.close
+    (tie.spec put-three-requires write-byte-requires put-wide-requires put-zeros-requires same-length returns)

@@ -8,6 +8,7 @@ use lib.ListN.{length, replicate, replicate-append-replicate}
 use Rattle.taskfile.specs.declared.Instruction.{Instruction}
 use Rattle.taskfile.specs.declared.Table.{Table}
 use Rattle.taskfile.specs.declared.TaskEntry.{TaskEntry}
+use Rattle.writer.specs.declared.Lock.{Lock}
 use Rattle.writer.specs.Layout.{wideBytes, instructionRecord, taskRecord, lockRecord, headerRecord}
 use Rattle.writing.specs.Code.Writing.{Appends}
 use Rattle.writing.specs.Laws.WritingLaws.{appends-more}
@@ -48,11 +49,14 @@ pub instruction-laid : (i : Instruction) (next : ℕ) {before : List ℕ} {at : 
 unfolding instructionRecord
 instruction-laid i next enough first second third = appends-more enough (appends-more enough first second) third
 
-pub lock-laid : (ceiling next : ℕ) {before : List ℕ} {at : ℕ} {one : List ℕ} {n : ℕ} {after : List ℕ} {end : ℕ}
-    → 2752 ≤ length before → Lays before at (3 ∷ next ∷ ceiling ∷ []) one n → Lays one n (replicate 13 0) after end
-    → Lays before at (lockRecord ceiling next) after end
+pub lock-laid : (lock : Lock) (next : ℕ) {before : List ℕ} {at : ℕ} {one : List ℕ} {n : ℕ} {two : List ℕ} {m : ℕ}
+    {three : List ℕ} {k : ℕ} {after : List ℕ} {end : ℕ} → 2752 ≤ length before
+    → Lays before at (3 ∷ next ∷ lock .ceiling ∷ []) one n → Lays one n (0 ∷ []) two m
+    → Lays two m (wideBytes (lock .holding)) three k → Lays three k (replicate 8 0) after end
+    → Lays before at (lockRecord lock next) after end
 unfolding lockRecord
-lock-laid ceiling next enough first second = appends-more enough first second
+lock-laid lock next enough first second third fourth =
+    appends-more enough (appends-more enough (appends-more enough first second) third) fourth
 
 pub task-record-laid : (e : TaskEntry) (next to : ℕ) {before : List ℕ} {at : ℕ} {one : List ℕ} {n : ℕ} {two : List ℕ}
     {m : ℕ} {three : List ℕ} {k : ℕ} {four : List ℕ} {j : ℕ} {after : List ℕ} {end : ℕ} → 2752 ≤ length before

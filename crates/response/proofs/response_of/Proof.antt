@@ -2,8 +2,8 @@
 -- solution; else the start is a lower bound of the solutions, from which the climb finds the least, or, where the
 -- tasks above meet their periods, a short climb and the search.
 -- Assumes nothing.
-use mathlib.Core.Path.{sym, ap}
-use Prim.Native.Nat.{ℕ, _-_, _^_, _≤_}
+use mathlib.Core.Path.{sym, ap, subst, _∙_}
+use Prim.Native.Nat.{ℕ, _+_, _-_, _*_, _^_, _≤_}
 use native.Mathlib.Nat.{le-div-iff-mul-le, div-le-self, mul-div-le, mul-le-mul-left}
 use native.Mathlib.Omega.{arith}
 use lib.ListN.{getD}
@@ -11,37 +11,37 @@ use borrow.Author.Needs.{needs}
 use Rattle.timing.specs.Laws.ClimbLaws.{overloaded, start-bound}
 use Rattle.timing.specs.Laws.LentTimesLaws.{lent-need, lent-times}
 use Rattle.timing.specs.Code.ResponseParts.{NeedOf, boundOf, LowerBound}
-use Rattle.timing.specs.Response.{need}
+use Rattle.timing.specs.Response.{roundedUp, need}
 use Rattle.response.proofs.response_of.Statement.{statement}
 use Rattle.response.proofs.response_of.Tie as tie
 
--- what is read
-abbrev own : tie.After-own → ℕ
-own c = getD (c .before .before .args .executions .now) (c .before .before .args .i .0) 0
+-- where the call began, and where what task i needs is known
+abbrev entry : tie.After-blocking-of → tie.Start
+entry c = c .before .before .before
 
--- it is what task i needs
-known : (c : tie.After-own) → NeedOf (c .before .before .args .t) (c .before .before .args .i) (own c)
-known c = lent-need (c .before .before .pre .0) _ (c .before .before .pre .1)
+abbrev waited : tie.After-rounded-up → tie.After-blocking-of
+waited c = c .before .before .before .before .before .before
+
+-- its execution time and how long it may wait
+abbrev own : tie.After-blocking-of → ℕ
+own c = getD (entry c .args .executions .now) (entry c .args .i .0) 0 + c .blocking-of .result
+
+known : (c : tie.After-blocking-of) → NeedOf (entry c .args .t) (entry c .args .i) (own c)
+known c = lent-need (entry c .pre .0) _ (entry c .pre .1) (c .blocking-of .ensures .0) (c .blocking-of .ensures .1)
 
 -- so that is positive
-positive : (c : tie.After-own) → 1 ≤ need (c .before .before .args .t) (c .before .before .args .i)
+positive : (c : tie.After-blocking-of) → 1 ≤ need (entry c .args .t) (entry c .args .i)
 positive c = omega (arith, known c .same, known c .positive)
 
--- where the call began
-abbrev entry : tie.After-struct-known4 → tie.Start
-entry c = c .before .before .before .before .before .before .before
-
--- where what task i needs was read
-abbrev read : tie.After-rounded-up → tie.After-own
-read c = c .before .before .before .before .before .before
-
 -- the start is a lower bound of the solutions
-started : (c : tie.After-rounded-up) → LowerBound (entry (c .before) .args .t) (entry (c .before) .args .i) (c .rounded-up .result)
+started : (c : tie.After-rounded-up)
+    → LowerBound (entry (waited c) .args .t) (entry (waited c) .args .i) (c .rounded-up .result)
 started c =
     let found = c .before .before .before .before .before in
-    let given = entry (c .before) .pre in
-    rw (c .rounded-up .ensures, known (found .before) .same)
-    (start-bound _ _ (positive (found .before)) (found .share-above .ensures _ (given .0)) (omega arith))
+    let s = found .share-above .result in
+    let is = c .rounded-up .ensures ∙ ap (λ (n : ℕ). roundedUp (n * s .whole) (s .whole - s .part)) (known (waited c) .same) in
+    subst (LowerBound _ _) (sym is)
+    (start-bound _ _ (positive (waited c)) (found .share-above .ensures _ (entry (waited c) .pre .0)) (omega arith))
 
 cast-at : tie.Need-cast-at
 cast-at c = omega arith
@@ -52,12 +52,18 @@ mul-own c = search needs
 element-copy-out-own : tie.Need-element-copy-out-own
 element-copy-out-own c = omega (arith, lent-times (c .before .pre .0) .few)
 
+blocking-of-requires : tie.Need-blocking-of-requires
+blocking-of-requires c κs = let given = c .before .before .pre in (given .0 .timeable .shaped, given .1)
+
+add-own : tie.Need-add-own
+add-own c = omega (arith, known c .narrow)
+
 div-share-above : tie.Need-div-share-above
 div-share-above c = known c .positive
 
 share-above-requires : tie.Need-share-above-requires
 share-above-requires c κs =
-    let given = c .before .before .pre in (
+    let given = entry c .pre in (
       lent-times (given .0),
       given .1,
       le-div-iff-mul-le (known c .positive) .1 (omega (arith, known c .narrow)),
@@ -68,14 +74,14 @@ returns : tie.Need-returns
 unfolding boundOf
 returns c =
     let found = c .before .before in
-    let given = found .before .before .before .pre in
-    sym (ap boundOf (overloaded _ _ (positive (found .before)) (found .share-above .ensures _ (given .0)) (omega arith)))
+    let needed = found .share-above .ensures _ (entry (found .before) .pre .0) in
+    sym (ap boundOf (overloaded _ _ (positive (found .before)) needed (omega arith)))
 
 mul-rounded-up : tie.Need-mul-rounded-up
 mul-rounded-up c =
     let found = c .before .before .before in
     let C = own (found .before) in
-    omega (arith, mul-le-mul-left C (found .share-above .ensures _ (found .before .before .before .pre .0) .few), mul-div-le (2 ^ 63 - 1) C)
+    omega (arith, mul-le-mul-left C (found .share-above .ensures _ (entry (found .before) .pre .0) .few), mul-div-le (2 ^ 63 - 1) C)
 
 sub-rounded-up : tie.Need-sub-rounded-up
 sub-rounded-up c = search needs
@@ -84,18 +90,23 @@ rounded-up-requires : tie.Need-rounded-up-requires
 rounded-up-requires c κs = search needs
 
 climb-some-requires : tie.Need-climb-some-requires
-climb-some-requires c κs = let given = entry (c .before .before) .pre in (given .0, given .1, known (read (c .before)), started (c .before))
+climb-some-requires c κs =
+    let wait = waited (c .before) in
+    let given = entry wait .pre in (given .0, given .1, known wait, started (c .before))
 
 search-requires : tie.Need-search-requires
 search-requires c κs =
-    let given = entry (c .before .before .before) .pre in
-    (given .0, given .1, known (read (c .before .before)), c .climb-some .ensures, given .2 (c .before .if2 .taken))
+    let wait = waited (c .before .before) in
+    let given = entry wait .pre in
+    (given .0, given .1, known wait, c .climb-some .ensures, given .2 (c .before .if2 .taken))
 
 returns-2 : tie.Need-returns-2
 returns-2 c = search needs
 
 climb-requires : tie.Need-climb-requires
-climb-requires c κs = let given = entry (c .before .before) .pre in (given .0, given .1, known (read (c .before)), started (c .before))
+climb-requires c κs =
+    let wait = waited (c .before) in
+    let given = entry wait .pre in (given .0, given .1, known wait, started (c .before))
 
 returns-3 : tie.Need-returns-3
 returns-3 c = search needs
@@ -107,6 +118,8 @@ response-of-spec =
     cast-at
     mul-own
     element-copy-out-own
+    blocking-of-requires
+    add-own
     div-share-above
     share-above-requires
     returns

@@ -10,6 +10,7 @@ use Rattle.taskfile.specs.Judgement
 use Rattle.taskfile.specs.Records
 use Rattle.taskfile.specs.Tables
 use Rattle.timing.specs.Accepted
+use Rattle.timing.specs.Blocking
 use Rattle.timing.specs.Jobs
 use Rattle.timing.specs.ReadEntries
 use Rattle.timing.specs.Relations
@@ -22,7 +23,7 @@ use Rattle.machine.specs.Instructions
 unfoldable pub notationOpened : Unit {0}
 unfolding Checked._>>=_ Checked._>>_ Checked.require Checked.given Checked.noneOf Checked.placedBy Lists.if_then_else_
     Lists.from Lists.upTo Lists.member Lists.all Lists.any Lists.only Lists.firstWith Lists.each Lists.same
-    Lists.firstOr Lists.lastOr Lists.sum Lists.padded
+    Lists.firstOr Lists.lastOr Lists.sum Lists.largest Lists.padded
 notationOpened = tt
 
 unfoldable pub recordsOpened : Unit {0}
@@ -38,7 +39,7 @@ chainsOpened = tt
 
 unfoldable pub tablesOpened : Unit {0}
 unfolding Tables.noTask Tables.emptyTable Tables.tasksOf Tables.taskOf Tables.bodyOf Tables.ceilingsOf
-    Tables.entryAt Tables.tableAt
+    Tables.holdingsOf Tables.lockNumbers Tables.holdingOf Tables.entryAt Tables.tableAt
 tablesOpened = tt
 
 unfoldable pub judgementOpened : Unit {0}
@@ -52,7 +53,8 @@ unfolding File.sized File.recordAt File.load
 fileOpened = tt
 
 unfoldable pub timingOpened : Unit {0}
-unfolding Response.roundedUp Response.tasksAbove Response.interference Response.need Response.demand Response.smallest
+unfolding Response.roundedUp Response.tasksAbove Response.interference Blocking.tasksBelow Blocking.isAcquireOf
+    Blocking.acquires Blocking.blocks Blocking.blocking Response.need Response.demand Response.smallest
     Jobs.arrivalOf Jobs.jobsWithin Jobs.jobCount Jobs.jobOf Jobs.jobsOfTask Jobs.jobsOf Accepted.responsesOf
     Accepted.timed Accepted.accept Relations.jobAt Relations.jobNumbers Relations.base
     Relations.before Relations.mayPreempt ReadEntries.readAnswerOf ReadEntries.readAnswer ReadEntries.listed

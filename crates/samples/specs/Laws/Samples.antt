@@ -3,47 +3,18 @@
 use mathlib.Core.Path.{_≡_, refl}
 use Prim.Native.Nat.{ℕ}
 use mathlib.Core.Bool.{true, false}
-use mathlib.Core.List.{List, [], _∷_}
-use lib.ListN.{length, replicate}
+use mathlib.Core.List.{[], _∷_}
+use lib.ListN.{replicate}
 use Rattle.notation.specs.Checked.{passed}
-use Rattle.notation.specs.Lists.{padded}
-use Rattle.taskfile.specs.declared.Instruction.{Instruction}
 use Rattle.taskfile.specs.declared.Table.{Table}
-use Rattle.taskfile.specs.declared.TaskEntry.{TaskEntry}
-use Rattle.taskfile.specs.Chains.{mostInstructions, mostLocks, mostTasks}
-use Rattle.taskfile.specs.Tables.{endInstruction, noTask}
+use Rattle.taskfile.specs.Laws.SmallTables.{instruction, task, lockedTable, table}
+use Rattle.taskfile.specs.Tables.{endInstruction}
 use Rattle.timing.specs.declared.JobRecord.{JobRecord}
 use Rattle.timing.specs.Accepted.{Accepted, timed}
 use Rattle.timing.specs.Response.{responseOf}
 use Rattle.machine.specs.Ends.{Flags}
 use Rattle.machine.specs.Instructions.{Store}
 use Rattle.samples.specs.Laws.Opened.{opened}
-
-abbrev instruction : ℕ → ℕ → ℕ → ℕ → Instruction
-instruction operation a b c = record { operation = operation; a = a; b = b; c = c }
-
--- a task: C, P, A and its body
-abbrev task : ℕ → ℕ → ℕ → List Instruction → TaskEntry
-task execution period arrival body =
-    record {
-      execution = execution;
-      period = period;
-      arrival = arrival;
-      length = length body;
-      body = padded mostInstructions endInstruction body;
-    }
-
--- a table: its window, the first variable's initial value, its tasks and its locks' ceilings
-abbrev table : ℕ → ℕ → List TaskEntry → List ℕ → Table
-table window first tasks ceilings =
-    record {
-      window = window;
-      store = first ∷ replicate 7 0;
-      tasks = length tasks;
-      entries = padded mostTasks noTask tasks;
-      locks = length ceilings;
-      ceilings = padded mostLocks 0 ceilings;
-    }
 
 abbrev job : ℕ → ℕ → ℕ → JobRecord
 job i arrival latest = record { task = record { 0 = i }; arrival = arrival; latest = latest }
@@ -109,9 +80,35 @@ twiceTable =
 unfoldable pub twice : Accepted
 twice = record { table = twiceTable; responses = 2 ∷ 1 ∷ []; jobs = job 0 0 2 ∷ job 1 1 2 ∷ [] }
 
+-- Two jobs, of tasks 1 and 2: job 0 loads variable 0 twice and asserts that it did not change in between, job 1 stores 1
+-- there. Task 0 has no job; its body acquires lock 0, whose ceiling is 1 and whose longest holding time is given.
+abbrev slowTable : ℕ → Table
+slowTable holding =
+    lockedTable 4 0
+    (task 1 16 4 (instruction 9 0 0 0 ∷ endInstruction ∷ [])
+    ∷ task 1 16 0
+    (instruction 1 0 0 0 ∷ instruction 1 1 0 0 ∷ instruction 7 0 1 1 ∷ instruction 11 2 0 0 ∷ endInstruction ∷ [])
+    ∷ task 1 16 3 (instruction 3 0 1 0 ∷ instruction 2 0 0 0 ∷ endInstruction ∷ []) ∷ [])
+    (1 ∷ []) (holding ∷ [])
+
+-- where nobody waits, job 0 ends before job 1 arrives
+unfoldable pub apartTable : Table
+apartTable = slowTable 0
+
+unfoldable pub apart : Accepted
+apart = record { table = apartTable; responses = 3 ∷ 2 ∷ 1 ∷ []; jobs = job 1 0 2 ∷ job 2 3 4 ∷ [] }
+
+-- where job 0 may have to wait 4 for the lock, job 1 may preempt it
+unfoldable pub waitTable : Table
+waitTable = slowTable 4
+
+unfoldable pub wait : Accepted
+wait = record { table = waitTable; responses = 3 ∷ 6 ∷ 1 ∷ []; jobs = job 1 0 6 ∷ job 2 3 4 ∷ [] }
+
 -- one name for all of them
 unfoldable pub samplesOpened : Unit {0}
-unfolding nestTable nest pairTable pair pickTable pickUpTo idleTable idle twiceTable twice
+unfolding nestTable nest pairTable pair pickTable pickUpTo idleTable idle twiceTable twice apartTable
+    apart waitTable wait
 samplesOpened = tt
 
 -- these are the accepted tables that their tables' own times and jobs make
@@ -121,7 +118,18 @@ pub record TimedAs : Type 0 where
   pub pickTimed : timed pickTable ≡ passed pickUpTo
   pub idleTimed : timed idleTable ≡ passed idle
   pub twiceTimed : timed twiceTable ≡ passed twice
+  pub apartTimed : timed apartTable ≡ passed apart
+  pub waitTimed : timed waitTable ≡ passed wait
 
 pub all-timed : TimedAs
 unfolding opened responseOf samplesOpened
-all-timed = record { nestTimed = refl; pairTimed = refl; pickTimed = refl; idleTimed = refl; twiceTimed = refl }
+all-timed =
+    record {
+      nestTimed = refl;
+      pairTimed = refl;
+      pickTimed = refl;
+      idleTimed = refl;
+      twiceTimed = refl;
+      apartTimed = refl;
+      waitTimed = refl;
+    }

@@ -5,14 +5,14 @@ use mathlib.Core.Path.{_≡_}
 use Prim.Native.Nat.{_-_}
 use native.Mathlib.Omega.{arith}
 use lib.ListN.{length}
-use Rattle.writer.specs.Memory.{instructionBytes}
+use Rattle.writer.specs.Memory.{tableBytes, instructionBytes}
 use Rattle.writing.specs.Laws.WritingLaws.{appends-length}
 use Rattle.table_memory.specs.Laws.PieceLaws.{PiecesPut, pieces-none, pieces-more, pieces-all}
 use Rattle.table_memory.proofs.put_body.Statement.{statement}
 use Rattle.table_memory.proofs.put_body.Tie as tie
 
 abbrev Inv-loop : tie.InvT-loop
-Inv-loop at out₀ body next₀ p₀ out next p = PiecesPut instructionBytes 664 out₀ at body out next p
+Inv-loop at out₀ body next₀ p₀ out next p = PiecesPut instructionBytes tableBytes out₀ at body out next p
 
 abbrev μ-loop : tie.MeasureT-loop
 μ-loop at out₀ body next₀ p₀ out next p = 16 - p
@@ -21,7 +21,7 @@ body-length : (c : tie.Start Inv-loop μ-loop) → length (c .args .t1) ≡ 16
 body-length c = c .good .0 .1 .0 .1
 
 loop-holds : tie.Need-loop-holds Inv-loop μ-loop
-loop-holds c = pieces-none _ 664 _ _ _
+loop-holds c = pieces-none _ tableBytes _ _ _
 
 mul-i : tie.Need-mul-i Inv-loop μ-loop
 mul-i c = omega arith

@@ -5,14 +5,14 @@ use mathlib.Core.Path.{_≡_}
 use Prim.Native.Nat.{_-_}
 use native.Mathlib.Omega.{arith}
 use lib.ListN.{length}
-use Rattle.writer.specs.Memory.{entryBytes}
+use Rattle.writer.specs.Memory.{tableBytes, entryBytes}
 use Rattle.writing.specs.Laws.WritingLaws.{appends-length}
 use Rattle.table_memory.specs.Laws.PieceLaws.{PiecesPut, pieces-none, pieces-more, pieces-all}
 use Rattle.table_memory.proofs.put_entries.Statement.{statement}
 use Rattle.table_memory.proofs.put_entries.Tie as tie
 
 abbrev Inv-loop : tie.InvT-loop
-Inv-loop at out₀ entries next₀ i₀ out next i = PiecesPut entryBytes 664 out₀ at entries out next i
+Inv-loop at out₀ entries next₀ i₀ out next i = PiecesPut entryBytes tableBytes out₀ at entries out next i
 
 abbrev μ-loop : tie.MeasureT-loop
 μ-loop at out₀ entries next₀ i₀ out next i = 8 - i
@@ -21,7 +21,7 @@ entries-length : (c : tie.Start Inv-loop μ-loop) → length (c .args .t1) ≡ 8
 entries-length c = c .good .0 .1 .0 .1
 
 loop-holds : tie.Need-loop-holds Inv-loop μ-loop
-loop-holds c = pieces-none _ 664 _ _ _
+loop-holds c = pieces-none _ tableBytes _ _ _
 
 mul-put-entry : tie.Need-mul-put-entry Inv-loop μ-loop
 mul-put-entry c = omega arith

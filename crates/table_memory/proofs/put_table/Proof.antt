@@ -1,9 +1,10 @@
--- `table_memory::put_table` meets its contract: its five parts stand one after the other.
+-- `table_memory::put_table` meets its contract: its six parts stand one after the other.
 -- Assumes nothing.
 use borrow.Author.Needs.{needs}
 use Rattle.writer.specs.Laws.FitsLaws.{table-fits}
 use Rattle.writer.specs.Laws.MemoryLaws.{memory-length}
 use Rattle.writer.specs.Memory.{memoryOf}
+use Rattle.writing.specs.Laws.WritingLaws.{appends-more}
 use Rattle.table_memory.specs.Laws.PieceLaws.{five-put}
 use Rattle.table_memory.proofs.put_table.Statement.{statement}
 use Rattle.table_memory.proofs.put_table.Tie as tie
@@ -23,17 +24,23 @@ put-eight-requires-2 c κs = search needs
 put-entries-requires : tie.Need-put-entries-requires
 put-entries-requires c κs = search needs
 
+put-holdings-requires : tie.Need-put-holdings-requires
+put-holdings-requires c κs = search needs
+
 returns : tie.Need-returns
 unfolding memoryOf
 returns c =
-    let fifth = c .before .before in
+    let sixth = c .before .before in
+    let fifth = sixth .before .before .before .before .before in
     let fourth = fifth .before .before .before .before .before in
     let third = fourth .before .before .before .before .before in
     let second = third .before .before .before .before in
     let first = second .before .before .before .before .before in
     let start = first .before .before .before in (
-      five-put (start .pre) (first .put-wide .ensures) (second .put-eight .ensures) (third .put-four .ensures)
-          (fourth .put-eight2 .ensures) (fifth .put-entries .ensures),
+      appends-more (start .pre)
+          (five-put (start .pre) (first .put-wide .ensures) (second .put-eight .ensures) (third .put-four .ensures)
+          (fourth .put-eight2 .ensures) (fifth .put-entries .ensures))
+          (sixth .put-holdings .ensures),
       memory-length _ (table-fits (start .args .t) _ (start .good .0)),
     )
 
@@ -49,5 +56,6 @@ put-table-spec =
     put-four-requires
     put-eight-requires-2
     put-entries-requires
+    put-holdings-requires
     same-length
     returns)

@@ -60,18 +60,22 @@ byte-in-requires-2 c κs = omega arith
 eight-in-requires-2 : tie.Need-eight-in-requires-2 Inv-loop μ-loop
 eight-in-requires-2 c κs = omega arith
 
+holdings-in-requires : tie.Need-holdings-in-requires Inv-loop μ-loop
+holdings-in-requires c κs = omega arith
+
 returns : tie.Need-returns Inv-loop μ-loop
 unfolding tableIn
 returns c =
-    let head = c .before .before .before .before .before in
+    let head = c .before .before .before .before .before .before in
     let stored = tabulated-all _ 8 (head .before .loop .inv) (omega arith) in
     λ i. record {
-      window = c .before .before .before .before .wide-in .ensures i;
-      store = c .before .before .before .eight-in .ensures i;
-      tasks = c .before .before .byte-in .ensures i;
+      window = c .before .before .before .before .before .wide-in .ensures i;
+      store = c .before .before .before .before .eight-in .ensures i;
+      tasks = c .before .before .before .byte-in .ensures i;
       entries = stored i;
-      locks = c .before .byte-in2 .ensures i;
-      ceilings = c .eight-in2 .ensures i;
+      locks = c .before .before .byte-in2 .ensures i;
+      ceilings = c .before .eight-in2 .ensures i;
+      holdings = c .holdings-in .ensures i;
     }
 
 pub table-in-spec : {M : Type 1} → statement M
@@ -95,4 +99,5 @@ table-in-spec =
     byte-in-requires
     byte-in-requires-2
     eight-in-requires-2
+    holdings-in-requires
     returns)

@@ -12,15 +12,16 @@ use Rattle.taskfile.specs.declared.Table.{Table}
 use Rattle.taskfile.specs.Chains.{mostTasks}
 use Rattle.notation.specs.Lists.{padded}
 use Rattle.taskfile.specs.Code.Reading.{linked, linkedTask, linkedChains}
-use Rattle.taskfile.specs.Code.ReadingParts.{entriesAt, ceilingsAt}
+use Rattle.taskfile.specs.Code.ReadingParts.{entriesAt, ceilingsAt, holdingsAt}
 use Rattle.taskfile.specs.Records.{File, byteAt, wideAt}
 use Rattle.taskfile.specs.Tables.{noTask, entryAt, tableAt}
 use Rattle.tables.proofs.table_at.Statement.{statement}
 use Rattle.tables.proofs.table_at.Tie as tie
 
 table-parts : (f : File) (firstTask firstLock window : ℕ) (store : List ℕ) (tasks : Entries) (locks : Ceilings)
-    → firstTask ≡ byteAt f 0 2 → tasks ≡ entriesAt f firstTask → firstLock ≡ byteAt f 0 3 → locks ≡ ceilingsAt f firstLock
-    → window ≡ wideAt f 0 4 → store ≡ take 8 (drop 8 f)
+    (holdings : List ℕ) → firstTask ≡ byteAt f 0 2 → tasks ≡ entriesAt f firstTask → firstLock ≡ byteAt f 0 3
+    → locks ≡ ceilingsAt f firstLock → window ≡ wideAt f 0 4 → store ≡ take 8 (drop 8 f)
+    → holdings ≡ holdingsAt f firstLock
     → _≡_ {A = Table} (
     record {
       window = window;
@@ -29,13 +30,15 @@ table-parts : (f : File) (firstTask firstLock window : ℕ) (store : List ℕ) (
       entries = tasks .entries;
       locks = locks .count;
       ceilings = locks .ceilings;
+      holdings = holdings;
     }
     ) (tableAt f (linkedChains f))
-unfolding tableAt linkedChains entriesAt ceilingsAt
-table-parts f firstTask firstLock window store tasks locks atTask atTasks atLock atLocks atWindow atStore =
+unfolding tableAt linkedChains entriesAt ceilingsAt holdingsAt
+table-parts f firstTask firstLock window store tasks locks holdings atTask atTasks atLock atLocks atWindow atStore atHoldings =
     let reached = linked f mostTasks (byteAt f 0 2) in
     let read = atTasks ∙ ap (entriesAt f) atTask in
     let ceilings = atLocks ∙ ap (ceilingsAt f) atLock in
+    let times = atHoldings ∙ ap (holdingsAt f) atLock in
     let count = ap (λ e. e .count) read ∙ sym (length-map reached (linkedTask f)) in
     let entries =
     ap (λ e. e .entries) read ∙ ap (padded mostTasks noTask) (sym (map-map (entryAt f) (linkedTask f) reached)) in
@@ -46,6 +49,7 @@ table-parts f firstTask firstLock window store tasks locks atTask atTasks atLock
       entries = entries i;
       locks = ceilings i .count;
       ceilings = ceilings i .ceilings;
+      holdings = times i;
     }
 
 byte-at-requires : tie.Need-byte-at-requires
@@ -66,11 +70,15 @@ wide-at-requires c κs = search needs
 store-at-requires : tie.Need-store-at-requires
 store-at-requires c κs = search needs
 
+holdings-at-requires : tie.Need-holdings-at-requires
+holdings-at-requires c κs = search needs
+
 returns : tie.Need-returns
 returns c =
-    table-parts _ _ _ _ _ _ _ (c .before .before .before .before .before .before .before .byte-at .ensures)
-    (c .before .before .before .before .before .before .entries-at .ensures) (c .before .before .before .before .before .byte-at2 .ensures)
-    (c .before .before .before .before .ceilings-at .ensures) (c .before .wide-at .ensures) (c .store-at .ensures)
+    table-parts _ _ _ _ _ _ _ _ (c .before .before .before .before .before .before .before .before .byte-at .ensures)
+    (c .before .before .before .before .before .before .before .entries-at .ensures) (c .before .before .before .before .before .before .byte-at2 .ensures)
+    (c .before .before .before .before .before .ceilings-at .ensures) (c .before .before .wide-at .ensures)
+    (c .before .store-at .ensures) (c .holdings-at .ensures)
 
 pub table-at-spec : {M : Type 1} → statement M
 table-at-spec =
@@ -82,4 +90,5 @@ table-at-spec =
     ceilings-at-requires
     wide-at-requires
     store-at-requires
+    holdings-at-requires
     returns)

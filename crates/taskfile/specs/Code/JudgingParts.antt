@@ -25,6 +25,7 @@ pub record Shaped (t : Table) : Type 0 where
   pub entriesFull : length (t .entries) ≡ 8
   pub tasksWithin : t .tasks ≤ 8
   pub ceilingsFull : length (t .ceilings) ≡ 8
+  pub holdingsFull : length (t .holdings) ≡ 8
   pub locksWithin : t .locks ≤ 8
   pub bodies : (i : ℕ) → i < 8 → ShapedEntry (getD (t .entries) i noTask)
 

@@ -1,7 +1,7 @@
 -- The parts of a table by following indices, as the functions of the reader yield them.
 -- Assumes nothing.
 use Prim.Native.Nat.{ℕ, zero, suc}
-use mathlib.Core.List.{map}
+use mathlib.Core.List.{List, map}
 use lib.ListN.{length}
 use Rattle.taskfile.specs.declared.Body.{Body}
 use Rattle.taskfile.specs.declared.Ceilings.{Ceilings}
@@ -12,7 +12,7 @@ use Rattle.taskfile.specs.declared.Site.the-variants.{AtHeader, AtTask, 
 use Rattle.taskfile.specs.Chains.{mostInstructions, mostTasks, mostLocks}
 use Rattle.notation.specs.Lists.{padded}
 use Rattle.taskfile.specs.Code.Reading.{linked, linkedTask}
-use Rattle.taskfile.specs.Records.{File, byteAt, next, instructionAt}
+use Rattle.taskfile.specs.Records.{File, byteAt, wideAt, next, instructionAt}
 use Rattle.taskfile.specs.Tables.{endInstruction, noTask, entryAt}
 
 -- a chain of at most n records, in an array with room for the longest
@@ -35,6 +35,9 @@ unfoldable pub ceilingsAt : File → ℕ → Ceilings
 ceilingsAt f first =
     let locks = linked f mostLocks first in
     record { count = length locks; ceilings = padded mostLocks 0 (map (λ r. byteAt f r 2) locks) }
+
+unfoldable pub holdingsAt : File → ℕ → List ℕ
+holdingsAt f first = padded mostLocks 0 (map (λ r. wideAt f r 4) (linked f mostLocks first))
 
 -- the record that n links lead to
 unfoldable pub linkAfter : File → ℕ → ℕ → ℕ

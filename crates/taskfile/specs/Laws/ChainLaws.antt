@@ -23,8 +23,8 @@ use Rattle.notation.specs.Lists.{padded}
 use Rattle.notation.specs.Laws.PairLaws.{every-at, every-of, every-map}
 use Rattle.taskfile.specs.Code.Reading.{linked, linkedTask, linkedChains}
 use Rattle.taskfile.specs.Code.ReadingParts.{linkAfter, siteRecord}
-use Rattle.taskfile.specs.Records.{File, byteAt, next, instructionAt}
-use Rattle.taskfile.specs.Tables.{endInstruction, noTask, tasksOf, taskOf, bodyOf, ceilingsOf, entryAt, tableAt}
+use Rattle.taskfile.specs.Records.{File, byteAt, wideAt, next, instructionAt}
+use Rattle.taskfile.specs.Tables.{endInstruction, noTask, tasksOf, taskOf, bodyOf, ceilingsOf, holdingsOf, entryAt, tableAt}
 use Rattle.notation.specs.Laws.QuantifierLaws.{map-at}
 
 -- a chain that passed is the records that its links lead to
@@ -108,6 +108,11 @@ pub ceilings-held : (f : File) (c : Chains) → length (c .locks) ≤ mostLocks
 unfolding ceilingsOf tableAt
 ceilings-held f c h = padded-held mostLocks 0 (λ r. byteAt f r 2) (c .locks) h
 
+pub holdings-held : (f : File) (c : Chains) → length (c .locks) ≤ mostLocks
+    → holdingsOf (tableAt f c) ≡ map (λ r. wideAt f r 4) (c .locks)
+unfolding holdingsOf tableAt
+holdings-held f c h = padded-held mostLocks 0 (λ r. wideAt f r 4) (c .locks) h
+
 pub body-held : (f : File) (t : TaskChain) → length (t .body) ≤ mostInstructions
     → bodyOf (entryAt f t) ≡ map (instructionAt f) (t .body)
 unfolding bodyOf entryAt
@@ -186,6 +191,7 @@ table-shaped f =
       entriesFull = padded-length mostTasks noTask entries;
       tasksWithin = simp length-map (linked-length f mostTasks (byteAt f 0 2));
       ceilingsFull = padded-length mostLocks 0 (map (λ r. byteAt f r 2) locks);
+      holdingsFull = padded-length mostLocks 0 (map (λ r. wideAt f r 4) locks);
       locksWithin = linked-length f mostLocks (byteAt f 0 3);
       bodies = λ i h.
           every-at ShapedEntry (padded mostTasks noTask entries) i noTask

@@ -23,7 +23,7 @@ use Rattle.timing.specs.declared.Bound.{Bound}
 use Rattle.timing.specs.declared.Bound.the-variants.{Within, Overload}
 use Rattle.timing.specs.declared.Responses.{Responses}
 use Rattle.timing.specs.declared.Share.{Share}
-use Rattle.timing.specs.Response.{interference, need, demand}
+use Rattle.timing.specs.Response.{tasksAbove, interference, need, demand}
 
 -- a table whose times can be worked out: its arrays are full, and each task has 1 ≤ C ≤ P
 pub record Timeable (t : Table) : Type 0 where
@@ -102,7 +102,7 @@ pub record Fits (above : List TaskEntry) (base b : ℕ) : Type 0 where
   pub within : span ≤ b
   pub enough : base + interference above span ≤ span
 
--- each listed task meets its own period, where those after it stand above it
+-- each listed task meets its own period where it waits for no lock, and those after it stand above it
 abbrev pub AllFit : List TaskEntry → Type 0
 AllFit [] = Unit {0}
 AllFit (e ∷ above) = Fits above (e .execution) (e .period) × AllFit above
@@ -115,6 +115,10 @@ fitsFrom (e ∷ above) base b =
     leb base b
     && (not (eqb (b % e .period) 0) && fitsFrom above (base + (b / e .period + 1) * e .execution) b
     || fitsFrom above (base + b / e .period * e .execution) (b / e .period * e .period))
+
+-- the test whether task i meets its period where it waits for no lock
+unfoldable pub fitsAlone : Table → Task → Bool
+fitsAlone t i = fitsFrom (tasksAbove t i) (taskOf t i .execution) (taskOf t i .period)
 
 -- the response times of a table, or its refusal
 abbrev pub ResponsesAs : Responses → Checked Site (List ℕ) → Type 0

@@ -13,6 +13,7 @@ use Rattle.taskfile.specs.declared.Task.{Task}
 use Rattle.taskfile.specs.declared.TaskEntry.{TaskEntry}
 use Rattle.taskfile.specs.Judgement.{numbered}
 use Rattle.taskfile.specs.Tables.{tasksOf}
+use Rattle.timing.specs.Blocking.{blocking}
 use Rattle.timing.specs.Response.{roundedUp, interference, need}
 use Rattle.timing.specs.Laws.ResponseLaws.{roundedUp-tight}
 use Rattle.timing.specs.Code.ResponseParts.{Timeable, Column, executionAt, periodAt, BoundedTimes, TimesOf, NeedOf}
@@ -78,14 +79,14 @@ module _ {t : Table} {Cs Ps : List ℕ} {n : ℕ} (times : TimesOf t Cs Ps n) wh
         within = omega (arith, times .timeable .within i below);
       }
 
-  -- what task i needs
-  pub lent-need : (i : Task) → i .0 < n → NeedOf t i (getD Cs (i .0) 0)
+  -- what task i needs: its execution time, and how long it may wait for a lower task's lock
+  pub lent-need : (i : Task) → i .0 < n → {B : ℕ} → B ≡ blocking t i → B < 2 ^ 32 → NeedOf t i (getD Cs (i .0) 0 + B)
   unfolding need
-  lent-need i lt =
+  lent-need i lt wait narrow =
       let read = lent-read i lt in
       record {
-        same = read .execution;
-        positive = read .positive;
+        same = rw (read .execution, wait);
+        positive = omega (arith, read .positive);
         narrow = omega (arith, read .within, times .periods .narrow (i .0) lt);
       }
 

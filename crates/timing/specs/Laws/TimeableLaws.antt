@@ -3,7 +3,7 @@
 -- Assumes nothing.
 use mathlib.Core.Path.{_≡_, sym, _∙_}
 use Prim.Native.Nat.{ℕ, _+_, _*_, _≤_, _<_}
-use native.Mathlib.Nat.{le-refl, le-trans}
+use native.Mathlib.Nat.{le-trans}
 use native.Mathlib.Numerals.{add-one}
 use native.Mathlib.Omega.{arith}
 use mathlib.Core.List.{[], _∷_, map}
@@ -88,7 +88,7 @@ jobs-step {t} timeable k d lt e =
 -- it is no less than the execution time
 pub need-least : (t : Table) (i : Task) → taskOf t i .execution ≤ need t i
 unfolding need
-need-least t i = le-refl _
+need-least t i = omega arith
 
 -- so it is positive
 pub need-positive : {t : Table} → Timeable t → (i : Task) → i .0 < t .tasks → 1 ≤ need t i

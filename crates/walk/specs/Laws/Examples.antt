@@ -8,7 +8,7 @@ use Rattle.notation.specs.Checked.{refused, passed}
 use Rattle.timing.specs.Accepted.{Accepted}
 use Rattle.machine.specs.Ends.{End, noStore}
 use Rattle.samples.specs.Laws.Opened.{opened}
-use Rattle.samples.specs.Laws.Samples.{nest, pair, pickUpTo, idle, twice, samplesOpened, firstFailed}
+use Rattle.samples.specs.Laws.Samples.{nest, pair, pickUpTo, idle, twice, apart, wait, samplesOpened, twoSet, firstFailed}
 use Rattle.order.specs.Laws.Opened.{ordersOpened}
 use Rattle.order.specs.Orders.{run}
 use Rattle.order.specs.States.{State, initial}
@@ -29,6 +29,10 @@ movesAfter a bytes = movesAt a (run a (initial a) bytes)
 abbrev firstFails : End
 firstFails = record { store = noStore; failed = firstFailed }
 
+-- the same with 1 in variable 0
+abbrev storedFails : End
+storedFails = record { store = twoSet 1 0; failed = firstFailed }
+
 pub record WalkExamples : Type 0 where
   -- "the running job's step, then each start by ascending task, and Pick values ascending"
   pub firstMoves : movesAfter nest [] ≡ 0 ∷ 16 ∷ 32 ∷ 33 ∷ 34 ∷ 35 ∷ []
@@ -47,6 +51,14 @@ pub record WalkExamples : Type 0 where
   pub idling : walk idle ≡ record { failing = none; count = 0 }
   -- job 1 starts before job 0 or after 1, 5 or 7 of its seven steps: 7 moves, and 1, 3, 7 and 8 more
   pub counting : walk twice ≡ record { failing = none; count = 26 }
+  -- Document 02, E4: job 0 comes before job 1 where it waits for no lock, and may be preempted by it where it may have
+  -- to wait. Then an order fails.
+  pub apartHolds : walk apart ≡ record { failing = none; count = 7 }
+  pub waitFails : walk wait
+      ≡ record {
+        failing = some (record { bytes = 16 ∷ 32 ∷ 32 ∷ 32 ∷ 16 ∷ 16 ∷ 16 ∷ 16 ∷ []; ending = storedFails });
+        count = 23;
+      }
 
 pub walk-examples : WalkExamples
 unfolding opened samplesOpened ordersOpened walksOpened movesAt
@@ -62,4 +74,6 @@ walk-examples =
       holding = refl;
       idling = refl;
       counting = refl;
+      apartHolds = refl;
+      waitFails = refl;
     }

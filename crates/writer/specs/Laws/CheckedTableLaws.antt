@@ -1,6 +1,6 @@
 -- What a table is like whose fields passed: its counts stay within its arrays, so what it claims is what it holds.
 -- Assumes nothing.
-use mathlib.Core.Path.{_≡_, subst}
+use mathlib.Core.Path.{_≡_, subst, _∙_}
 use Prim.Native.Nat.{ℕ, suc, _+_, _≤_}
 use native.Mathlib.Omega.{arith}
 use mathlib.Core.Bool.{not}
@@ -18,10 +18,12 @@ use Rattle.taskfile.specs.declared.TaskEntry.{TaskEntry}
 use Rattle.taskfile.specs.Chains.{mostTasks, mostLocks, mostInstructions}
 use Rattle.taskfile.specs.Judgement.{numbered}
 use Rattle.taskfile.specs.Records.{timesInRange}
-use Rattle.taskfile.specs.Tables.{tasksOf, bodyOf, ceilingsOf, endInstruction, noTask}
-use Rattle.writer.specs.Claims.{claimed, claimedTasks, claimedBody, claimedCeilings, FitsEntry, Fits}
+use Rattle.taskfile.specs.Tables.{tasksOf, bodyOf, ceilingsOf, holdingsOf, endInstruction, noTask}
+use Rattle.writer.specs.declared.Lock.{Lock}
+use Rattle.writer.specs.Claims.{claimed, claimedTasks, claimedBody, lockByLock, noLock, claimedLocks, FitsEntry, Fits}
 use Rattle.writer.specs.Fields.{bodyFields, taskFields, lockFields, fields}
 use Rattle.writer.specs.Laws.ClaimLaws.{claimed-covered}
+use Rattle.writer.specs.Laws.LockLaws.{locks-take, locks-full}
 
 -- a count is within its array where no part too many is claimed
 claimed-within : {A : Type 0} (count : ℕ) (array : List A) (blank : A) (most : ℕ) → length array ≡ most
@@ -41,11 +43,11 @@ body-few i p (here ∷ others) e h =
     let below = ltb→lt p mostInstructions (require-passed (ltb p mostInstructions) 5 _ (room .1)) in
     omega (arith, body-few i (suc p) others (then-passed _ _ (room .2) .2) below)
 
-locks-few : (l : ℕ) (ceilings : List ℕ) {u : Unit {0}} → lockFields l ceilings ≡ passed u → l ≤ mostLocks
-    → l + length ceilings ≤ mostLocks
+locks-few : (l : ℕ) (locks : List Lock) {u : Unit {0}} → lockFields l locks ≡ passed u → l ≤ mostLocks
+    → l + length locks ≤ mostLocks
 unfolding lockFields
 locks-few l [] e h = omega arith
-locks-few l (ceiling ∷ others) e h =
+locks-few l (lock ∷ others) e h =
     let room = then-passed (require (ltb l mostLocks) 5 (AtLock l)) _ e in
     let below = ltb→lt l mostLocks (require-passed (ltb l mostLocks) 5 _ (room .1)) in
     omega (arith, locks-few (suc l) others (then-passed _ _ (room .2) .2) below)
@@ -107,27 +109,42 @@ tasks-within-claimed : (t : Table) → Fits t → t .tasks ≤ 8 → claimedTask
 unfolding claimedTasks tasksOf
 tasks-within-claimed t fit within = claimed-covered (t .tasks) (t .entries) noTask (omega (arith, fit .entriesFull))
 
-ceilings-within-claimed : (t : Table) → Fits t → t .locks ≤ 8 → claimedCeilings t ≡ ceilingsOf t
-unfolding claimedCeilings ceilingsOf
-ceilings-within-claimed t fit within = claimed-covered (t .locks) (t .ceilings) 0 (omega (arith, fit .ceilings))
+locks-within-claimed : (t : Table) → Fits t → t .locks ≤ 8
+    → claimedLocks t ≡ lockByLock (ceilingsOf t) (holdingsOf t)
+unfolding claimedLocks ceilingsOf holdingsOf
+locks-within-claimed t fit within =
+    claimed-covered (t .locks) (lockByLock (t .ceilings) (t .holdings)) noLock (omega (arith, locks-full t fit))
+    ∙ locks-take (t .locks) (t .ceilings) (t .holdings)
+
+-- as many holding times as ceilings
+pub locks-even : (t : Table) → Fits t → length (ceilingsOf t) ≡ length (holdingsOf t)
+unfolding ceilingsOf holdingsOf
+locks-even t fit =
+    omega (
+      arith,
+      length-take (t .locks) (t .ceilings),
+      length-take (t .locks) (t .holdings),
+      fit .ceilings,
+      fit .holdingsFull,
+    )
 
 -- the tasks passed, and the locks
 fields-parts : (t : Table) {u : Unit {0}} → fields t ≡ passed u
-    → (taskFields 0 (claimedTasks t) ≡ passed tt) × (lockFields 0 (claimedCeilings t) ≡ passed tt)
+    → (taskFields 0 (claimedTasks t) ≡ passed tt) × (lockFields 0 (claimedLocks t) ≡ passed tt)
 unfolding fields
 fields-parts t h =
-    let parts = then-passed (taskFields 0 (claimedTasks t)) (lockFields 0 (claimedCeilings t))
+    let parts = then-passed (taskFields 0 (claimedTasks t)) (lockFields 0 (claimedLocks t))
     (then-passed _ _ (then-passed _ _ h .2) .2) in
     (parts .1, parts .2)
 
 -- no part too many is claimed
 pub claims-few : (t : Table) {u : Unit {0}} → fields t ≡ passed u
-    → (length (claimedTasks t) ≤ mostTasks) × (length (claimedCeilings t) ≤ mostLocks)
+    → (length (claimedTasks t) ≤ mostTasks) × (length (claimedLocks t) ≤ mostLocks)
     × Every (λ e. length (claimedBody e) ≤ mostInstructions) (claimedTasks t)
 claims-few t sound =
     let parts = fields-parts t sound in
     let tasks = tasks-few 0 (claimedTasks t) (parts .0) (omega arith) in
-    let locks = locks-few 0 (claimedCeilings t) (parts .1) (omega arith) in
+    let locks = locks-few 0 (claimedLocks t) (parts .1) (omega arith) in
     (omega arith, omega arith, bodies-few 0 (claimedTasks t) (parts .0))
 
 module _ (t : Table) (fit : Fits t) {u : Unit {0}} (sound : fields t ≡ passed u) where
@@ -137,8 +154,10 @@ module _ (t : Table) (fit : Fits t) {u : Unit {0}} (sound : fields t ≡ passed 
       claimed-within (t .tasks) (t .entries) noTask mostTasks (fit .entriesFull) (claims-few t sound .0)
 
   locks-within : t .locks ≤ 8
-  unfolding claimedCeilings
-  locks-within = claimed-within (t .locks) (t .ceilings) 0 mostLocks (fit .ceilings) (claims-few t sound .1)
+  unfolding claimedLocks
+  locks-within =
+      claimed-within (t .locks) (lockByLock (t .ceilings) (t .holdings)) noLock mostLocks (locks-full t fit)
+      (claims-few t sound .1)
 
   -- the ninth task, the ninth lock and the seventeenth instruction are refused by 5
   pub fields-within : (t .tasks ≤ 8) × (t .locks ≤ 8) × Every (λ (e : TaskEntry). e .length ≤ 16) (tasksOf t)
@@ -152,8 +171,8 @@ module _ (t : Table) (fit : Fits t) {u : Unit {0}} (sound : fields t ≡ passed 
   pub tasks-claimed : claimedTasks t ≡ tasksOf t
   tasks-claimed = tasks-within-claimed t fit tasks-within
 
-  pub ceilings-claimed : claimedCeilings t ≡ ceilingsOf t
-  ceilings-claimed = ceilings-within-claimed t fit locks-within
+  pub locks-claimed : claimedLocks t ≡ lockByLock (ceilingsOf t) (holdingsOf t)
+  locks-claimed = locks-within-claimed t fit locks-within
 
   pub bodies-claimed : Every (λ e. claimedBody e ≡ bodyOf e) (tasksOf t)
   bodies-claimed = bodies-within-claimed (tasksOf t) (tasks-fit t fit) (fields-within .2)

@@ -1,6 +1,6 @@
 -- Laws of what a table claims: as many parts as the count says, at most one more than the array holds.
 -- Assumes nothing.
-use mathlib.Core.Path.{_≡_, _∙_}
+use mathlib.Core.Path.{_≡_, sym, _∙_}
 use Prim.Native.Nat.{ℕ, suc, _+_, _≤_}
 use native.Mathlib.Omega.{arith}
 use mathlib.Core.List.{List, [], _∷_, _++_, map}
@@ -9,9 +9,10 @@ use lib.Seq.{take-append-le}
 use Rattle.notation.specs.Lists.{padded}
 use Rattle.notation.specs.Laws.PaddedLaws.{padded-length, padded-held}
 use Rattle.taskfile.specs.Chains.{Chains, TaskChain, mostInstructions, mostTasks, mostLocks}
-use Rattle.taskfile.specs.Records.{File, byteAt, instructionAt}
+use Rattle.taskfile.specs.Records.{File, byteAt, wideAt, instructionAt}
 use Rattle.taskfile.specs.Tables.{endInstruction, noTask, entryAt, tableAt}
-use Rattle.writer.specs.Claims.{claimed, claimedTasks, claimedBody, claimedCeilings}
+use Rattle.writer.specs.Claims.{claimed, claimedTasks, claimedBody, lockByLock, noLock, claimedLocks}
+use Rattle.writer.specs.Laws.LockLaws.{lockAt, locks-length, locks-take, locks-read}
 
 -- a count that stays within the array claims what it covers
 pub claimed-covered : {A : Type 0} (count : ℕ) (array : List A) (blank : A) → count ≤ length array
@@ -49,7 +50,21 @@ pub tasks-spelled : (f : File) (c : Chains) → length (c .tasks) ≤ mostTasks
 unfolding claimedTasks tableAt
 tasks-spelled f c few = claimed-held mostTasks noTask noTask (entryAt f) (c .tasks) few
 
-pub ceilings-spelled : (f : File) (c : Chains) → length (c .locks) ≤ mostLocks
-    → claimedCeilings (tableAt f c) ≡ map (λ r. byteAt f r 2) (c .locks)
-unfolding claimedCeilings tableAt
-ceilings-spelled f c few = claimed-held mostLocks 0 0 (λ r. byteAt f r 2) (c .locks) few
+-- two arrays that hold lists of one length claim them joined
+locks-held : (n m : ℕ) (ceilings holdings : List ℕ) → length ceilings ≡ m → length holdings ≡ m → n ≤ m
+    → claimed n (lockByLock ceilings holdings) noLock ≡ lockByLock (take n ceilings) (take n holdings)
+locks-held n m ceilings holdings full even few =
+    claimed-covered n (lockByLock ceilings holdings) noLock
+    (omega (arith, locks-length ceilings holdings (full ∙ sym even), full))
+    ∙ locks-take n ceilings holdings
+
+pub locks-spelled : (f : File) (c : Chains) → length (c .locks) ≤ mostLocks
+    → claimedLocks (tableAt f c) ≡ map (lockAt f) (c .locks)
+unfolding claimedLocks tableAt
+locks-spelled f c few =
+    let ceilings = padded-held mostLocks 0 (λ r. byteAt f r 2) (c .locks) few in
+    let holdings = padded-held mostLocks 0 (λ r. wideAt f r 4) (c .locks) few in
+    locks-held (length (c .locks)) mostLocks _ _ (padded-length mostLocks 0 (map (λ r. byteAt f r 2) (c .locks)))
+    (padded-length mostLocks 0 (map (λ r. wideAt f r 4) (c .locks))) few
+    ∙ (λ j. lockByLock (ceilings j) (holdings j))
+    ∙ locks-read f (c .locks)

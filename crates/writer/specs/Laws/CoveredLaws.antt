@@ -1,4 +1,4 @@
--- The covered table of a table whose fields passed: it holds the same tasks and ceilings, and so it is the same table.
+-- The covered table of a table whose fields passed: it holds the same tasks and locks, and so it is the same table.
 -- Assumes nothing.
 use mathlib.Core.Path.{_≡_, refl, ap, _∙_}
 use Prim.Native.Nat.{ℕ, _≤_, _<_}
@@ -14,7 +14,7 @@ use Rattle.taskfile.specs.declared.Table.{Table}
 use Rattle.taskfile.specs.declared.Task.{Task}
 use Rattle.taskfile.specs.declared.TaskEntry.{TaskEntry}
 use Rattle.taskfile.specs.Chains.{mostTasks, mostLocks, mostInstructions}
-use Rattle.taskfile.specs.Tables.{tasksOf, taskOf, bodyOf, ceilingsOf, endInstruction, noTask}
+use Rattle.taskfile.specs.Tables.{tasksOf, taskOf, bodyOf, ceilingsOf, holdingsOf, endInstruction, noTask}
 use Rattle.writer.specs.Claims.{coveredEntry, covered, FitsEntry, Fits}
 use Rattle.writer.specs.Fields.{fields}
 use Rattle.writer.specs.Laws.CheckedTableLaws.{tasks-fit, fields-within}
@@ -48,7 +48,7 @@ unfolding tasksOf
 held-tasks-length t fit within = omega (arith, length-take (t .tasks) (t .entries), fit .entriesFull)
 
 module _ (t : Table) (fit : Fits t) {u : Unit {0}} (sound : fields t ≡ passed u) where
-  -- the covered table's tasks, ceilings, and its task number i
+  -- the covered table's tasks, ceilings and holding times, and its task number i
   pub tasks-covered : tasksOf (covered t) ≡ map coveredEntry (tasksOf t)
   unfolding tasksOf covered
   tasks-covered =
@@ -62,6 +62,13 @@ module _ (t : Table) (fit : Fits t) {u : Unit {0}} (sound : fields t ≡ passed 
       let within = fields-within t fit sound .1 in
       padded-taken (t .locks) mostLocks 0 (ceilingsOf t)
       (omega (arith, length-take (t .locks) (t .ceilings), fit .ceilings)) within
+
+  pub holdings-covered : holdingsOf (covered t) ≡ holdingsOf t
+  unfolding holdingsOf covered
+  holdings-covered =
+      let within = fields-within t fit sound .1 in
+      padded-taken (t .locks) mostLocks 0 (holdingsOf t)
+      (omega (arith, length-take (t .locks) (t .holdings), fit .holdingsFull)) within
 
   pub task-covered : (i : Task) → i .0 < length (tasksOf t) → taskOf (covered t) i ≡ coveredEntry (taskOf t i)
   unfolding taskOf
@@ -80,4 +87,5 @@ module _ (t : Table) (fit : Fits t) {u : Unit {0}} (sound : fields t ≡ passed 
             ap (map contentsOf) tasks-covered
             ∙ contents-covered (tasksOf t) (tasks-fit t fit) (fields-within t fit sound .2);
         ceilings = ceilings-covered;
+        holdings = holdings-covered;
       }

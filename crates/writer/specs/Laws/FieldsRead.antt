@@ -15,21 +15,23 @@ use Rattle.notation.specs.Lists.{padded}
 use Rattle.notation.specs.Ordered.{Every}
 use Rattle.notation.specs.Laws.CheckedLaws.{then-goes, require-holds}
 use Rattle.notation.specs.Laws.PaddedLaws.{padded-length, every-padded}
-use Rattle.notation.specs.Laws.PairLaws.{every-map}
+use Rattle.notation.specs.Laws.PairLaws.{every-of, every-map}
 use Rattle.notation.specs.Laws.TestLaws.{and-both}
 use Rattle.taskfile.specs.declared.Instruction.{Instruction}
 use Rattle.taskfile.specs.declared.Kind.{Kind}
 use Rattle.taskfile.specs.declared.Kind.the-variants.{Header, LockRecord, InstructionRecord}
 use Rattle.taskfile.specs.Chains.{Chains, TaskChain, mostTasks, mostLocks, mostInstructions, chainsOf}
-use Rattle.taskfile.specs.Laws.ChainLaws.{tasks-held, ceilings-held, body-held}
+use Rattle.taskfile.specs.Laws.ChainLaws.{tasks-held, ceilings-held, holdings-held, body-held}
 use Rattle.taskfile.specs.Records.{File, byteAt, wideAt, next, tidy, inRange, zeroFrom, instructionAt}
 use Rattle.taskfile.specs.Records.{tidyInstruction, instructionInRange, windowInRange}
 use Rattle.taskfile.specs.Tables.{endInstruction, noTask, entryAt, tableAt}
-use Rattle.writer.specs.Claims.{claimedTasks, claimedBody, claimedCeilings, covered, coveredEntry, Bytes, Fits, FitsEntry}
+use Rattle.writer.specs.Claims.{claimedTasks, claimedBody, claimedLocks, covered, coveredEntry, Bytes, Fits, FitsEntry}
 use Rattle.writer.specs.Fields.{bodyFields, taskFields, lockFields, fields}
 use Rattle.writer.specs.Laws.ChainRecords.{GoodRecord, LedChain, LedTasks, chains-led}
 use Rattle.writer.specs.Laws.LaidChainLaws.{noTask-fits}
-use Rattle.writer.specs.Laws.ClaimLaws.{body-spelled, tasks-spelled, ceilings-spelled}
+use Rattle.writer.specs.Laws.ClaimLaws.{body-spelled, tasks-spelled, locks-spelled}
+use Rattle.writer.specs.Laws.LockLaws.{lockAt}
+use Rattle.writer.specs.Laws.WideBytesLaws.{Wide}
 
 -- ---- chains that passed
 
@@ -52,8 +54,8 @@ body-passes i p f index (r ∷ others) led room =
     ∙ body-passes i (suc p) f (next f r) others (led .2) (omega arith)
 
 locks-pass : (n : ℕ) (f : File) (index : ℕ) (l : List ℕ) → LedChain LockRecord f index l → n + length l ≤ 8
-    → lockFields n (map (λ r. byteAt f r 2) l) ≡ passed tt
-unfolding lockFields inRange
+    → lockFields n (map (lockAt f) l) ≡ passed tt
+unfolding lockFields inRange lockAt
 locks-pass n f index [] led room = refl
 locks-pass n f index (r ∷ others) led room =
     require-holds (ltb n 8) 5 _ _ (lt-ltb n 8 (omega arith))
@@ -102,8 +104,8 @@ fields-read f {c} e =
     let some = tasks-some f (byteAt f 0 2) (c .tasks) (led .tasks) (led .someTasks) in
     let tasks : taskFields 0 (claimedTasks t) ≡ passed tt =
     rw (tasks-spelled f c (led .fewTasks)) (tasks-pass 0 f (byteAt f 0 2) (c .tasks) (led .tasks) (omega (arith, led .fewTasks))) in
-    let locks : lockFields 0 (claimedCeilings t) ≡ passed tt =
-    rw (ceilings-spelled f c (led .fewLocks)) (locks-pass 0 f (byteAt f 0 3) (c .locks) (led .locks) (omega (arith, led .fewLocks))) in
+    let locks : lockFields 0 (claimedLocks t) ≡ passed tt =
+    rw (locks-spelled f c (led .fewLocks)) (locks-pass 0 f (byteAt f 0 3) (c .locks) (led .locks) (omega (arith, led .fewLocks))) in
     require-holds (windowInRange (t .window)) 4 _ _ (window-read f c (led .header .valuesInRange))
     ∙ require-holds (not (eqb (t .tasks) 0)) 5 _ _ (ap not (ne-eqb (t .tasks) 0 (count-read f c some)))
     ∙ then-goes _ tasks
@@ -134,6 +136,7 @@ covered-read f {c} e =
     let led = chains-led f e in
     let tasks = ap (map coveredEntry) (tasks-held f c (led .fewTasks)) ∙ entries-covered f (byteAt f 0 2) (c .tasks) (led .tasks) in
     let ceilings = ceilings-held f c (led .fewLocks) in
+    let holdings = holdings-held f c (led .fewLocks) in
     λ j. record {
       window = wideAt f 0 4;
       store = take 8 (drop 8 f);
@@ -141,6 +144,7 @@ covered-read f {c} e =
       entries = padded mostTasks noTask (tasks j);
       locks = length (c .locks);
       ceilings = padded mostLocks 0 (ceilings j);
+      holdings = padded mostLocks 0 (holdings j);
     }
 
 -- ---- the table of a file of bytes fits its type
@@ -180,6 +184,11 @@ fits-read f small {c} e =
           every-padded FitsEntry mostTasks noTask (map (entryAt f) (c .tasks)) noTask-fits
           (every-map FitsEntry (entryAt f) (c .tasks) (entries-fit (c .tasks)));
       ceilings = padded-length mostLocks 0 (map (λ r. byteAt f r 2) (c .locks));
+      holdingsFull = padded-length mostLocks 0 (map (λ r. wideAt f r 4) (c .locks));
+      holdings =
+          every-padded Wide mostLocks 0 (map (λ r. wideAt f r 4) (c .locks)) (omega arith)
+          (every-map Wide (λ r. wideAt f r 4) (c .locks)
+          (every-of (λ r. Wide (wideAt f r 4)) (λ r. wide-small f small r 4) (c .locks)));
     }
   where
     entries-fit : (ts : List TaskChain) → Every (λ (t : TaskChain). FitsEntry (entryAt f t)) ts

@@ -2,13 +2,14 @@
 -- array element by element.
 -- Assumes nothing.
 use mathlib.Core.Path.{sym, _∙_}
+use Prim.Native.Nat.{ℕ, _<_, _^_}
 use mathlib.Core.List.{List, [], _∷_, map}
 use lib.ListN.{length-map}
 use mir.Val.{Val}
 use denote.Array.{each}
 use denote.Laws.{Is}
 use denote.Shadow.{shadow}
-use denote.Struct.Field.{Field}
+use denote.Struct.Field.{Field, u32-field}
 use Rattle.notation.specs.Ordered.{Every}
 use Rattle.taskfile.proofs.Table as table
 use Rattle.taskfile.proofs.TaskEntry as entry
@@ -44,4 +45,8 @@ table-fits t vs is =
       entriesFull = sym (length-map (t .entries) _) ∙ parts .1 .1 .1 .0 .1 .0 .1;
       entries = elements-fit entry.the-field FitsEntry entry-fits (t .entries) _ (parts .1 .1 .1 .0 .1 .1);
       ceilings = sym (length-map (t .ceilings) _) ∙ parts .1 .1 .1 .1 .1 .0 .1 .0 .1;
+      holdingsFull = sym (length-map (t .holdings) _) ∙ parts .1 .1 .1 .1 .1 .1 .0 .1 .0 .1;
+      holdings =
+          elements-fit u32-field (λ (h : ℕ). h < 2 ^ 32) (λ h vs is. is .1) (t .holdings) _
+          (parts .1 .1 .1 .1 .1 .1 .0 .1 .1);
     }

@@ -7,7 +7,7 @@ use Rattle.notation.specs.Lists.{from}
 use Rattle.taskfile.specs.declared.Table.{Table}
 use Rattle.taskfile.specs.declared.TaskEntry.{TaskEntry}
 use Rattle.taskfile.specs.Chains.{Chains, TaskChain}
-use Rattle.writer.specs.Claims.{claimedTasks, claimedBody, claimedCeilings, locksAt}
+use Rattle.writer.specs.Claims.{claimedTasks, claimedBody, claimedLocks, locksAt}
 use Rattle.writer.specs.Layout.{afterTask}
 
 -- the task at index r, and its body after it
@@ -21,4 +21,4 @@ laidTasks r (e ∷ others) = laidTask r e ∷ laidTasks (afterTask r e) others
 
 unfoldable pub laidChains : Table → Chains
 laidChains t =
-    record { tasks = laidTasks 1 (claimedTasks t); locks = from (locksAt t) (length (claimedCeilings t)) }
+    record { tasks = laidTasks 1 (claimedTasks t); locks = from (locksAt t) (length (claimedLocks t)) }

@@ -25,7 +25,7 @@ use Rattle.taskfile.specs.File.{sized}
 use Rattle.taskfile.specs.Laws.CheckSteps.{noneOf-upTo-none}
 use Rattle.taskfile.specs.Records.{records, windowInRange}
 use Rattle.taskfile.specs.Tables.{endInstruction, noTask}
-use Rattle.writer.specs.Claims.{claimed, claimedTasks, claimedBody, claimedCeilings, recordTotal, indexOf, locksAt}
+use Rattle.writer.specs.Claims.{claimed, claimedTasks, claimedBody, lockByLock, noLock, claimedLocks, recordTotal, indexOf, locksAt}
 use Rattle.writer.specs.Claims.{FitsEntry, Fits}
 use Rattle.writer.specs.Fields.{taskFields, lockFields, fields}
 use Rattle.writer.specs.Layout.{linkTo, afterTask, headerRecord, taskRecords, lockRecords, layout}
@@ -36,6 +36,7 @@ use Rattle.writer.specs.Laws.LaidRecordLaws.{header-kind, header-task, h
 use Rattle.writer.specs.Laws.LaidTaskLaws.{TaskPlaces, claimed-linked, locks-laid, tasks-laid}
 use Rattle.writer.specs.Laws.LayoutLaws.{headerRecord-length, taskRecords-length, lockRecords-length}
 use Rattle.writer.specs.Laws.LayoutLaws.{recordTotal-cons}
+use Rattle.writer.specs.Laws.LockLaws.{locks-full}
 use Rattle.writer.specs.Laws.PartLaws.{StandsAt, stands-first, stands-second}
 use Rattle.writer.specs.Laws.PlacedCheckLaws.{placed-whole}
 
@@ -70,37 +71,37 @@ total-most [] fit = omega arith
 total-most (e ∷ others) fit = omega (arith, recordTotal-cons e others, body-most e (fit .0), total-most others (fit .1))
 
 pub layout-bytes : (t : Table) → Fits t
-    → length (layout t) ≡ 16 * (suc (recordTotal (claimedTasks t)) + length (claimedCeilings t))
+    → length (layout t) ≡ 16 * (suc (recordTotal (claimedTasks t)) + length (claimedLocks t))
 unfolding layout
 layout-bytes t fits =
-    let header = headerRecord t (linkTo 1 (claimedTasks t)) (linkTo (locksAt t) (claimedCeilings t)) in
+    let header = headerRecord t (linkTo 1 (claimedTasks t)) (linkTo (locksAt t) (claimedLocks t)) in
     let tasks = taskRecords 1 (claimedTasks t) in
-    let locks = lockRecords (locksAt t) (claimedCeilings t) in
+    let locks = lockRecords (locksAt t) (claimedLocks t) in
     length-append (header ++ tasks) locks
     ∙ omega (
       arith,
       length-append header tasks,
-      headerRecord-length t (linkTo 1 (claimedTasks t)) (linkTo (locksAt t) (claimedCeilings t)) (fits .store),
+      headerRecord-length t (linkTo 1 (claimedTasks t)) (linkTo (locksAt t) (claimedLocks t)) (fits .store),
       taskRecords-length 1 (claimedTasks t),
-      lockRecords-length (locksAt t) (claimedCeilings t),
+      lockRecords-length (locksAt t) (claimedLocks t),
     )
 
 pub layout-records : (t : Table) → Fits t
-    → records (layout t) ≡ suc (recordTotal (claimedTasks t)) + length (claimedCeilings t)
+    → records (layout t) ≡ suc (recordTotal (claimedTasks t)) + length (claimedLocks t)
 unfolding records
 layout-records t fits = omega (arith, layout-bytes t fits)
 
 -- at most 1 + 9 × 18 + 9
-pub layout-most : (t : Table) → Fits t → suc (recordTotal (claimedTasks t)) + length (claimedCeilings t) ≤ 172
-unfolding claimedTasks claimedCeilings
+pub layout-most : (t : Table) → Fits t → suc (recordTotal (claimedTasks t)) + length (claimedLocks t) ≤ 172
+unfolding claimedTasks claimedLocks
 layout-most t fits =
     omega (
       arith,
       total-most (claimedTasks t) (claimed-fit t fits),
       claimed-most (t .tasks) (t .entries) noTask,
-      claimed-most (t .locks) (t .ceilings) 0,
+      claimed-most (t .locks) (lockByLock (t .ceilings) (t .holdings)) noLock,
       fits .entriesFull,
-      fits .ceilings,
+      locks-full t fits,
     )
 
 -- 1 holds of it
@@ -116,16 +117,16 @@ sized-laid t fits =
 
 -- the header, the tasks and the locks
 pub layout-parts : (t : Table) → Fits t
-    → StandsAt (layout t) 0 (headerRecord t (linkTo 1 (claimedTasks t)) (linkTo (locksAt t) (claimedCeilings t)))
+    → StandsAt (layout t) 0 (headerRecord t (linkTo 1 (claimedTasks t)) (linkTo (locksAt t) (claimedLocks t)))
     × StandsAt (layout t) 1 (taskRecords 1 (claimedTasks t))
-    × StandsAt (layout t) (locksAt t) (lockRecords (locksAt t) (claimedCeilings t))
+    × StandsAt (layout t) (locksAt t) (lockRecords (locksAt t) (claimedLocks t))
 unfolding layout locksAt
 layout-parts t fits =
     let firstTask = linkTo 1 (claimedTasks t) in
-    let firstLock = linkTo (locksAt t) (claimedCeilings t) in
+    let firstLock = linkTo (locksAt t) (claimedLocks t) in
     let header = headerRecord t firstTask firstLock in
     let tasks = taskRecords 1 (claimedTasks t) in
-    let locks = lockRecords (locksAt t) (claimedCeilings t) in
+    let locks = lockRecords (locksAt t) (claimedLocks t) in
     let whole : StandsAt (layout t) 0 (header ++ tasks ++ locks) =
     record { front = []; back = []; whole = sym (append-nil (header ++ tasks ++ locks)); before = refl } in
     let front = stands-first (layout t) 0 (header ++ tasks) locks whole in
@@ -190,7 +191,7 @@ pub reached-laid : (t : Table) → Fits t → reachedBy (laidChains t) ≡ upTo 
 unfolding reachedBy laidChains upTo from
 reached-laid t fits =
     let total = recordTotal (claimedTasks t) in
-    let n = length (claimedCeilings t) in
+    let n = length (claimedLocks t) in
     ap (λ (l : List ℕ). 0 ∷ (l ++ from (locksAt t) n)) (tasks-reached 1 (claimedTasks t))
     ∙ ap (λ (k : ℕ). 0 ∷ (from 1 total ++ from k n)) (locks-after t)
     ∙ from-append 0 (suc total) n
@@ -233,7 +234,7 @@ unfolding chainsOf fields laidChains
 chains-laid t fits =
     let f = layout t in
     let tasks = claimedTasks t in
-    let locks = claimedCeilings t in
+    let locks = claimedLocks t in
     let firstTask = linkTo 1 tasks in
     let firstLock = linkTo (locksAt t) locks in
     let parts = layout-parts t fits in

@@ -18,6 +18,7 @@ use Rattle.taskfile.specs.declared.Table.{Table}
 use Rattle.taskfile.specs.declared.TaskEntry.{TaskEntry}
 use Rattle.taskfile.specs.Records.{File, kindNumber, byteAt, wideAt, next, zeroFrom, instructionAt, tidy, inRange}
 use Rattle.taskfile.specs.Records.{tidyInstruction, instructionInRange, windowInRange, timesInRange, ceilingInRange}
+use Rattle.writer.specs.declared.Lock.{Lock}
 use Rattle.writer.specs.Claims.{Fits, FitsEntry}
 use Rattle.writer.specs.Layout.{wideBytes, instructionRecord, taskRecord, lockRecord, headerRecord}
 use Rattle.writer.specs.Laws.LayoutLaws.{headerRecord-length}
@@ -78,22 +79,32 @@ module _ (f : File) (i : Instruction) (link r : ℕ) (stands : StandsAt f r (ins
 
 -- ---- a lock's record
 
-module _ (f : File) (ceiling link r : ℕ) (stands : StandsAt f r (lockRecord ceiling link)) where
+module _ (f : File) (lock : Lock) (link r : ℕ) (stands : StandsAt f r (lockRecord lock link)) where
   pub lock-kind : byteAt f r 0 ≡ kindNumber LockRecord
-  unfolding kindNumber lockRecord
-  lock-kind = stands-byte f r (lockRecord ceiling link) stands 0 (omega arith)
+  unfolding kindNumber lockRecord wideBytes
+  lock-kind = stands-byte f r (lockRecord lock link) stands 0 (omega arith)
 
   pub lock-link : next f r ≡ link
-  unfolding next lockRecord
-  lock-link = stands-byte f r (lockRecord ceiling link) stands 1 (omega arith)
+  unfolding next lockRecord wideBytes
+  lock-link = stands-byte f r (lockRecord lock link) stands 1 (omega arith)
 
-  pub ceiling-back : byteAt f r 2 ≡ ceiling
-  unfolding lockRecord
-  ceiling-back = stands-byte f r (lockRecord ceiling link) stands 2 (omega arith)
+  pub ceiling-back : byteAt f r 2 ≡ lock .ceiling
+  unfolding lockRecord wideBytes
+  ceiling-back = stands-byte f r (lockRecord lock link) stands 2 (omega arith)
 
-  pub lock-fine : (tidy f r LockRecord && inRange f r LockRecord) ≡ ceilingInRange ceiling
-  unfolding tidy inRange lockRecord
-  lock-fine = rw (ceiling-back, zeros-stand f r (3 ∷ link ∷ ceiling ∷ []) 13 stands)
+  pub lock-fine : (tidy f r LockRecord && inRange f r LockRecord) ≡ ceilingInRange (lock .ceiling)
+  unfolding tidy inRange lockRecord wideBytes
+  lock-fine =
+      let zero-byte : byteAt f r 3 ≡ 0 = stands-byte f r (lockRecord lock link) stands 3 (omega arith) in
+      let front : List ℕ = 3 ∷ link ∷ lock .ceiling ∷ 0 ∷ wideBytes (lock .holding) in
+      rw (zero-byte, ceiling-back, zeros-stand f r front 8 stands)
+
+  pub holding-back : lock .holding < 2 ^ 32 → wideAt f r 4 ≡ lock .holding
+  unfolding lockRecord wideBytes
+  holding-back fits =
+      let byte = stands-byte f r (lockRecord lock link) stands in
+      wide-stands f r 4 (lock .holding) fits (byte 4 (omega arith)) (byte 5 (omega arith)) (byte 6 (omega arith))
+      (byte 7 (omega arith))
 
 -- ---- a task's record
 

@@ -19,14 +19,15 @@ use Rattle.taskfile.specs.declared.TaskEntry.{TaskEntry}
 use Rattle.taskfile.specs.Chains.{TaskChain}
 use Rattle.taskfile.specs.File.{recordAt}
 use Rattle.taskfile.specs.Laws.ChainLaws.{InTable}
-use Rattle.taskfile.specs.Tables.{tasksOf, taskOf, bodyOf, ceilingsOf, noTask}
-use Rattle.writer.specs.Claims.{claimedTasks, claimedBody, claimedCeilings, recordTotal, indexOf, coveredEntry, covered, FitsEntry, Fits, locksAt}
+use Rattle.taskfile.specs.Tables.{tasksOf, taskOf, bodyOf, ceilingsOf, holdingsOf, noTask}
+use Rattle.writer.specs.Claims.{claimedTasks, claimedBody, claimedLocks, recordTotal, indexOf, coveredEntry, covered, FitsEntry, Fits, locksAt}
 use Rattle.writer.specs.Fields.{fields}
 use Rattle.writer.specs.Layout.{afterTask}
-use Rattle.writer.specs.Laws.CheckedTableLaws.{tasks-fit, body-claimed, fields-within, tasks-claimed, ceilings-claimed}
+use Rattle.writer.specs.Laws.CheckedTableLaws.{tasks-fit, body-claimed, fields-within, tasks-claimed, locks-even, locks-claimed}
 use Rattle.writer.specs.Laws.CoveredLaws.{body-covered, tasks-covered, ceilings-covered, task-covered}
 use Rattle.writer.specs.Laws.Laid.{laidTask, laidTasks, laidChains}
 use Rattle.writer.specs.Laws.LayoutLaws.{recordTotal-cons}
+use Rattle.writer.specs.Laws.LockLaws.{locks-length}
 
 total-none : recordTotal [] ≡ 0
 unfolding recordTotal sum
@@ -70,9 +71,14 @@ module _ (t : Table) (fit : Fits t) {u : Unit {0}} (sound : fields t ≡ passed 
       ∙ ap (λ (tasks : List TaskEntry). claimedBody (getD tasks (i .0) noTask)) (sym (tasks-claimed t fit sound)) in
       subst (λ (body : List Instruction). p < length body) same h
 
-  lock-claimed : (l : ℕ) → l < length (ceilingsOf (covered t)) → l < length (claimedCeilings t)
+  lock-claimed : (l : ℕ) → l < length (ceilingsOf (covered t)) → l < length (claimedLocks t)
   lock-claimed l h =
-      omega (arith, ap length (ceilings-covered t fit sound), ap length (ceilings-claimed t fit sound))
+      omega (
+        arith,
+        ap length (ceilings-covered t fit sound),
+        ap length (locks-claimed t fit sound),
+        locks-length (ceilingsOf t) (holdingsOf t) (locks-even t fit),
+      )
 
   pub record-laid : (s : Site) → InTable (covered t) s → recordAt (laidChains t) s ≡ indexOf t s
   unfolding recordAt indexOf laidChains laidTask locksAt
@@ -86,4 +92,4 @@ module _ (t : Table) (fit : Fits t) {u : Unit {0}} (sound : fields t ≡ passed 
       ∙ getD-from _ _ p 0 (instruction-claimed i p (h .0) (h .1))
       ∙ omega arith
   record-laid (AtLock l) h =
-      getD-from (locksAt t) (length (claimedCeilings t)) l 0 (lock-claimed l h)
+      getD-from (locksAt t) (length (claimedLocks t)) l 0 (lock-claimed l h)

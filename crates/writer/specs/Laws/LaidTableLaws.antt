@@ -1,9 +1,9 @@
 -- The table read back from a table's layout: the same, with what stands past its counts made blank.
 -- Assumes nothing.
-use mathlib.Core.Path.{_≡_, refl, ap, subst, _∙_}
+use mathlib.Core.Path.{_≡_, refl, sym, ap, subst, _∙_}
 use Prim.Native.Nat.{ℕ, suc, _+_, _*_, _≤_}
 use native.Mathlib.Omega.{arith}
-use mathlib.Core.List.{List, [], _∷_, _++_, map, append-assoc}
+use mathlib.Core.List.{List, [], _∷_, _++_, map, map-map, append-assoc}
 use lib.ListN.{length, take, drop, length-append}
 use lib.Seq.{take-at}
 use Rattle.notation.specs.Checked.{passed}
@@ -14,19 +14,21 @@ use Rattle.taskfile.specs.declared.Instruction.{Instruction}
 use Rattle.taskfile.specs.declared.Table.{Table}
 use Rattle.taskfile.specs.declared.TaskEntry.{TaskEntry}
 use Rattle.taskfile.specs.Chains.{mostTasks, mostLocks, mostInstructions}
-use Rattle.taskfile.specs.Records.{File, byteAt, instructionAt}
-use Rattle.taskfile.specs.Tables.{tasksOf, endInstruction, noTask, entryAt, tableAt}
-use Rattle.writer.specs.Claims.{claimedTasks, claimedBody, claimedCeilings, coveredEntry, covered, FitsEntry, Fits, locksAt}
+use Rattle.taskfile.specs.Records.{File, byteAt, wideAt, instructionAt}
+use Rattle.taskfile.specs.Tables.{tasksOf, ceilingsOf, holdingsOf, endInstruction, noTask, entryAt, tableAt}
+use Rattle.writer.specs.declared.Lock.{Lock}
+use Rattle.writer.specs.Claims.{claimedTasks, claimedBody, lockByLock, noLock, claimedLocks, coveredEntry, covered, FitsEntry, Fits, locksAt}
 use Rattle.writer.specs.Fields.{fields}
 use Rattle.writer.specs.Layout.{wideBytes, linkTo, instructionRecord, bodyRecords, taskRecord, afterTask, taskRecords}
 use Rattle.writer.specs.Layout.{lockRecord, lockRecords, headerRecord, layout}
-use Rattle.writer.specs.Laws.CheckedTableLaws.{tasks-fit, body-claimed, fields-within, tasks-claimed, ceilings-claimed}
+use Rattle.writer.specs.Laws.CheckedTableLaws.{tasks-fit, body-claimed, fields-within, tasks-claimed, locks-even, locks-claimed}
 use Rattle.writer.specs.Laws.ClaimLaws.{claimed-length}
 use Rattle.writer.specs.Laws.Laid.{laidTask, laidTasks, laidChains}
 use Rattle.writer.specs.Laws.LaidChainLaws.{layout-parts}
 use Rattle.writer.specs.Laws.LaidRecordLaws.{instruction-back, ceiling-back, execution-back, period-back, arrival-back}
-use Rattle.writer.specs.Laws.LaidRecordLaws.{window-back}
+use Rattle.writer.specs.Laws.LaidRecordLaws.{window-back, holding-back}
 use Rattle.writer.specs.Laws.LayoutLaws.{bodyRecords-length, taskRecord-length}
+use Rattle.writer.specs.Laws.LockLaws.{lockAt, HoldingFits, locks-ceilings, locks-holdings, locks-full, claimedLocks-fit}
 use Rattle.writer.specs.Laws.PartLaws.{StandsAt, stands-first, stands-second}
 
 -- ---- bodies and locks
@@ -48,22 +50,24 @@ instructions-back f r (i ∷ others) stands =
     let later = instructions-back f (suc r) others after in
     λ j. here j ∷ later j
 
-lock-size : (ceiling next : ℕ) → length (lockRecord ceiling next) ≡ 16 * 1
-unfolding lockRecord
-lock-size ceiling next = refl
+lock-size : (lock : Lock) (next : ℕ) → length (lockRecord lock next) ≡ 16 * 1
+unfolding lockRecord wideBytes
+lock-size lock next = refl
 
-locks-back : (f : File) (r : ℕ) (ceilings : List ℕ) → StandsAt f r (lockRecords r ceilings)
-    → map (λ k. byteAt f k 2) (from r (length ceilings)) ≡ ceilings
-unfolding lockRecords from
-locks-back f r [] stands = refl
-locks-back f r (ceiling ∷ others) stands =
+locks-back : (f : File) (r : ℕ) (locks : List Lock) → Every HoldingFits locks → StandsAt f r (lockRecords r locks)
+    → map (lockAt f) (from r (length locks)) ≡ locks
+unfolding lockRecords from lockAt
+locks-back f r [] fit stands = refl
+locks-back f r (lock ∷ others) fit stands =
     let next = linkTo (suc r) others in
-    let own = lockRecord ceiling next in
+    let own = lockRecord lock next in
     let rest = lockRecords (suc r) others in
-    let here = ceiling-back f ceiling next r (stands-first f r own rest stands) in
-    let after = stands-second f r 1 (suc r) own rest stands (lock-size ceiling next) (omega arith) in
-    let later = locks-back f (suc r) others after in
-    λ j. here j ∷ later j
+    let first = stands-first f r own rest stands in
+    let ceiling = ceiling-back f lock next r first in
+    let holding = holding-back f lock next r first (fit .0) in
+    let after = stands-second f r 1 (suc r) own rest stands (lock-size lock next) (omega arith) in
+    let later = locks-back f (suc r) others (fit .1) after in
+    λ j. record { ceiling = ceiling j; holding = holding j } ∷ later j
 
 -- ---- tasks
 
@@ -137,9 +141,9 @@ store-back : (t : Table) → Fits t → take 8 (drop 8 (layout t)) ≡ t .store
 unfolding layout
 store-back t fit =
     let firstTask = linkTo 1 (claimedTasks t) in
-    let firstLock = linkTo (locksAt t) (claimedCeilings t) in
+    let firstLock = linkTo (locksAt t) (claimedLocks t) in
     let tasks = taskRecords 1 (claimedTasks t) in
-    let locks = lockRecords (locksAt t) (claimedCeilings t) in
+    let locks = lockRecords (locksAt t) (claimedLocks t) in
     ap (λ (g : File). take 8 (drop 8 g)) (append-assoc (headerRecord t firstTask firstLock) tasks locks)
     ∙ store-stands t fit firstTask firstLock (tasks ++ locks)
 
@@ -152,9 +156,10 @@ claimedTasks-length : (t : Table) → Fits t → t .tasks ≤ 8 → length (clai
 unfolding claimedTasks
 claimedTasks-length t fit within = claimed-length (t .tasks) (t .entries) noTask (omega (arith, fit .entriesFull))
 
-claimedCeilings-length : (t : Table) → Fits t → t .locks ≤ 8 → length (claimedCeilings t) ≡ t .locks
-unfolding claimedCeilings
-claimedCeilings-length t fit within = claimed-length (t .locks) (t .ceilings) 0 (omega (arith, fit .ceilings))
+claimedLocks-length : (t : Table) → Fits t → t .locks ≤ 8 → length (claimedLocks t) ≡ t .locks
+unfolding claimedLocks
+claimedLocks-length t fit within =
+    claimed-length (t .locks) (lockByLock (t .ceilings) (t .holdings)) noLock (omega (arith, locks-full t fit))
 
 module _ (t : Table) (fit : Fits t) {u : Unit {0}} (sound : fields t ≡ passed u) where
   entries-back : map (entryAt (layout t)) (laidTasks 1 (claimedTasks t)) ≡ map coveredEntry (tasksOf t)
@@ -164,9 +169,33 @@ module _ (t : Table) (fit : Fits t) {u : Unit {0}} (sound : fields t ≡ passed 
       ∙ tasks-back (layout t) 1 (tasksOf t) (tasks-fit t fit) (fields-within t fit sound .2)
       (subst (λ (tasks : List TaskEntry). StandsAt (layout t) 1 (taskRecords 1 tasks)) same (layout-parts t fit .1))
 
+  -- the ceilings, and the holding times
+  laidLocks : List ℕ
+  laidLocks = from (locksAt t) (length (claimedLocks t))
+
+  held-back : map (lockAt (layout t)) laidLocks ≡ lockByLock (ceilingsOf t) (holdingsOf t)
+  unfolding laidLocks
+  held-back =
+      locks-back (layout t) (locksAt t) (claimedLocks t) (claimedLocks-fit t fit) (layout-parts t fit .2)
+      ∙ locks-claimed t fit sound
+
+  ceilings-back : map (λ r. byteAt (layout t) r 2) laidLocks ≡ ceilingsOf t
+  unfolding lockAt
+  ceilings-back =
+      sym (map-map (λ (lock : Lock). lock .ceiling) (lockAt (layout t)) laidLocks)
+      ∙ ap (map (λ (lock : Lock). lock .ceiling)) held-back
+      ∙ locks-ceilings (ceilingsOf t) (holdingsOf t) (locks-even t fit)
+
+  holdings-back : map (λ r. wideAt (layout t) r 4) laidLocks ≡ holdingsOf t
+  unfolding lockAt
+  holdings-back =
+      sym (map-map (λ (lock : Lock). lock .holding) (lockAt (layout t)) laidLocks)
+      ∙ ap (map (λ (lock : Lock). lock .holding)) held-back
+      ∙ locks-holdings (ceilingsOf t) (holdingsOf t) (locks-even t fit)
+
   -- the table that the layout spells
   pub table-laid : tableAt (layout t) (laidChains t) ≡ covered t
-  unfolding tableAt laidChains covered
+  unfolding tableAt laidChains covered laidLocks
   table-laid =
       let within = fields-within t fit sound in
       let parts = layout-parts t fit in
@@ -174,8 +203,7 @@ module _ (t : Table) (fit : Fits t) {u : Unit {0}} (sound : fields t ≡ passed 
       let store = store-back t fit in
       let tasks = laidTasks-length 1 (claimedTasks t) ∙ claimedTasks-length t fit (within .0) in
       let entries = entries-back in
-      let locks = from-length (locksAt t) (length (claimedCeilings t)) ∙ claimedCeilings-length t fit (within .1) in
-      let ceilings = locks-back (layout t) (locksAt t) (claimedCeilings t) (parts .2) ∙ ceilings-claimed t fit sound in
+      let locks = from-length (locksAt t) (length (claimedLocks t)) ∙ claimedLocks-length t fit (within .1) in
       λ j.
       record {
         window = window j;
@@ -183,5 +211,6 @@ module _ (t : Table) (fit : Fits t) {u : Unit {0}} (sound : fields t ≡ passed 
         tasks = tasks j;
         entries = padded mostTasks noTask (entries j);
         locks = locks j;
-        ceilings = padded mostLocks 0 (ceilings j);
+        ceilings = padded mostLocks 0 (ceilings-back j);
+        holdings = padded mostLocks 0 (holdings-back j);
       }

@@ -21,9 +21,10 @@ use Rattle.taskfile.specs.Chains.{mostTasks, mostLocks, mostInstructions, follo
 use Rattle.taskfile.specs.Judgement.{numbered}
 use Rattle.taskfile.specs.Records.{File, next, tidyInstruction, instructionInRange, timesInRange, ceilingInRange}
 use Rattle.taskfile.specs.Tables.{endInstruction}
+use Rattle.writer.specs.declared.Lock.{Lock}
 use Rattle.writer.specs.Claims.{claimed, claimedBody, recordTotal, FitsEntry}
 use Rattle.writer.specs.Fields.{bodyFields, taskFields, lockFields}
-use Rattle.writer.specs.Layout.{linkTo, instructionRecord, bodyRecords, lockRecord, lockRecords, taskRecord}
+use Rattle.writer.specs.Layout.{wideBytes, linkTo, instructionRecord, bodyRecords, lockRecord, lockRecords, taskRecord}
 use Rattle.writer.specs.Layout.{afterTask, taskRecords}
 use Rattle.writer.specs.Laws.Laid.{laidTask, laidTasks}
 use Rattle.writer.specs.Laws.LaidListLaws.{Below, below-more, below-fresh, follow-laid, more-allowed, chain-laid}
@@ -50,14 +51,14 @@ body-laid f index i =
     (instruction-kind f) (instruction-link f) (instruction-fine f) index
 
 -- the locks from lock l on
-pub locks-laid : (f : File) (index : Site → ℕ) (locks : List ℕ) (r l allowed : ℕ) (reached : List ℕ) (holder : ℕ)
+pub locks-laid : (f : File) (index : Site → ℕ) (locks : List Lock) (r l allowed : ℕ) (reached : List ℕ) (holder : ℕ)
     → StandsAt f r (lockRecords r locks) → 0 < r → Below r reached → allowed + l ≡ mostLocks
     → ((q : ℕ) → index (AtLock (l + q)) ≡ r + q)
     → chain LockRecord allowed f reached holder (linkTo r locks)
     ≡ _>>_ (placedBy index (lockFields l locks)) (passed (from r (length locks)))
-unfolding lockRecords lockFields lockRecord
+unfolding lockRecords lockFields lockRecord wideBytes
 locks-laid f index =
-    chain-laid LockRecord mostLocks (λ ceiling. ceilingInRange ceiling) lockRecord lockRecords lockFields AtLock
+    chain-laid LockRecord mostLocks (λ lock. ceilingInRange (lock .ceiling)) lockRecord lockRecords lockFields AtLock
     (λ r x others. refl) (λ p. refl) (λ p x others. refl) (λ x link. refl) f (lock-kind f) (lock-link f) (lock-fine f)
     index
 

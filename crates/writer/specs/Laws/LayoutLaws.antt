@@ -11,6 +11,7 @@ use Rattle.taskfile.specs.declared.Instruction.{Instruction}
 use Rattle.taskfile.specs.declared.Table.{Table}
 use Rattle.taskfile.specs.declared.TaskEntry.{TaskEntry}
 use Rattle.taskfile.specs.Records.{byteAt}
+use Rattle.writer.specs.declared.Lock.{Lock}
 use Rattle.writer.specs.Claims.{claimedBody, recordTotal}
 use Rattle.writer.specs.Layout.{wideBytes, linkTo, instructionRecord, bodyRecords, taskRecord, afterTask, taskRecords}
 use Rattle.writer.specs.Layout.{lockRecord, lockRecords, headerRecord}
@@ -49,11 +50,11 @@ taskRecords-length r (e ∷ others) =
       taskRecords-length after others,
     )
 
-pub lockRecords-length : (r : ℕ) (locks : List ℕ) → length (lockRecords r locks) ≡ 16 * length locks
-unfolding lockRecords lockRecord
+pub lockRecords-length : (r : ℕ) (locks : List Lock) → length (lockRecords r locks) ≡ 16 * length locks
+unfolding lockRecords lockRecord wideBytes
 lockRecords-length r [] = refl
-lockRecords-length r (ceiling ∷ others) =
-    length-append (lockRecord ceiling (linkTo (suc r) others)) (lockRecords (suc r) others)
+lockRecords-length r (lock ∷ others) =
+    length-append (lockRecord lock (linkTo (suc r) others)) (lockRecords (suc r) others)
     ∙ omega (arith, lockRecords-length (suc r) others)
 
 pub headerRecord-length : (t : Table) (firstTask firstLock : ℕ) → length (t .store) ≡ 8

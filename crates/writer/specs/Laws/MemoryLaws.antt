@@ -15,8 +15,9 @@ use Rattle.taskfile.specs.declared.Table.{Table}
 use Rattle.taskfile.specs.declared.TaskEntry.{TaskEntry}
 use Rattle.writer.specs.Claims.{Fits, FitsEntry}
 use Rattle.writer.specs.Laws.MemoryReading.{byte-behind, wide-behind, wide-skipped, bytes-behind, parts-long, parts-back}
+use Rattle.writer.specs.Laws.WideBytesLaws.{Wide}
 use Rattle.writer.specs.Layout.{wideBytes}
-use Rattle.writer.specs.Memory.{byteIn, wideIn, instructionIn, entryIn, tableIn, instructionBytes, entryBytes, memoryOf}
+use Rattle.writer.specs.Memory.{tableBytes, byteIn, wideIn, instructionIn, entryIn, holdingsIn, tableIn, instructionBytes, entryBytes, memoryOf}
 
 -- ---- an instruction
 
@@ -79,21 +80,38 @@ entry-back front e rest place fits is =
     (length-append front (entryFront e) ∙ omega arith) (fits .body) in
     λ j. record { execution = first j; period = second j; arrival = third j; length = fourth j; body = fifth j }
 
+-- ---- a holding time
+
+wide-length : (x : ℕ) → Wide x → length (wideBytes x) ≡ 4
+unfolding wideBytes
+wide-length x fits = refl
+
+wide-back-at : (front : List ℕ) (x : ℕ) (rest : List ℕ) (place : ℕ) → Wide x → length front ≡ place
+    → wideIn (front ++ (wideBytes x ++ rest)) place ≡ x
+wide-back-at front x rest place fits is = wide-behind front rest x place is fits
+
 -- ---- a table
 
--- a table that fits takes 664 bytes
-pub memory-length : (t : Table) → Fits t → length (memoryOf t) ≡ 664
+entries-size : (t : Table) → Fits t → length (each (t .entries) entryBytes) ≡ 640
+entries-size t fits =
+    parts-long entryIn entryBytes 80 FitsEntry entry-length entry-back (t .entries) (fits .entries)
+    ∙ ap (λ (n : ℕ). 80 * n) (fits .entriesFull)
+
+-- how many bytes a table that fits takes
+pub memory-length : (t : Table) → Fits t → length (memoryOf t) ≡ tableBytes
 unfolding memoryOf wideBytes
 memory-length t fits =
     let entries = each (t .entries) entryBytes in
-    let long = parts-long entryIn entryBytes 80 FitsEntry entry-length entry-back (t .entries) (fits .entries) in
-    let count = fits .entriesFull in
+    let holdings = each (t .holdings) wideBytes in
+    let wide = parts-long wideIn wideBytes 4 Wide wide-length wide-back-at (t .holdings) (fits .holdings) in
     let store = wideBytes (t .window) ++ t .store in
     let counts = t .tasks ∷ t .locks ∷ 0 ∷ 0 ∷ [] in
-    length-append (store ++ counts ++ t .ceilings) entries
+    length-append (store ++ counts ++ t .ceilings ++ entries) holdings
     ∙ omega (
       arith,
-      long ∙ ap (λ (n : ℕ). 80 * n) count,
+      entries-size t fits,
+      wide ∙ ap (λ (n : ℕ). 4 * n) (fits .holdingsFull),
+      length-append (store ++ counts ++ t .ceilings) entries,
       length-append (store ++ counts) (t .ceilings),
       length-append store counts,
       length-append (wideBytes (t .window)) (t .store),
@@ -103,24 +121,30 @@ memory-length t fits =
 
 -- and is read back from them, whatever stands behind
 pub memory-table : (t : Table) (rest : List ℕ) → Fits t → tableIn (memoryOf t ++ rest) ≡ t
-unfolding tableIn memoryOf wideBytes
+unfolding tableIn holdingsIn memoryOf wideBytes
 memory-table t rest fits =
     let window = wideBytes (t .window) in
     let counts = t .tasks ∷ t .locks ∷ 0 ∷ 0 ∷ [] in
     let entries = each (t .entries) entryBytes in
+    let holdings = each (t .holdings) wideBytes in
     let toStore = window ++ t .store in
     let toCounts = toStore ++ counts in
     let toCeilings = toCounts ++ t .ceilings in
     let storeLong = length-append window (t .store) in
     let countsLong = length-append toStore counts in
     let ceilingsLong = length-append toCounts (t .ceilings) in
-    let fourth : memoryOf t ++ rest ≡ toCeilings ++ (entries ++ rest) = append-assoc toCeilings entries rest in
-    let third : memoryOf t ++ rest ≡ toCounts ++ (t .ceilings ++ (entries ++ rest)) =
-    fourth ∙ append-assoc toCounts (t .ceilings) (entries ++ rest) in
-    let second : memoryOf t ++ rest ≡ toStore ++ (counts ++ (t .ceilings ++ (entries ++ rest))) =
-    third ∙ append-assoc toStore counts (t .ceilings ++ (entries ++ rest)) in
-    let first : memoryOf t ++ rest ≡ window ++ (t .store ++ (counts ++ (t .ceilings ++ (entries ++ rest)))) =
-    second ∙ append-assoc window (t .store) (counts ++ (t .ceilings ++ (entries ++ rest))) in
+    let entriesLong = length-append toCeilings entries in
+    let many = entries-size t fits in
+    let later = holdings ++ rest in
+    let fifth : memoryOf t ++ rest ≡ (toCeilings ++ entries) ++ later = append-assoc (toCeilings ++ entries) holdings rest in
+    let fourth : memoryOf t ++ rest ≡ toCeilings ++ (entries ++ later) =
+    fifth ∙ append-assoc toCeilings entries later in
+    let third : memoryOf t ++ rest ≡ toCounts ++ (t .ceilings ++ (entries ++ later)) =
+    fourth ∙ append-assoc toCounts (t .ceilings) (entries ++ later) in
+    let second : memoryOf t ++ rest ≡ toStore ++ (counts ++ (t .ceilings ++ (entries ++ later))) =
+    third ∙ append-assoc toStore counts (t .ceilings ++ (entries ++ later)) in
+    let first : memoryOf t ++ rest ≡ window ++ (t .store ++ (counts ++ (t .ceilings ++ (entries ++ later)))) =
+    second ∙ append-assoc window (t .store) (counts ++ (t .ceilings ++ (entries ++ later))) in
     let isWindow : wideIn (memoryOf t ++ rest) 0 ≡ t .window =
     ap (λ (l : List ℕ). wideIn l 0) first ∙ wide-behind [] _ (t .window) 0 refl (fits .window) in
     let isStore : bytesAt (memoryOf t ++ rest) 4 8 ≡ t .store =
@@ -134,9 +158,15 @@ memory-table t rest fits =
     ∙ bytes-behind toCounts (t .ceilings) _ 8 16 (omega (arith, storeLong, countsLong, fits .store)) (fits .ceilings) in
     let isEntries : map (λ i. entryIn (memoryOf t ++ rest) (24 + 80 * i)) (upTo 8) ≡ t .entries =
     ap (λ (l : List ℕ). map (λ i. entryIn l (24 + 80 * i)) (upTo 8)) fourth
-    ∙ parts-back entryIn entryBytes 80 FitsEntry entry-length entry-back toCeilings (t .entries) rest 24 8
+    ∙ parts-back entryIn entryBytes 80 FitsEntry entry-length entry-back toCeilings (t .entries) later 24 8
     (fits .entries) (omega (arith, storeLong, countsLong, ceilingsLong, fits .store, fits .ceilings))
     (fits .entriesFull) in
+    let isHoldings : holdingsIn (memoryOf t ++ rest) ≡ t .holdings =
+    ap holdingsIn fifth
+    ∙ parts-back wideIn wideBytes 4 Wide wide-length wide-back-at (toCeilings ++ entries) (t .holdings) rest 664 8
+    (fits .holdings)
+    (omega (arith, storeLong, countsLong, ceilingsLong, entriesLong, many, fits .store, fits .ceilings))
+    (fits .holdingsFull) in
     λ j. record {
       window = isWindow j;
       store = isStore j;
@@ -144,6 +174,7 @@ memory-table t rest fits =
       entries = isEntries j;
       locks = isLocks j;
       ceilings = isCeilings j;
+      holdings = isHoldings j;
     }
 
 -- ---- any bytes
@@ -178,9 +209,10 @@ entry-small memory at small =
 
 -- whatever bytes hold is a table that fits
 pub memory-fits : (memory : List ℕ) → Every (λ (b : ℕ). b < 256) memory → Fits (tableIn memory)
-unfolding tableIn
+unfolding tableIn holdingsIn
 memory-fits memory small =
     let at : ℕ → TaskEntry = λ i. entryIn memory (24 + 80 * i) in
+    let holding : ℕ → ℕ = λ l. wideIn memory (664 + 4 * l) in
     record {
       window = wide-small memory 0 small;
       store = bytesAt-length memory 4 8;
@@ -189,4 +221,8 @@ memory-fits memory small =
           every-map FitsEntry at (upTo 8)
           (every-of (λ i. FitsEntry (at i)) (λ i. entry-small memory (24 + 80 * i) small) (upTo 8));
       ceilings = bytesAt-length memory 16 8;
+      holdingsFull = values-length holding 8;
+      holdings =
+          every-map Wide holding (upTo 8)
+          (every-of (λ l. Wide (holding l)) (λ l. wide-small memory (664 + 4 * l) small) (upTo 8));
     }

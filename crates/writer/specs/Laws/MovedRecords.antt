@@ -22,6 +22,7 @@ use Rattle.taskfile.specs.Chains.{Chains, TaskChain}
 use Rattle.taskfile.specs.Records.{File, kindNumber, byteAt, wideAt, next, tidy, tidyInstruction, zeroFrom, instructionAt}
 use Rattle.taskfile.specs.Tables.{entryAt, tableAt}
 use Rattle.writer.specs.Laws.ChainRecords.{GoodRecord}
+use Rattle.writer.specs.Laws.LockLaws.{lockAt}
 use Rattle.writer.specs.Layout.{wideBytes, headerRecord, taskRecord, lockRecord, instructionRecord}
 use Rattle.writer.specs.WalkOrder.{positionOf, linkBytes, movedRecord}
 
@@ -94,15 +95,6 @@ moved-by : (f : File) (walk : List ℕ) (r kind : ℕ) → byteAt f r 0 ≡ kind
 unfolding movedRecord movedBy
 moved-by f walk r kind e = ap (λ k. movedBy (linkBytes k) f walk r) e
 
--- a lock
-pub lock-moved : (f : File) (walk : List ℕ) (r : ℕ) → GoodRecord LockRecord f r
-    → movedRecord f walk r ≡ lockRecord (byteAt f r 2) (positionOf (next f r) walk)
-unfolding movedBy linkBytes member if_then_else_ upTo from lockRecord next kindNumber tidy
-lock-moved f walk r good =
-    let kind : byteAt f r 0 ≡ 3 = good .kindByte in
-    let zeros = zero-bytes f r 3 13 (good .unusedZero) in
-    moved-by f walk r 3 kind ∙ (λ j. kind j ∷ positionOf (byteAt f r 1) walk ∷ byteAt f r 2 ∷ zeros j)
-
 -- an instruction
 pub instruction-moved : (f : File) (walk : List ℕ) (r : ℕ) → GoodRecord InstructionRecord f r
     → movedRecord f walk r ≡ instructionRecord (instructionAt f r) (positionOf (next f r) walk)
@@ -133,6 +125,19 @@ module _ (f : File) (small : Every (λ (b : ℕ). b < 256) f) (walk : List ℕ) 
       ∙ (λ j.
       kind j ∷ positionOf (byteAt f r 1) walk ∷ positionOf (byteAt f r 2) walk ∷ unused j
       ∷ ((execution j ++ period j) ++ arrival j))
+
+  -- a lock
+  pub lock-moved : (r : ℕ) → GoodRecord LockRecord f r
+      → movedRecord f walk r ≡ lockRecord (lockAt f r) (positionOf (next f r) walk)
+  unfolding movedBy linkBytes member if_then_else_ upTo from lockRecord lockAt next kindNumber tidy
+  lock-moved r good =
+      let kind : byteAt f r 0 ≡ 3 = good .kindByte in
+      let tests = and-both (eqb (byteAt f r 3) 0) (zeroFrom f r 8 8) (good .unusedZero) in
+      let unused : byteAt f r 3 ≡ 0 = eqb-true _ _ (tests .0) in
+      let holding = sym (field-bytes f small r 4) in
+      let zeros = zero-bytes f r 8 8 (tests .1) in
+      moved-by f walk r 3 kind
+      ∙ (λ j. kind j ∷ positionOf (byteAt f r 1) walk ∷ byteAt f r 2 ∷ unused j ∷ (holding j ++ zeros j))
 
   -- the header of a file that has one whole
   pub header-moved : (c : Chains) → 16 ≤ length f → GoodRecord Header f 0

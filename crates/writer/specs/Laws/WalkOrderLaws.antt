@@ -14,9 +14,10 @@ use Rattle.taskfile.specs.declared.Kind.the-variants.{LockRecord, InstructionRe
 use Rattle.taskfile.specs.Chains.{Chains, TaskChain, recordsOf, reachedBy, chainsOf}
 use Rattle.taskfile.specs.Records.{File, byteAt, next, instructionAt}
 use Rattle.taskfile.specs.Tables.{entryAt, tableAt}
-use Rattle.writer.specs.Claims.{claimedTasks, claimedBody, claimedCeilings, recordTotal, locksAt}
+use Rattle.writer.specs.Claims.{claimedTasks, claimedBody, claimedLocks, recordTotal, locksAt}
 use Rattle.writer.specs.Laws.ChainRecords.{LedChain, LedTasks, chains-led}
-use Rattle.writer.specs.Laws.ClaimLaws.{body-spelled, tasks-spelled, ceilings-spelled}
+use Rattle.writer.specs.Laws.ClaimLaws.{body-spelled, tasks-spelled, locks-spelled}
+use Rattle.writer.specs.Laws.LockLaws.{lockAt}
 use Rattle.writer.specs.Laws.MovedRecords.{lock-moved, instruction-moved, task-moved, header-moved}
 use Rattle.writer.specs.Laws.PositionLaws.{StandFrom, new-stand, stand-first, stand-second}
 use Rattle.writer.specs.Layout.{linkTo, instructionRecord, bodyRecords, taskRecord, afterTask, taskRecords, lockRecord, lockRecords, headerRecord, layout}
@@ -33,14 +34,14 @@ module _ (f : File) (walk : List ℕ) (ends : positionOf 0 walk ≡ 0) where
   link-led kind g index n (r ∷ others) led stand = ap (λ (x : ℕ). positionOf x walk) (led .0) ∙ stand .0
 
   -- the moved records of such a chain are those that the layout writes: locks, and a body
-  locks-moved : (index n : ℕ) (l : List ℕ) → LedChain LockRecord f index l → StandFrom walk n l
-      → each l (movedRecord f walk) ≡ lockRecords n (map (λ r. byteAt f r 2) l)
+  locks-moved : Every (λ (b : ℕ). b < 256) f → (index n : ℕ) (l : List ℕ) → LedChain LockRecord f index l
+      → StandFrom walk n l → each l (movedRecord f walk) ≡ lockRecords n (map (lockAt f) l)
   unfolding each lockRecords
-  locks-moved index n [] led stand = refl
-  locks-moved index n (r ∷ others) led stand =
-      let link = link-led LockRecord (λ r. byteAt f r 2) (next f r) (suc n) others (led .2) (stand .1) in
-      let first = lock-moved f walk r (led .1) ∙ ap (lockRecord (byteAt f r 2)) link in
-      let rest = locks-moved (next f r) (suc n) others (led .2) (stand .1) in
+  locks-moved small index n [] led stand = refl
+  locks-moved small index n (r ∷ others) led stand =
+      let link = link-led LockRecord (lockAt f) (next f r) (suc n) others (led .2) (stand .1) in
+      let first = lock-moved f small walk r (led .1) ∙ ap (lockRecord (lockAt f r)) link in
+      let rest = locks-moved small (next f r) (suc n) others (led .2) (stand .1) in
       λ j. first j ++ rest j
 
   body-moved : (index n : ℕ) (l : List ℕ) → LedChain InstructionRecord f index l → StandFrom walk n l
@@ -115,7 +116,7 @@ walk-order f small {c} e =
     let stand : StandFrom walk 0 walk = new-stand walk [] walk [] (sym (append-nil walk)) (led .allNew) in
     let ends : positionOf 0 walk ≡ 0 = stand .0 in
     let heldTasks = tasks-spelled f c (led .fewTasks) in
-    let heldLocks = ceilings-spelled f c (led .fewLocks) in
+    let heldLocks = locks-spelled f c (led .fewLocks) in
     let locksFrom : 1 + length tasks ≡ locksAt t =
     omega (arith, ap recordTotal heldTasks, total-claimed f (byteAt f 0 2) (c .tasks) (led .tasks)) in
     let standTasks : StandFrom walk 1 tasks = stand-first walk 1 tasks (c .locks) (stand .1) in
@@ -124,19 +125,19 @@ walk-order f small {c} e =
     let firstTask : positionOf (byteAt f 0 2) walk ≡ linkTo 1 (claimedTasks t) =
     task-link-led f small walk ends (byteAt f 0 2) 1 (c .tasks) (led .tasks) standTasks
     ∙ ap (linkTo 1) (sym heldTasks) in
-    let firstLock : positionOf (byteAt f 0 3) walk ≡ linkTo (locksAt t) (claimedCeilings t) =
-    link-led f walk ends LockRecord (λ r. byteAt f r 2) (byteAt f 0 3) (locksAt t) (c .locks) (led .locks) standLocks
+    let firstLock : positionOf (byteAt f 0 3) walk ≡ linkTo (locksAt t) (claimedLocks t) =
+    link-led f walk ends LockRecord (lockAt f) (byteAt f 0 3) (locksAt t) (c .locks) (led .locks) standLocks
     ∙ ap (linkTo (locksAt t)) (sym heldLocks) in
-    let headerLaid = headerRecord t (linkTo 1 (claimedTasks t)) (linkTo (locksAt t) (claimedCeilings t)) in
+    let headerLaid = headerRecord t (linkTo 1 (claimedTasks t)) (linkTo (locksAt t) (claimedLocks t)) in
     let tasksLaid = taskRecords 1 (claimedTasks t) in
-    let locksLaid = lockRecords (locksAt t) (claimedCeilings t) in
+    let locksLaid = lockRecords (locksAt t) (claimedLocks t) in
     let headerSame : moved 0 ≡ headerLaid =
     header-moved f small walk c (led .whole) (led .header) ∙ (λ j. headerRecord t (firstTask j) (firstLock j)) in
     let tasksSame : each tasks moved ≡ tasksLaid =
     tasks-moved f small walk ends (byteAt f 0 2) 1 (c .tasks) (led .tasks) standTasks
     ∙ ap (taskRecords 1) (sym heldTasks) in
     let locksSame : each (c .locks) moved ≡ locksLaid =
-    locks-moved f walk ends (byteAt f 0 3) (locksAt t) (c .locks) (led .locks) standLocks
+    locks-moved f walk ends small (byteAt f 0 3) (locksAt t) (c .locks) (led .locks) standLocks
     ∙ ap (lockRecords (locksAt t)) (sym heldLocks) in
     append-assoc headerLaid tasksLaid locksLaid
     ∙ (λ j. sym headerSame j ++ (sym tasksSame j ++ sym locksSame j))

@@ -5,6 +5,10 @@ use Prim.Native.Nat.{ℕ, _+_, _*_, _/_, _%_, _<_, _^_}
 use native.Mathlib.Nat.{div-div-eq-div-mul, mod-add-div, mod-eq-of-lt}
 use native.Mathlib.Omega.{arith}
 
+-- what a wide field holds has 32 bits
+abbrev pub Wide : ℕ → Type 0
+Wide x = x < 2 ^ 32
+
 pub wide-back : (x : ℕ) → x < 2 ^ 32
     → x % 256 + 256 * (x / 256 % 256) + 65536 * (x / 65536 % 256) + 16777216 * (x / 16777216 % 256) ≡ x
 wide-back x fits =

@@ -14,7 +14,8 @@ use Rattle.taskfile.specs.Judgement.{taskNumbers, judged}
 use Rattle.timing.specs.Accepted.{responsesOf, timed}
 use Rattle.timing.specs.Jobs.{jobCount}
 use Rattle.timing.specs.Response.{responseOf}
-use Rattle.writer.specs.Claims.{claimedTasks, claimedBody, claimedCeilings, covered, indexOf}
+use Rattle.writer.specs.declared.Lock.{Lock}
+use Rattle.writer.specs.Claims.{claimedTasks, claimedBody, claimedLocks, covered, indexOf}
 use Rattle.writer.specs.Fields.{bodyFields, taskFields, lockFields, fields, judgedWhole, acceptTable}
 use Rattle.writer.specs.WriteEntries.{written}
 
@@ -34,10 +35,10 @@ tasks-numbered i (e ∷ others) =
     (then-numbered _ (require-numbered _ 5 _ (omega arith))
     (then-numbered _ (body-numbered i 0 (claimedBody e)) (tasks-numbered (suc i) others))))
 
-locks-numbered : (l : ℕ) (ceilings : List ℕ) → Numbered (lockFields l ceilings)
+locks-numbered : (l : ℕ) (locks : List Lock) → Numbered (lockFields l locks)
 unfolding lockFields
 locks-numbered l [] = none-asked
-locks-numbered l (ceiling ∷ others) =
+locks-numbered l (lock ∷ others) =
     then-numbered _ (require-numbered _ 5 _ (omega arith))
     (then-numbered _ (require-numbered _ 4 _ (omega arith)) (locks-numbered (suc l) others))
 
@@ -46,7 +47,7 @@ unfolding fields
 fields-numbered t =
     then-numbered _ (require-numbered _ 4 _ (omega arith))
     (then-numbered _ (require-numbered _ 5 _ (omega arith))
-    (then-numbered _ (tasks-numbered 0 (claimedTasks t)) (locks-numbered 0 (claimedCeilings t))))
+    (then-numbered _ (tasks-numbered 0 (claimedTasks t)) (locks-numbered 0 (claimedLocks t))))
 
 judged-numbered : (t : Table) → Numbered (judged t)
 unfolding judged

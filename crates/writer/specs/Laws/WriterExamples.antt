@@ -11,7 +11,7 @@ use Rattle.taskfile.specs.declared.Table.{Table}
 use Rattle.taskfile.specs.declared.TaskEntry.{TaskEntry}
 use Rattle.taskfile.specs.Records.{tidyInstruction, instructionInRange, usesOf, operationUses, tidyField, fieldInRange}
 use Rattle.taskfile.specs.Tables.{endInstruction, noTask}
-use Rattle.writer.specs.Claims.{claimed, claimedTasks, claimedBody, claimedCeilings, recordTotal, indexOf, locksAt}
+use Rattle.writer.specs.Claims.{claimed, claimedTasks, claimedBody, lockByLock, claimedLocks, recordTotal, indexOf, locksAt}
 use Rattle.writer.specs.Fields.{bodyFields, taskFields, fields}
 use Rattle.writer.specs.Layout.{wideBytes, linkTo, instructionRecord, bodyRecords, taskRecord, afterTask, taskRecords}
 use Rattle.writer.specs.Layout.{lockRecord, lockRecords, headerRecord, layout}
@@ -45,6 +45,7 @@ small W tasks C =
       entries = slow ∷ quick C ∷ replicate 6 noTask;
       locks = 1;
       ceilings = 1 ∷ replicate 7 5;
+      holdings = 66051 ∷ replicate 7 0;
     }
 
 -- header, each task followed by its body, the lock
@@ -56,14 +57,14 @@ pub small-laid :
     ∷ 4 ∷ 0 ∷ 0 ∷ 0 ∷ 0 ∷ 0 ∷ 0 ∷ 0 ∷ 0 ∷ 0 ∷ 0 ∷ 0 ∷ 0 ∷ 0 ∷ 0 ∷ 0
     ∷ 2 ∷ 0 ∷ 5 ∷ 0 ∷ 1 ∷ 0 ∷ 0 ∷ 0 ∷ 4 ∷ 0 ∷ 0 ∷ 0 ∷ 1 ∷ 0 ∷ 0 ∷ 0
     ∷ 4 ∷ 0 ∷ 0 ∷ 0 ∷ 0 ∷ 0 ∷ 0 ∷ 0 ∷ 0 ∷ 0 ∷ 0 ∷ 0 ∷ 0 ∷ 0 ∷ 0 ∷ 0
-    ∷ 3 ∷ 0 ∷ 1 ∷ 0 ∷ 0 ∷ 0 ∷ 0 ∷ 0 ∷ 0 ∷ 0 ∷ 0 ∷ 0 ∷ 0 ∷ 0 ∷ 0 ∷ 0 ∷ [])
-unfolding layout headerRecord locksAt recordTotal claimedTasks claimedBody claimedCeilings claimed taskRecords taskRecord afterTask
+    ∷ 3 ∷ 0 ∷ 1 ∷ 0 ∷ 3 ∷ 2 ∷ 1 ∷ 0 ∷ 0 ∷ 0 ∷ 0 ∷ 0 ∷ 0 ∷ 0 ∷ 0 ∷ 0 ∷ [])
+unfolding layout headerRecord locksAt recordTotal claimedTasks claimedBody claimedLocks lockByLock claimed taskRecords taskRecord afterTask
     bodyRecords instructionRecord lockRecords lockRecord linkTo wideBytes sum small noTask padded
 small-laid = refl
 
 -- the place of the second task's fault is its index, with the first one's body before it
 pub small-placed : placedBy (indexOf (small 5 2 0)) (fields (small 5 2 0)) ≡ refused 4 4
-unfolding placedBy indexOf fields taskFields bodyFields recordTotal claimedTasks claimedBody claimedCeilings claimed sum small
+unfolding placedBy indexOf fields taskFields bodyFields recordTotal claimedTasks claimedBody claimedLocks lockByLock claimed sum small
     noTask padded require _>>_ tidyInstruction instructionInRange usesOf operationUses tidyField fieldInRange
 small-placed = refl
 

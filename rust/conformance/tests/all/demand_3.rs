@@ -4,7 +4,8 @@ use conformance::cases::accepted;
 use conformance::entries::{filled, pattern};
 use conformance::listing::{orders, plans, Orders, Plans};
 use generator::{
-    random_nest, random_nested_locks, random_race, random_table, Random, Sizes, TableDescription,
+    random_long_hold, random_nest, random_nested_locks, random_race, random_table, Random, Sizes,
+    TableDescription,
 };
 use interpreter::order::Ending;
 use interpreter::timing::Accepted;
@@ -181,4 +182,13 @@ fn every_order_and_every_plan_of_nested_locks() {
     assert!(totals.held_back >= 300, "{totals:?}");
     assert!(totals.refused_44 >= 300, "{totals:?}");
     assert!(totals.both_verdicts >= 100, "{totals:?}");
+}
+
+/// Document 02, E4: a wait decides which job may preempt which.
+#[test]
+fn every_order_and_every_plan_of_long_holds() {
+    let mut random = Random::new(8);
+    let totals = try_tables(300, || random_long_hold(&mut random));
+    assert!(totals.preempting >= 100, "{totals:?}");
+    assert!(totals.both_verdicts >= 30, "{totals:?}");
 }

@@ -32,7 +32,7 @@ fn list(size: usize) -> Vec<Job> {
 
 /// Asserts that both sides give one answer and leave one list of this size: the jobs at its front,
 /// and every other record as it was.
-fn compare(file: &[u8], size: usize) -> JobsAnswer {
+pub(crate) fn compare(file: &[u8], size: usize) -> JobsAnswer {
     let (mut lent, mut left) = (list(size), list(size));
     let expected = expected_jobs(file, &mut left);
     let case = || format!("{size} records lent: {file:02x?}");

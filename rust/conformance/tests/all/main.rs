@@ -2,6 +2,9 @@
 
 mod bench_cases;
 mod binding_values;
+mod blocking;
+mod blocking_reads;
+mod blocking_runs;
 mod buffers;
 mod c_programs;
 mod check_order;
@@ -9,6 +12,7 @@ mod conversion_differential;
 mod demand_3;
 mod file_refusals;
 mod header;
+mod hostile_holding;
 mod jobs_differential;
 mod lock_counts;
 mod nesting;
@@ -32,4 +36,5 @@ mod there_and_back;
 mod walk;
 mod walk_differential;
 mod walk_entry;
+mod without_holding;
 mod write_differential;

@@ -9,7 +9,7 @@ use generator::files::{damaged, random_bytes, random_records};
 use generator::hostile::{hostile_files, nearly_full, tasks_of, WIDEST};
 use generator::{code, random_nest, random_race, random_table, Random, Sizes, TableDescription};
 use interpreter::file::{read_table, Task};
-use interpreter::timing::right_side;
+use interpreter::timing::{blocking, right_side};
 use std::time::Instant;
 
 /// A family of files: its seed, how many there are, and how the n-th is made.
@@ -180,22 +180,27 @@ fn byte_of_x(_: &mut Random, round: usize) -> Vec<u8> {
 /// a hostile table takes hundreds of millions of them.
 const MOST_STEPS: u64 = 5_000_000;
 
-/// Whether some task's response time is a long climb away from C / (1 − U), where U is the share of
-/// the time that the tasks above it take.
+/// Whether some task's response time is a long climb away from (C + B) / (1 − U), where U is the
+/// share of the time that the tasks above it take.
 fn climbs_long(file: &[u8]) -> bool {
     let Ok(table) = read_table(file) else { return false };
-    (0..table.tasks.len()).any(|number| climb_is_long(&table.tasks[number..]))
+    (0..table.tasks.len())
+        .any(|number| climb_is_long(blocking(&table, number), &table.tasks[number..]))
 }
 
-/// The same for the first of these tasks. Shares are in parts of 2^32.
-fn climb_is_long(tasks: &[Task]) -> bool {
+/// The same for the first of these tasks, whose B this is. Shares are in parts of 2^32.
+fn climb_is_long(blocking: u64, tasks: &[Task]) -> bool {
     let (task, above) = (&tasks[0], &tasks[1..]);
     let used: u64 = above.iter().map(|task| (task.execution << 32) / task.period).sum();
     let Some(free @ 1..) = (1_u64 << 32).checked_sub(used) else { return false };
-    let mut time = (task.execution << 32).div_ceil(free);
+    let own = task.execution + blocking;
+    let mut time = u64::try_from((u128::from(own) << 32).div_ceil(free.into())).unwrap_or(u64::MAX);
     for _ in 0..MOST_STEPS {
-        let next = right_side(task.execution, above, time);
-        if time > task.period || next == time {
+        if time > task.period {
+            return false;
+        }
+        let next = right_side(own, above, time);
+        if next == time {
             return false;
         }
         time = next;
@@ -279,7 +284,7 @@ fn longest_climbs() {
 
 /// Lends some words of a larger list, and a file amid other bytes. Only the eleven words change,
 /// and none without room.
-fn compare_lent(random: &mut Random, file: &[u8], length: usize) {
+pub(crate) fn compare_lent(random: &mut Random, file: &[u8], length: usize) {
     let (bytes, place) = amid(random, file);
     let mut words = word_pattern(length + 16);
     let mut expected = words.clone();

@@ -208,7 +208,7 @@ fn fields_and_counts_with_the_table_at_hand() {
 #[test]
 fn rules_of_a_table_with_the_table_at_hand() {
     #[rustfmt::skip]
-    let expected: [(Edit, &str); 9] = [
+    let expected: [(Edit, &str); 10] = [
         (|table| table.tasks[0].body[4] = instruction(3, 0, 0, 0),
             "instruction 4 of task 0 (record 6): it is the body's last and not End (7 BODY)"),
         (|table| table.tasks[0].body[2].c = 2,
@@ -223,9 +223,14 @@ fn rules_of_a_table_with_the_table_at_hand() {
             "instruction 0 of task 1 (record 8): lock 1 has the ceiling 0, below base 1 \
              (9 CEILING)"),
         (|table| table.tasks[0].execution = 8,
-            "task 0 (record 1): there is no response time within the period 8 (10 OVERLOAD)"),
+            "task 0 (record 1): with C 8 and B 0, its wait for a lower task's lock, there is no \
+             response time within the period 8 (10 OVERLOAD)"),
         (|table| table.tasks = vec![times(1, 1000), times(4, 7), times(2, 5)],
-            "task 1 (record 3): there is no response time within the period 7 (10 OVERLOAD)"),
+            "task 1 (record 3): with C 4 and B 0, its wait for a lower task's lock, there is no \
+             response time within the period 7 (10 OVERLOAD)"),
+        (|table| (table.tasks[0].body[0], table.holdings) = (instruction(9, 0, 0, 0), vec![4, 9]),
+            "task 1 (record 7): with C 1 and B 4, its wait for a lower task's lock, there is no \
+             response time within the period 4 (10 OVERLOAD)"),
         (|table| table.window = 10_000, "the table has more than 32 jobs (11 JOBS)"),
     ];
     expected.iter().for_each(|(edit, message)| assert_table_says(*edit, message));

@@ -96,6 +96,10 @@ fn both_methods_agree_with_each_other() {
         if (1..tasks.len()).all(|number| fits(number).is_some()) {
             let points = least_by_points(tasks[0].execution, &tasks[1..], period);
             assert_eq!(points, fits(0));
+            // The same with a wait for a lower task's lock.
+            let own = tasks[0].execution + random.between(0, longest);
+            let waiting = least_by_points(own, &tasks[1..], period);
+            assert_eq!(waiting, least_by_growth(own, &tasks[1..], period));
             found += u64::from(points.is_some());
             none += u64::from(points.is_none());
         }

@@ -7,11 +7,14 @@ use binding::{Instruction, Table, TaskEntry, FILE_ROOM, TABLE_ROOM};
 use conformance::cases::{full_table, table_x};
 use conformance::entries::pattern;
 use conformance::families::*;
+use generator::holding::hold;
 use generator::memory::{good, miscounted};
-use generator::{random_nest, random_race, Random, TableDescription};
+use generator::{
+    random_holding, random_long_hold, random_nest, random_race, Random, TableDescription,
+};
 
 /// The seeds differ, so that no family repeats the tables of another.
-const FAMILIES: [Family; 7] = [
+const FAMILIES: [Family; 9] = [
     Family { name: "small tables", seed: 840, tables: 2_000, make: small },
     Family { name: "races", seed: 841, tables: 1_000, make: random_race },
     Family { name: "nests", seed: 842, tables: 1_000, make: random_nest },
@@ -19,6 +22,8 @@ const FAMILIES: [Family; 7] = [
     Family { name: "tables of any size", seed: 844, tables: 6_000, make: any },
     Family { name: "many jobs", seed: 845, tables: 3_000, make: crowded },
     Family { name: "the largest table", seed: 846, tables: 500, make: largest_with_assertions },
+    Family { name: "holding times", seed: 849, tables: 3_000, make: random_holding },
+    Family { name: "long holds", seed: 850, tables: 1_000, make: random_long_hold },
 ];
 
 /// The records of a chain, from the one that this byte leads to.
@@ -166,6 +171,7 @@ fn parts(memory: &[u8; TABLE_ROOM]) -> Table {
         store: std::array::from_fn(|variable| memory[4 + variable]),
         tasks: (0..memory[12].into()).map(task).collect(),
         ceilings: memory[16..16 + usize::from(memory[13])].to_vec(),
+        holdings: (0..memory[13].into()).map(|lock: usize| wide(664 + 4 * lock)).collect(),
     }
 }
 
@@ -186,6 +192,7 @@ fn table_of(described: &TableDescription) -> Table {
         store: described.initial_store,
         tasks: described.tasks.iter().map(task).collect(),
         ceilings: described.ceilings.clone(),
+        holdings: (0..described.ceilings.len()).map(|lock| described.holding(lock)).collect(),
     }
 }
 
@@ -197,6 +204,9 @@ fn tables_in_plain_rust() {
     let (mut accepted, mut refused) = (0, 0);
     for round in 0..4_000 {
         let mut described = any(&mut random);
+        if round % 4 > 1 {
+            hold(&mut random, &mut described);
+        }
         if round % 2 == 0 {
             grow(&mut random, &mut described);
         }

@@ -53,7 +53,7 @@ fn the_directory_holds_three_files_for_each_sample() {
         entry.expect("it can be listed").file_name().into_string().expect("a plain name")
     };
     assert_eq!(entries.map(name).collect::<BTreeSet<String>>(), expected);
-    assert_eq!(expected.len(), 21);
+    assert_eq!(expected.len(), 24);
 }
 
 #[test]
@@ -93,6 +93,7 @@ fn the_proved_walk_finds_what_each_sample_shows() {
     assert_eq!(walk("nested-lock"), Ok(Verdict::Holds { count: 109 }));
     assert_eq!(failing("half-changed-lane"), (88, vec![JobNumber(2)]));
     assert_eq!(walk("lane-kept-apart"), Ok(Verdict::Holds { count: 19 }));
+    assert_eq!(failing("long-hold"), (43, vec![JobNumber(3)]));
     assert_eq!(walk("slow-sorter"), Err(Refusal { number: 10, place: 1 }));
     assert_eq!(walk("too-many-orders"), Err(Refusal { number: 21, place: 0 }));
 }
@@ -149,6 +150,22 @@ fn the_lane_samples_differ_in_one_period() {
     assert_eq!((half.tasks[1].period, apart.tasks[1].period), (20, 40));
     apart.tasks[1].period = 20;
     assert_eq!(apart, half);
+}
+
+/// Without its holding time the sample holds: it is that which lets job 3 preempt job 1.
+#[test]
+fn the_long_hold_would_hold_without_its_holding_time() {
+    let held = table("long-hold");
+    assert_eq!((&held.ceilings[..], &held.holdings[..]), (&[1][..], &[20][..]));
+    let file = TableDescription { holdings: vec![0], ..held.clone() }.write();
+    assert_eq!(binding::walk(&file, SHEET_ALLOWANCE), Ok(Verdict::Holds { count: 262 }));
+    assert!(page("long-hold").contains("`verdict holds 262`"));
+    let times = |file: &[u8]| binding::read(file).expect("it is accepted").response_times;
+    assert_eq!((times(&file), times(&held.write())), (vec![70, 30, 10], vec![70, 60, 10]));
+    let [short, long] = [&file, &held.write()].map(|file| accepted(file));
+    let (change, divert) = (interpreter::JobNumber(1), interpreter::JobNumber(3));
+    assert!(short.comes_before(change, divert) && !short.may_preempt(divert, change));
+    assert!(long.may_preempt(divert, change) && !long.comes_before(change, divert));
 }
 
 #[test]

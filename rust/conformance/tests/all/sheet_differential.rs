@@ -28,7 +28,7 @@ const LONGEST_TRIED: usize = 4_200;
 
 /// Asserts that both sides give one answer and leave one text of this size: the sheet at its front,
 /// and every other byte as it was. Returns the sheet.
-fn compare(file: &[u8], size: usize) -> String {
+pub(crate) fn compare(file: &[u8], size: usize) -> String {
     let (mut text, mut left) = (pattern(size), pattern(size));
     let expected = expected_sheet(file, &mut left);
     let case = || format!("{size} bytes lent: {file:02x?}");

@@ -25,7 +25,7 @@ const FAMILIES: [Family; 8] = [
 
 /// Asserts that both sides give one answer and leave one memory of this size: the table at its
 /// front, and every other byte as it was.
-fn compare(file: &[u8], size: usize) -> WriteAnswer {
+pub(crate) fn compare(file: &[u8], size: usize) -> WriteAnswer {
     let (mut memory, mut left) = (pattern(size), pattern(size));
     let expected = expected_table(file, &mut left);
     let case = || format!("{size} bytes lent: {file:02x?}");

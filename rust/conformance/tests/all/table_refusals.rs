@@ -5,7 +5,9 @@ use binding::raw;
 use binding::{FILE_ROOM, TABLE_ROOM};
 use conformance::cases::{full_table, rates, table_x, tasks};
 use conformance::entries::pattern;
-use generator::memory::{entry_at, instruction_at, length_at, Memory, CEILINGS, LOCKS, TASKS};
+use generator::memory::{
+    entry_at, holding_at, instruction_at, length_at, Memory, CEILINGS, LOCKS, TASKS,
+};
 use generator::{code, InstructionDescription, TableDescription};
 use interpreter::WriteAnswer;
 
@@ -162,7 +164,8 @@ fn number_20_room() {
     }
 }
 
-/// What stands past the counts earns nothing: wrong times, operations and ceilings.
+/// What stands past the counts earns nothing: wrong times, operations and ceilings. Nor is a holding
+/// time there written.
 #[test]
 fn past_the_counts() {
     let mut table = table_x();
@@ -174,7 +177,8 @@ fn past_the_counts() {
         memory[length_at(task) + 1..instruction_at(task, 0)].fill(255);
     }
     memory[instruction_at(0, 5)..entry_at(1)].fill(255);
-    memory[instruction_at(1, 3)..TABLE_ROOM].fill(255);
+    memory[instruction_at(1, 3)..holding_at(0)].fill(255);
+    memory[holding_at(2)..TABLE_ROOM].fill(255);
     assert_written(&memory, &table.write());
     // With one count more, each of them is part of the table. Of the third task the times, which
     // are the widest, are in range.

@@ -8,7 +8,9 @@ use conformance::families::*;
 use conformance::listing::{each_plan, orders};
 use conformance::orders::random_order;
 use conformance::plans::{drawn_plan, random_plan};
-use generator::{random_nest, random_nested_locks, random_race, Random, TableDescription};
+use generator::{
+    random_long_hold, random_nest, random_nested_locks, random_race, Random, TableDescription,
+};
 use interpreter::timing::{accept, Accepted};
 use std::collections::{BTreeMap, BTreeSet};
 
@@ -61,8 +63,8 @@ fn plan_there_and_back(file: &[u8], plan: &[u8]) -> (RunAnswer, Vec<u8>) {
 type Make = fn(&mut Random) -> TableDescription;
 
 /// Families of tables with few steps, and with many, which come less often as they take longer.
-const FEW_STEPS: [Make; 6] =
-    [small, long, random_race, random_nest, nest_of_four, random_nested_locks];
+const FEW_STEPS: [Make; 7] =
+    [small, long, random_race, random_nest, nest_of_four, random_nested_locks, random_long_hold];
 const MANY_STEPS: [Make; 3] = [any, crowded, largest_with_assertions];
 
 /// Visits accepted tables of the families in turn until the visits have counted enough.

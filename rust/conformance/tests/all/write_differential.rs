@@ -75,7 +75,7 @@ impl Tally {
 
 /// Asserts that both sides give one answer and leave one buffer: the file at its front, and every
 /// other byte as it was.
-fn compare(memory: &Memory, blank: &[u8]) -> WriteAnswer {
+pub(crate) fn compare(memory: &Memory, blank: &[u8]) -> WriteAnswer {
     let (mut file, mut left) = (blank.to_vec(), blank.to_vec());
     let expected = expected_write(memory, &mut left);
     let case = || format!("{} bytes lent: {memory:02x?}", blank.len());

@@ -367,7 +367,9 @@ static void table_with_lock(void) {
     adqurim_read_table(table_x, sizeof table_x, &table, &answer);
     table.locks = 1;
     table.ceilings[0] = 7;
+    table.holdings[0] = 0x04030201;
     memset(table.ceilings + 1, FILL, sizeof table.ceilings - 1);
+    memset(table.holdings + 1, FILL, sizeof table.holdings - sizeof table.holdings[0]);
     memset(table.entries + 2, FILL, 6 * sizeof table.entries[0]);
     memset(table.entries[1].unused, FILL, sizeof table.entries[1].unused);
     uint64_t number = adqurim_write_file(&table, file, sizeof file, &answer);
@@ -375,9 +377,14 @@ static void table_with_lock(void) {
     expect("length with a lock", answer.length, 12 * 16);
     expect("the header's first lock", file[3], 11);
     expect("the lock's ceiling", file[11 * 16 + 2], 7);
+    expect("low byte of the lock's holding time", file[11 * 16 + 4], 1);
+    expect("high byte of the lock's holding time", file[11 * 16 + 7], 4);
+    expect("byte past the lock's holding time", file[11 * 16 + 8], 0);
     expect("read back", adqurim_read_table(file, 12 * 16, &back, &answer), ADQURIM_ACCEPTED);
     expect("ceiling read back", back.ceilings[0], 7);
     expect("ceiling past the locks", back.ceilings[1], 0);
+    expect("holding time read back", back.holdings[0], 0x04030201);
+    expect("holding time past the locks", back.holdings[1], 0);
 }
 
 /* The places are the indexes that the records would have had; a refusal changes no byte. */
@@ -420,7 +427,7 @@ static void table_words(void) {
     room = adqurim_table(table_x, sizeof table_x, table, sizeof table - 1, words,
                          ADQURIM_TABLE_WORDS);
     expect("room for 3 words", room, true);
-    expect("table of 663 bytes", words[0], ADQURIM_ROOM);
+    expect("table of 695 bytes", words[0], ADQURIM_ROOM);
     expect_untouched(table, sizeof table);
     adqurim_table(table_x, sizeof table_x, table, sizeof table, words, ADQURIM_TABLE_WORDS);
     words[0] = 7;
