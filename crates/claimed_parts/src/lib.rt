@@ -13,7 +13,7 @@ ghost use mathlib.Core.Path.{_≡_};
 ghost use Prim.Native.Nat.{_+_, _≤_, _<_, min};
 ghost use lib.ListN.{length, getD};
 ghost use Rattle.taskfile.specs.Tables.{endInstruction, noTask};
-ghost use Rattle.writer.specs.Claims.{claimedTasks, claimedBody, lockByLock, noLock, claimedLocks, recordTotal};
+ghost use Rattle.writer.specs.Claims.{claimedTasks, claimedBody, lockArray, noLock, claimedLocks, recordTotal};
 ghost use Rattle.claimed_parts.specs.Code.ClaimedParts.{linkAt};
 
 // As many as the count says, and never more than one too many.
@@ -69,7 +69,7 @@ pub fn entry_of(t: Table, i: u8) -> TaskEntry
 
 // A lock by its number, or one of ceiling 0 and holding time 0 past the arrays.
 pub fn lock_of(t: Table, l: u8) -> Lock
-    ensures { λ x. ⌜ x ≡ getD (lockByLock (t .ceilings) (t .holdings)) l noLock ⌝ }
+    ensures { λ x. ⌜ x ≡ getD (lockArray t) l noLock ⌝ }
 {
     if MOST_LOCKS <= l {
         return Lock {

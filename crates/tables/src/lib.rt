@@ -5,9 +5,9 @@ use records::end_instruction;
 use records::instruction_at;
 use records::wide_at;
 use taskfile::Body;
-use taskfile::Ceilings;
 use taskfile::Chain;
 use taskfile::Entries;
+use taskfile::Locks;
 use taskfile::Table;
 use taskfile::TaskEntry;
 use taskfile::limits::INSTRUCTIONS;
@@ -22,7 +22,7 @@ ghost use mathlib.Core.Path.{_≡_};
 ghost use Prim.Native.Nat.{_≤_};
 ghost use lib.ListN.{length, take, drop};
 ghost use Rattle.taskfile.specs.Code.Reading.{linkedTask, linkedChains};
-ghost use Rattle.taskfile.specs.Code.ReadingParts.{chainAt, bodyAt, entriesAt, ceilingsAt, holdingsAt};
+ghost use Rattle.taskfile.specs.Code.ReadingParts.{chainAt, bodyAt, entriesAt, locksRead};
 ghost use Rattle.taskfile.specs.Tables.{entryAt, tableAt};
 
 // The records of the chain from the record `first` on, at most `most`.
@@ -100,39 +100,26 @@ pub fn entries_at(file: &[u8], first: u8) -> Entries
     }
 }
 
-// The ceilings of the locks from the record `first` on, at most 8.
-pub fn ceilings_at(file: &[u8], first: u8) -> Ceilings
-    ensures { λ x. ⌜ x ≡ ceilingsAt (now (file .entry)) first ⌝ }
+// The ceilings and the longest holding times of the locks from the record `first` on, at most 8.
+pub fn locks_at(file: &[u8], first: u8) -> Locks
+    ensures { λ x. ⌜ x ≡ locksRead (now (file .entry)) first ⌝ }
 {
     let chain = chain_at(file, first, MOST_LOCKS);
     let records = chain.records;
     let mut ceilings = [0u8; LOCKS];
-    let mut n: u8 = 0;
-    while n < chain.count {
-        let at = n as usize;
-        ceilings[at] = byte_at(file, records[at], offsets::CEILING);
-        n += 1;
-    }
-    Ceilings {
-        count: chain.count,
-        ceilings: ceilings,
-    }
-}
-
-// The longest holding times of the locks from the record `first` on, at most 8.
-pub fn holdings_at(file: &[u8], first: u8) -> [u32; LOCKS]
-    ensures { λ x. ⌜ x ≡ holdingsAt (now (file .entry)) first ⌝ }
-{
-    let chain = chain_at(file, first, MOST_LOCKS);
-    let records = chain.records;
     let mut holdings = [0u32; LOCKS];
     let mut n: u8 = 0;
     while n < chain.count {
         let at = n as usize;
+        ceilings[at] = byte_at(file, records[at], offsets::CEILING);
         holdings[at] = wide_at(file, records[at], offsets::HOLDING);
         n += 1;
     }
-    holdings
+    Locks {
+        count: chain.count,
+        ceilings: ceilings,
+        holdings: holdings,
+    }
 }
 
 // The initial values of the shared variables, bytes 8 to 15 of the header.
@@ -157,10 +144,10 @@ pub fn table_at(file: &[u8]) -> Table
     ensures { λ x. ⌜ x ≡ tableAt (now (file .entry)) (linkedChains (now (file .entry))) ⌝ }
 {
     let tasks = entries_at(file, byte_at(file, 0, offsets::FIRST_TASK));
-    let lock = byte_at(file, 0, offsets::FIRST_LOCK);
-    let locks = ceilings_at(file, lock);
+    let locks = locks_at(file, byte_at(file, 0, offsets::FIRST_LOCK));
     let entries = tasks.entries;
     let ceilings = locks.ceilings;
+    let holdings = locks.holdings;
     Table {
         window: wide_at(file, 0, offsets::WINDOW),
         store: store_at(file),
@@ -168,6 +155,6 @@ pub fn table_at(file: &[u8]) -> Table
         entries: entries,
         locks: locks.count,
         ceilings: ceilings,
-        holdings: holdings_at(file, lock),
+        holdings: holdings,
     }
 }

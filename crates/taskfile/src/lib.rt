@@ -106,6 +106,13 @@ pub struct Ceilings {
     pub ceilings: [u8; LOCKS],
 }
 
+// The locks' ceilings and longest holding times, how many there are, and the arrays that hold them.
+pub struct Locks {
+    pub count: u8,
+    pub ceilings: [u8; LOCKS],
+    pub holdings: [u32; LOCKS],
+}
+
 // What loading a file comes to: its check and, if it passed, its table.
 pub struct LoadAnswer {
     pub check: Check,

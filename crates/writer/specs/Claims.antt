@@ -33,11 +33,14 @@ lockByLock (ceiling ∷ ceilings) [] = []
 lockByLock (ceiling ∷ ceilings) (holding ∷ holdings) =
     record { ceiling = ceiling; holding = holding } ∷ lockByLock ceilings holdings
 
+abbrev pub lockArray : Table → List Lock
+lockArray t = lockByLock (t .ceilings) (t .holdings)
+
 abbrev pub noLock : Lock
 noLock = record { ceiling = 0; holding = 0 }
 
 unfoldable pub claimedLocks : Table → List Lock
-claimedLocks t = claimed (t .locks) (lockByLock (t .ceilings) (t .holdings)) noLock
+claimedLocks t = claimed (t .locks) (lockArray t) noLock
 
 -- how many records tasks have with their bodies
 unfoldable pub recordTotal : List TaskEntry → ℕ

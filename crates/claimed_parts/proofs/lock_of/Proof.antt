@@ -4,7 +4,7 @@ use borrow.Author.Needs.{needs}
 use mathlib.Core.Path.{sym, _∙_}
 use native.Mathlib.Omega.{arith}
 use lib.ListN.{List·getD-eq-default}
-use Rattle.writer.specs.Claims.{lockByLock, noLock, Fits}
+use Rattle.writer.specs.Claims.{lockArray, noLock, Fits}
 use Rattle.writer.specs.Laws.FitsLaws.{table-fits}
 use Rattle.writer.specs.Laws.LockLaws.{locks-getD, locks-full}
 use Rattle.claimed_parts.proofs.lock_of.Statement.{statement}
@@ -16,7 +16,7 @@ fits c = table-fits (c .args .t1) _ (c .good .0)
 returns : tie.Need-returns
 returns c =
     let t = c .before .args .t1 in
-    sym (List·getD-eq-default (lockByLock (t .ceilings) (t .holdings)) noLock (omega (arith, locks-full t (fits (c .before)))))
+    sym (List·getD-eq-default (lockArray t) noLock (omega (arith, locks-full t (fits (c .before)))))
 
 element-copy-out-ceiling : tie.Need-element-copy-out-ceiling
 element-copy-out-ceiling c = search needs

@@ -15,7 +15,7 @@ use Rattle.taskfile.specs.declared.Table.{Table}
 use Rattle.taskfile.specs.declared.TaskEntry.{TaskEntry}
 use Rattle.taskfile.specs.Tables.{endInstruction, noTask}
 use Rattle.writer.specs.declared.Lock.{Lock}
-use Rattle.writer.specs.Claims.{claimed, claimedTasks, claimedBody, lockByLock, noLock, claimedLocks, recordTotal, Fits}
+use Rattle.writer.specs.Claims.{claimed, claimedTasks, claimedBody, lockArray, noLock, claimedLocks, recordTotal, Fits}
 use Rattle.writer.specs.Laws.LockLaws.{locks-full}
 use Rattle.writer.specs.Layout.{linkTo}
 use Rattle.claimed_parts.specs.Code.ClaimedParts.{linkAt}
@@ -70,12 +70,12 @@ module _ (t : Table) where
 
   pub locks-claim : Fits t → length (claimedLocks t) ≡ min (t .locks) 9
   unfolding claimedLocks
-  locks-claim fit = claimed-length (t .locks) (lockByLock (t .ceilings) (t .holdings)) noLock 8 (locks-full t fit)
+  locks-claim fit = claimed-length (t .locks) (lockArray t) noLock 8 (locks-full t fit)
 
-  pub locks-from : (l : ℕ) {x : Lock} → x ≡ getD (lockByLock (t .ceilings) (t .holdings)) l noLock
+  pub locks-from : (l : ℕ) {x : Lock} → x ≡ getD (lockArray t) l noLock
       → l < length (claimedLocks t) → drop l (claimedLocks t) ≡ x ∷ drop (suc l) (claimedLocks t)
   unfolding claimedLocks
-  locks-from l is inside = claimed-from (t .locks) (lockByLock (t .ceilings) (t .holdings)) noLock l is inside
+  locks-from l is inside = claimed-from (t .locks) (lockArray t) noLock l is inside
 
 -- ---- links
 

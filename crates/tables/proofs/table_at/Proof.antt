@@ -6,22 +6,21 @@ use Prim.Native.Nat.{ℕ}
 use mathlib.Core.Path.{_≡_, sym, ap, _∙_}
 use mathlib.Core.List.{List, map-map}
 use lib.ListN.{take, drop, length-map}
-use Rattle.taskfile.specs.declared.Ceilings.{Ceilings}
 use Rattle.taskfile.specs.declared.Entries.{Entries}
+use Rattle.taskfile.specs.declared.Locks.{Locks}
 use Rattle.taskfile.specs.declared.Table.{Table}
 use Rattle.taskfile.specs.Chains.{mostTasks}
 use Rattle.notation.specs.Lists.{padded}
 use Rattle.taskfile.specs.Code.Reading.{linked, linkedTask, linkedChains}
-use Rattle.taskfile.specs.Code.ReadingParts.{entriesAt, ceilingsAt, holdingsAt}
+use Rattle.taskfile.specs.Code.ReadingParts.{entriesAt, locksRead}
 use Rattle.taskfile.specs.Records.{File, byteAt, wideAt}
 use Rattle.taskfile.specs.Tables.{noTask, entryAt, tableAt}
 use Rattle.tables.proofs.table_at.Statement.{statement}
 use Rattle.tables.proofs.table_at.Tie as tie
 
-table-parts : (f : File) (firstTask firstLock window : ℕ) (store : List ℕ) (tasks : Entries) (locks : Ceilings)
-    (holdings : List ℕ) → firstTask ≡ byteAt f 0 2 → tasks ≡ entriesAt f firstTask → firstLock ≡ byteAt f 0 3
-    → locks ≡ ceilingsAt f firstLock → window ≡ wideAt f 0 4 → store ≡ take 8 (drop 8 f)
-    → holdings ≡ holdingsAt f firstLock
+table-parts : (f : File) (firstTask firstLock window : ℕ) (store : List ℕ) (tasks : Entries) (locks : Locks)
+    → firstTask ≡ byteAt f 0 2 → tasks ≡ entriesAt f firstTask → firstLock ≡ byteAt f 0 3 → locks ≡ locksRead f firstLock
+    → window ≡ wideAt f 0 4 → store ≡ take 8 (drop 8 f)
     → _≡_ {A = Table} (
     record {
       window = window;
@@ -30,15 +29,14 @@ table-parts : (f : File) (firstTask firstLock window : ℕ) (store : List ℕ) (
       entries = tasks .entries;
       locks = locks .count;
       ceilings = locks .ceilings;
-      holdings = holdings;
+      holdings = locks .holdings;
     }
     ) (tableAt f (linkedChains f))
-unfolding tableAt linkedChains entriesAt ceilingsAt holdingsAt
-table-parts f firstTask firstLock window store tasks locks holdings atTask atTasks atLock atLocks atWindow atStore atHoldings =
+unfolding tableAt linkedChains entriesAt locksRead
+table-parts f firstTask firstLock window store tasks locks atTask atTasks atLock atLocks atWindow atStore =
     let reached = linked f mostTasks (byteAt f 0 2) in
     let read = atTasks ∙ ap (entriesAt f) atTask in
-    let ceilings = atLocks ∙ ap (ceilingsAt f) atLock in
-    let times = atHoldings ∙ ap (holdingsAt f) atLock in
+    let held = atLocks ∙ ap (locksRead f) atLock in
     let count = ap (λ e. e .count) read ∙ sym (length-map reached (linkedTask f)) in
     let entries =
     ap (λ e. e .entries) read ∙ ap (padded mostTasks noTask) (sym (map-map (entryAt f) (linkedTask f) reached)) in
@@ -47,9 +45,9 @@ table-parts f firstTask firstLock window store tasks locks holdings atTask atTas
       store = atStore i;
       tasks = count i;
       entries = entries i;
-      locks = ceilings i .count;
-      ceilings = ceilings i .ceilings;
-      holdings = times i;
+      locks = held i .count;
+      ceilings = held i .ceilings;
+      holdings = held i .holdings;
     }
 
 byte-at-requires : tie.Need-byte-at-requires
@@ -61,8 +59,8 @@ entries-at-requires c κs = search needs
 byte-at-requires-2 : tie.Need-byte-at-requires-2
 byte-at-requires-2 c κs = search needs
 
-ceilings-at-requires : tie.Need-ceilings-at-requires
-ceilings-at-requires c κs = search needs
+locks-at-requires : tie.Need-locks-at-requires
+locks-at-requires c κs = search needs
 
 wide-at-requires : tie.Need-wide-at-requires
 wide-at-requires c κs = search needs
@@ -70,15 +68,11 @@ wide-at-requires c κs = search needs
 store-at-requires : tie.Need-store-at-requires
 store-at-requires c κs = search needs
 
-holdings-at-requires : tie.Need-holdings-at-requires
-holdings-at-requires c κs = search needs
-
 returns : tie.Need-returns
 returns c =
-    table-parts _ _ _ _ _ _ _ _ (c .before .before .before .before .before .before .before .before .byte-at .ensures)
-    (c .before .before .before .before .before .before .before .entries-at .ensures) (c .before .before .before .before .before .before .byte-at2 .ensures)
-    (c .before .before .before .before .before .ceilings-at .ensures) (c .before .before .wide-at .ensures)
-    (c .before .store-at .ensures) (c .holdings-at .ensures)
+    let read = c .before .before .before .before .before in
+    table-parts _ _ _ _ _ _ _ (read .before .before .before .byte-at .ensures) (read .before .before .entries-at .ensures)
+    (read .before .byte-at2 .ensures) (read .locks-at .ensures) (c .before .wide-at .ensures) (c .store-at .ensures)
 
 pub table-at-spec : {M : Type 1} → statement M
 table-at-spec =
@@ -87,8 +81,7 @@ table-at-spec =
     byte-at-requires
     entries-at-requires
     byte-at-requires-2
-    ceilings-at-requires
+    locks-at-requires
     wide-at-requires
     store-at-requires
-    holdings-at-requires
     returns)

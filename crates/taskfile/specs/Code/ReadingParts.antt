@@ -1,12 +1,12 @@
 -- The parts of a table by following indices, as the functions of the reader yield them.
 -- Assumes nothing.
 use Prim.Native.Nat.{ℕ, zero, suc}
-use mathlib.Core.List.{List, map}
+use mathlib.Core.List.{map}
 use lib.ListN.{length}
 use Rattle.taskfile.specs.declared.Body.{Body}
-use Rattle.taskfile.specs.declared.Ceilings.{Ceilings}
 use Rattle.taskfile.specs.declared.Chain.{Chain}
 use Rattle.taskfile.specs.declared.Entries.{Entries}
+use Rattle.taskfile.specs.declared.Locks.{Locks}
 use Rattle.taskfile.specs.declared.Site.{Site}
 use Rattle.taskfile.specs.declared.Site.the-variants.{AtHeader, AtTask, AtInstruction, AtLock}
 use Rattle.taskfile.specs.Chains.{mostInstructions, mostTasks, mostLocks}
@@ -31,13 +31,14 @@ entriesAt f first =
     let tasks = linked f mostTasks first in
     record { count = length tasks; entries = padded mostTasks noTask (map (λ r. entryAt f (linkedTask f r)) tasks) }
 
-unfoldable pub ceilingsAt : File → ℕ → Ceilings
-ceilingsAt f first =
+unfoldable pub locksRead : File → ℕ → Locks
+locksRead f first =
     let locks = linked f mostLocks first in
-    record { count = length locks; ceilings = padded mostLocks 0 (map (λ r. byteAt f r 2) locks) }
-
-unfoldable pub holdingsAt : File → ℕ → List ℕ
-holdingsAt f first = padded mostLocks 0 (map (λ r. wideAt f r 4) (linked f mostLocks first))
+    record {
+      count = length locks;
+      ceilings = padded mostLocks 0 (map (λ r. byteAt f r 2) locks);
+      holdings = padded mostLocks 0 (map (λ r. wideAt f r 4) locks);
+    }
 
 -- the record that n links lead to
 unfoldable pub linkAfter : File → ℕ → ℕ → ℕ

@@ -1,6 +1,6 @@
 -- What a table is like whose fields passed: its counts stay within its arrays, so what it claims is what it holds.
 -- Assumes nothing.
-use mathlib.Core.Path.{_≡_, subst, _∙_}
+use mathlib.Core.Path.{_≡_, subst}
 use Prim.Native.Nat.{ℕ, suc, _+_, _≤_}
 use native.Mathlib.Omega.{arith}
 use mathlib.Core.Bool.{not}
@@ -20,10 +20,10 @@ use Rattle.taskfile.specs.Judgement.{numbered}
 use Rattle.taskfile.specs.Records.{timesInRange}
 use Rattle.taskfile.specs.Tables.{tasksOf, bodyOf, ceilingsOf, holdingsOf, endInstruction, noTask}
 use Rattle.writer.specs.declared.Lock.{Lock}
-use Rattle.writer.specs.Claims.{claimed, claimedTasks, claimedBody, lockByLock, noLock, claimedLocks, FitsEntry, Fits}
+use Rattle.writer.specs.Claims.{claimed, claimedTasks, claimedBody, lockByLock, lockArray, noLock, claimedLocks, FitsEntry, Fits}
 use Rattle.writer.specs.Fields.{bodyFields, taskFields, lockFields, fields}
-use Rattle.writer.specs.Laws.ClaimLaws.{claimed-covered}
-use Rattle.writer.specs.Laws.LockLaws.{locks-take, locks-full}
+use Rattle.writer.specs.Laws.ClaimLaws.{claimed-covered, locks-held}
+use Rattle.writer.specs.Laws.LockLaws.{locks-full}
 
 -- a count is within its array where no part too many is claimed
 claimed-within : {A : Type 0} (count : ℕ) (array : List A) (blank : A) (most : ℕ) → length array ≡ most
@@ -113,8 +113,7 @@ locks-within-claimed : (t : Table) → Fits t → t .locks ≤ 8
     → claimedLocks t ≡ lockByLock (ceilingsOf t) (holdingsOf t)
 unfolding claimedLocks ceilingsOf holdingsOf
 locks-within-claimed t fit within =
-    claimed-covered (t .locks) (lockByLock (t .ceilings) (t .holdings)) noLock (omega (arith, locks-full t fit))
-    ∙ locks-take (t .locks) (t .ceilings) (t .holdings)
+    locks-held (t .locks) mostLocks (t .ceilings) (t .holdings) (fit .ceilings) (fit .holdingsFull) within
 
 -- as many holding times as ceilings
 pub locks-even : (t : Table) → Fits t → length (ceilingsOf t) ≡ length (holdingsOf t)
@@ -156,7 +155,7 @@ module _ (t : Table) (fit : Fits t) {u : Unit {0}} (sound : fields t ≡ passed 
   locks-within : t .locks ≤ 8
   unfolding claimedLocks
   locks-within =
-      claimed-within (t .locks) (lockByLock (t .ceilings) (t .holdings)) noLock mostLocks (locks-full t fit)
+      claimed-within (t .locks) (lockArray t) noLock mostLocks (locks-full t fit)
       (claims-few t sound .1)
 
   -- the ninth task, the ninth lock and the seventeenth instruction are refused by 5

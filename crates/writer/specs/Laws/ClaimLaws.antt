@@ -51,7 +51,7 @@ unfolding claimedTasks tableAt
 tasks-spelled f c few = claimed-held mostTasks noTask noTask (entryAt f) (c .tasks) few
 
 -- two arrays that hold lists of one length claim them joined
-locks-held : (n m : ℕ) (ceilings holdings : List ℕ) → length ceilings ≡ m → length holdings ≡ m → n ≤ m
+pub locks-held : (n m : ℕ) (ceilings holdings : List ℕ) → length ceilings ≡ m → length holdings ≡ m → n ≤ m
     → claimed n (lockByLock ceilings holdings) noLock ≡ lockByLock (take n ceilings) (take n holdings)
 locks-held n m ceilings holdings full even few =
     claimed-covered n (lockByLock ceilings holdings) noLock

@@ -25,7 +25,7 @@ use Rattle.taskfile.specs.File.{sized}
 use Rattle.taskfile.specs.Laws.CheckSteps.{noneOf-upTo-none}
 use Rattle.taskfile.specs.Records.{records, windowInRange}
 use Rattle.taskfile.specs.Tables.{endInstruction, noTask}
-use Rattle.writer.specs.Claims.{claimed, claimedTasks, claimedBody, lockByLock, noLock, claimedLocks, recordTotal, indexOf, locksAt}
+use Rattle.writer.specs.Claims.{claimed, claimedTasks, claimedBody, lockArray, noLock, claimedLocks, recordTotal, indexOf, locksAt}
 use Rattle.writer.specs.Claims.{FitsEntry, Fits}
 use Rattle.writer.specs.Fields.{taskFields, lockFields, fields}
 use Rattle.writer.specs.Layout.{linkTo, afterTask, headerRecord, taskRecords, lockRecords, layout}
@@ -99,7 +99,7 @@ layout-most t fits =
       arith,
       total-most (claimedTasks t) (claimed-fit t fits),
       claimed-most (t .tasks) (t .entries) noTask,
-      claimed-most (t .locks) (lockByLock (t .ceilings) (t .holdings)) noLock,
+      claimed-most (t .locks) (lockArray t) noLock,
       fits .entriesFull,
       locks-full t fits,
     )

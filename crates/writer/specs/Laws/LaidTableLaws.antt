@@ -17,7 +17,7 @@ use Rattle.taskfile.specs.Chains.{mostTasks, mostLocks, mostInstructions}
 use Rattle.taskfile.specs.Records.{File, byteAt, wideAt, instructionAt}
 use Rattle.taskfile.specs.Tables.{tasksOf, ceilingsOf, holdingsOf, endInstruction, noTask, entryAt, tableAt}
 use Rattle.writer.specs.declared.Lock.{Lock}
-use Rattle.writer.specs.Claims.{claimedTasks, claimedBody, lockByLock, noLock, claimedLocks, coveredEntry, covered, FitsEntry, Fits, locksAt}
+use Rattle.writer.specs.Claims.{claimedTasks, claimedBody, lockByLock, lockArray, noLock, claimedLocks, coveredEntry, covered, FitsEntry, Fits, locksAt}
 use Rattle.writer.specs.Fields.{fields}
 use Rattle.writer.specs.Layout.{wideBytes, linkTo, instructionRecord, bodyRecords, taskRecord, afterTask, taskRecords}
 use Rattle.writer.specs.Layout.{lockRecord, lockRecords, headerRecord, layout}
@@ -159,7 +159,7 @@ claimedTasks-length t fit within = claimed-length (t .tasks) (t .entries) noTask
 claimedLocks-length : (t : Table) → Fits t → t .locks ≤ 8 → length (claimedLocks t) ≡ t .locks
 unfolding claimedLocks
 claimedLocks-length t fit within =
-    claimed-length (t .locks) (lockByLock (t .ceilings) (t .holdings)) noLock (omega (arith, locks-full t fit))
+    claimed-length (t .locks) (lockArray t) noLock (omega (arith, locks-full t fit))
 
 module _ (t : Table) (fit : Fits t) {u : Unit {0}} (sound : fields t ≡ passed u) where
   entries-back : map (entryAt (layout t)) (laidTasks 1 (claimedTasks t)) ≡ map coveredEntry (tasksOf t)

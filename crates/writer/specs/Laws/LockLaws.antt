@@ -12,7 +12,7 @@ use Rattle.taskfile.specs.declared.Table.{Table}
 use Rattle.taskfile.specs.Chains.{mostLocks}
 use Rattle.taskfile.specs.Records.{File, byteAt, wideAt}
 use Rattle.writer.specs.declared.Lock.{Lock}
-use Rattle.writer.specs.Claims.{claimed, lockByLock, noLock, claimedLocks, Fits}
+use Rattle.writer.specs.Claims.{claimed, lockByLock, lockArray, noLock, claimedLocks, Fits}
 use Rattle.writer.specs.Laws.WideBytesLaws.{Wide}
 
 -- the lock of the record r
@@ -84,14 +84,14 @@ locks-wide (c ∷ ceilings) [] small = tt
 locks-wide (c ∷ ceilings) (h ∷ holdings) small = (small .0, locks-wide ceilings holdings (small .1))
 
 -- a table that fits has as many locks as its arrays have places, and each lock that it claims fits
-pub locks-full : (t : Table) → Fits t → length (lockByLock (t .ceilings) (t .holdings)) ≡ mostLocks
+pub locks-full : (t : Table) → Fits t → length (lockArray t) ≡ mostLocks
 locks-full t fit =
     locks-length (t .ceilings) (t .holdings) (fit .ceilings ∙ sym (fit .holdingsFull)) ∙ fit .ceilings
 
 pub claimedLocks-fit : (t : Table) → Fits t → Every HoldingFits (claimedLocks t)
 unfolding claimedLocks claimed
 claimedLocks-fit t fit =
-    let locks = lockByLock (t .ceilings) (t .holdings) in
+    let locks = lockArray t in
     every-take HoldingFits (t .locks) (locks ++ noLock ∷ [])
     (every-append HoldingFits locks (noLock ∷ []) (locks-wide (t .ceilings) (t .holdings) (fit .holdings))
     (omega arith, tt))
