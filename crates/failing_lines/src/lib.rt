@@ -2,16 +2,16 @@
 use marks::MARKS;
 use printing::end_line;
 use printing::put_word;
-use printing::then_number;
+use printing::then_byte;
+use printing::then_bytes;
 use printing::then_word;
 use rounds::count_at;
 use rounds::round_at;
 use taskfile::limits::JOBS;
 use timing::Job;
-ghost use mathlib.Core.Path.{_≡_};
 ghost use Prim.Native.Nat.{_≤_, _<_};
 ghost use mathlib.Core.Bool.{false};
-ghost use mathlib.Core.List.{_∷_, map};
+ghost use mathlib.Core.List.{map};
 ghost use lib.ListN.{length, getD};
 ghost use Rattle.notation.specs.Lists.{upTo, only, each};
 ghost use Rattle.writing.specs.Code.Writing.{Appends};
@@ -19,14 +19,6 @@ ghost use Rattle.marks.specs.Code.Marks.{IsMarks};
 ghost use Rattle.sheets.specs.Texts.{decimal, line, failedWord};
 ghost use Rattle.sheets.specs.Sheets.{orderLine};
 ghost use Rattle.failing_lines.specs.Code.LineParts.{failedPart, jobLine};
-
-// Writes a space and a byte's number.
-pub fn then_byte(x: u8, at: usize, out: &mut [u8]) -> usize
-    requires { ⌜ 4608 ≤ length (now out) ⌝ }
-    ensures { λ n. ⌜ Appends 4608 (now (out .entry)) at (32 ∷ decimal x) (now (out .exit)) n ⌝ }
-{
-    then_number(x as u64, at, out)
-}
 
 // Writes a space and a job's number, if the job has failed.
 pub fn then_failed(flag: bool, x: u8, at: usize, out: &mut [u8]) -> usize
@@ -44,12 +36,8 @@ pub fn put_order(order: &[u8], at: usize, out: &mut [u8]) -> usize
     requires { ⌜ 4608 ≤ length (now out) ⌝ }
     ensures { λ n. ⌜ Appends 4608 (now (out .entry)) at (orderLine (now (order .entry))) (now (out .exit)) n ⌝ }
 {
-    let mut next = put_word(b"order", at, out);
-    let mut k: usize = 0;
-    while k < order.len() {
-        next = then_byte(order[k], next, out);
-        k += 1;
-    }
+    let word = put_word(b"order", at, out);
+    let next = then_bytes(order, word, out);
     end_line(next, out)
 }
 

@@ -8,6 +8,7 @@ ghost use lib.ListN.{length};
 ghost use Rattle.writing.specs.Code.Writing.{Appends};
 ghost use Rattle.sheets.specs.Texts.{decimal, line, tasksWord, taskWord, jobsWord, responseWord, verdictWord};
 ghost use Rattle.sheets.specs.Sheets.{refusedLine};
+ghost use Rattle.printing.specs.Code.Spaced.{spacedNumbers};
 
 // The bytes between two words and after a line, and the first digit.
 const SPACE: u8 = 32;
@@ -53,6 +54,28 @@ pub fn then_number(x: u64, at: usize, out: &mut [u8]) -> usize
 {
     let next = write_byte(out, SHEET_ROOM, at, SPACE);
     put_number(x, next, out)
+}
+
+// Writes a space and a byte's number.
+pub fn then_byte(x: u8, at: usize, out: &mut [u8]) -> usize
+    requires { ⌜ 4608 ≤ length (now out) ⌝ }
+    ensures { λ n. ⌜ Appends 4608 (now (out .entry)) at (32 ∷ decimal x) (now (out .exit)) n ⌝ }
+{
+    then_number(x as u64, at, out)
+}
+
+// Writes the numbers of bytes, with a space before each.
+pub fn then_bytes(bytes: &[u8], at: usize, out: &mut [u8]) -> usize
+    requires { ⌜ 4608 ≤ length (now out) ⌝ }
+    ensures { λ n. ⌜ Appends 4608 (now (out .entry)) at (spacedNumbers (now (bytes .entry))) (now (out .exit)) n ⌝ }
+{
+    let mut next = at;
+    let mut k: usize = 0;
+    while k < bytes.len() {
+        next = then_byte(bytes[k], next, out);
+        k += 1;
+    }
+    next
 }
 
 // Ends a line.

@@ -84,16 +84,21 @@ covered t =
 abbrev pub Bytes : List ℕ → Type 0
 Bytes bytes = Every (λ (b : ℕ). b < 256) bytes
 
--- what every value of the declared type is like: its arrays are full, and its wide fields have 32 bits
+-- what every value of the declared type is like: its arrays are full, its wide fields have 32 bits and its bytes 8
+abbrev pub ByteFields : Instruction → Type 0
+ByteFields i = (i .a < 256) × (i .b < 256) × (i .c < 256)
+
 pub record FitsEntry (e : TaskEntry) : Type 0 where
   pub execution : e .execution < 2 ^ 32
   pub period : e .period < 2 ^ 32
   pub arrival : e .arrival < 2 ^ 32
   pub body : length (e .body) ≡ mostInstructions
+  pub instructions : Every ByteFields (e .body)
 
 pub record Fits (t : Table) : Type 0 where
   pub window : t .window < 2 ^ 32
   pub store : length (t .store) ≡ 8
+  pub values : Bytes (t .store)
   pub entriesFull : length (t .entries) ≡ mostTasks
   pub entries : Every FitsEntry (t .entries)
   pub ceilings : length (t .ceilings) ≡ mostLocks

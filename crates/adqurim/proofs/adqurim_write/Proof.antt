@@ -34,7 +34,8 @@ returns-3 c =
     let read = written .before .before in
     let whole = read .before in
     let does =
-    enough-lent _ _ _ (whole .before .if1 .left) (whole .if2 .left) (read .table-in .ensures) (written .write-table .ensures)
+    enough-lent _ _ _ (whole .before .if1 .left) (whole .if2 .left) (read .table-in .ensures)
+    (written .write-table .ensures .0, written .write-table .ensures .1 .0)
     (put .put-write .ensures)
     in
     (does .0, (does .1, does .2))

@@ -4,7 +4,9 @@ use mathlib.Core.Path.{_∙_}
 use native.Mathlib.Omega.{arith}
 use borrow.Author.Needs.{needs}
 use Rattle.writing.specs.Laws.WritingLaws.{appends-count}
-use Rattle.desk.specs.Laws.DeskLaws.{table-refused, table-no-room, table-done}
+use Rattle.writer.specs.Memory.{memoryOf, tableBytes}
+use Rattle.writer.specs.WriteEntries.{tabled, tableAnswer, tableAfter}
+use Rattle.desk.specs.Laws.DeskLaws.{made-refused, made-no-room, made-done}
 use Rattle.desk.proofs.fill_table.Statement.{statement}
 use Rattle.desk.proofs.fill_table.Tie as tie
 
@@ -14,36 +16,35 @@ accept-file-requires c κs = search needs
 enum-known-check : tie.Need-enum-known-check
 enum-known-check c = search needs
 
-cast-refused-write : tie.Need-cast-refused-write
-cast-refused-write c = search needs
-
-refused-write-requires : tie.Need-refused-write-requires
-refused-write-requires c κs = search needs
+refused-record-requires : tie.Need-refused-record-requires
+refused-record-requires c κs = search needs
 
 returns : tie.Need-returns
+unfolding tableAnswer tableAfter tabled
 returns c =
     let called = c .before .before .before .before in
-    let is = table-refused _ _ _ (called .accept-file .ensures) (c .before .before .check .given .1) in
-    (c .refused-write .ensures ∙ is .0, is .1)
+    let is = made-refused tableBytes memoryOf _ _ _ (called .accept-file .ensures) (c .before .before .check .given .1) in
+    (c .refused-record .ensures .0 ∙ is .0, is .1)
 
 enum-told : tie.Need-enum-told
 enum-told c = search needs
 
-refused-write-requires-2 : tie.Need-refused-write-requires-2
-refused-write-requires-2 c κs = search needs
+refused-write-requires : tie.Need-refused-write-requires
+refused-write-requires c κs = search needs
 
 returns-2 : tie.Need-returns-2
+unfolding tableAnswer tableAfter tabled
 returns-2 c =
     let told = c .before .before in
     let called = told .before .before in
-    let is = table-no-room _ _ _ (called .accept-file .ensures) (told .enum-told .given .1) (c .before .if1 .taken) in
-    (c .refused-write2 .ensures ∙ is .0, is .1)
+    let is = made-no-room tableBytes memoryOf _ _ _ (called .accept-file .ensures) (told .enum-told .given .1) (c .before .if1 .taken) in
+    (c .refused-write .ensures ∙ is .0, is .1)
 
 put-table-requires : tie.Need-put-table-requires
 put-table-requires c κs = search needs
 
-cast-t14 : tie.Need-cast-t14
-cast-t14 c =
+cast-t13 : tie.Need-cast-t13
+cast-t13 c =
     let put = c .before .before .put-table .ensures in
     record { fits = omega (arith, appends-count (put .0) (omega (arith, put .1)), put .1) }
 
@@ -51,12 +52,13 @@ same-length : tie.Need-same-length
 same-length c = search needs
 
 returns-3 : tie.Need-returns-3
+unfolding tableAnswer tableAfter tabled
 returns-3 c =
     let put = c .before .before in
     let told = put .before .before .before .before in
     let called = told .before .before in
-    table-done _ _ _ (called .accept-file .ensures) (told .enum-told .given .1) (put .before .before .before .if1 .left) (put .put-table .ensures .0)
-    (put .put-table .ensures .1)
+    made-done tableBytes memoryOf _ _ _ (called .accept-file .ensures) (told .enum-told .given .1) (put .before .before .before .if1 .left) (put .put-table .ensures .0)
+    (omega (arith, put .put-table .ensures .1))
 
 pub fill-table-spec : {M : Type 1} → statement M
 fill-table-spec =
@@ -64,13 +66,12 @@ fill-table-spec =
     (tie.spec
     accept-file-requires
     enum-known-check
-    cast-refused-write
-    refused-write-requires
+    refused-record-requires
     returns
     enum-told
-    refused-write-requires-2
+    refused-write-requires
     returns-2
     put-table-requires
-    cast-t14
+    cast-t13
     same-length
     returns-3)

@@ -1,9 +1,10 @@
 -- `desk::write_table` meets its contract: a table that is refused, a file that is too short, and a table that was written.
 -- Assumes nothing.
-use mathlib.Core.Path.{sym, _∙_}
+use mathlib.Core.Path.{sym, ap, _∙_}
 use native.Mathlib.Omega.{arith}
 use lib.Seq.{length-take-le}
 use borrow.Author.Needs.{needs}
+use Rattle.writer.specs.declared.WriteAnswer.{WriteAnswer}
 use Rattle.writer.specs.Claims.{Fits}
 use Rattle.writer.specs.Laws.FitsLaws.{table-fits}
 use Rattle.desk.specs.Laws.DeskLaws.{laying-room, laid-within, laid-inside, laid-accepted}
@@ -37,11 +38,8 @@ accept-file-requires c κs = search needs
 enum-known-check : tie.Need-enum-known-check
 enum-known-check c = search needs
 
-cast-refused-write : tie.Need-cast-refused-write
-cast-refused-write c = search needs
-
-refused-write-requires : tie.Need-refused-write-requires
-refused-write-requires c κs = search needs
+refused-record-requires : tie.Need-refused-record-requires
+refused-record-requires c κs = search needs
 
 returns : tie.Need-returns
 returns c =
@@ -49,13 +47,13 @@ returns c =
     let made = called .before .before .before in
     let laid = laid-accepted _ (fits (made .before .before .before)) (made .put-layout .ensures) in
     let is = write-refused _ _ _ laid _ (called .accept-file .ensures) (c .before .before .check .given .1) in
-    (c .refused-write .ensures ∙ is .0, is .1)
+    (c .refused-record .ensures .0 ∙ is .0, (is .1, c .refused-record .ensures .1))
 
 enum-told : tie.Need-enum-told
 enum-told c = search needs
 
-refused-write-requires-2 : tie.Need-refused-write-requires-2
-refused-write-requires-2 c κs = search needs
+refused-write-requires : tie.Need-refused-write-requires
+refused-write-requires c κs = search needs
 
 returns-2 : tie.Need-returns-2
 returns-2 c =
@@ -64,7 +62,7 @@ returns-2 c =
     let made = called .before .before .before in
     let laid = laid-accepted _ (fits (made .before .before .before)) (made .put-layout .ensures) in
     let is = write-no-room _ _ _ laid _ (called .accept-file .ensures) (told .enum-told .given .1) (c .before .if1 .taken) in
-    (c .refused-write2 .ensures ∙ is .0, is .1)
+    (c .refused-write .ensures ∙ is .0, (is .1, omega (arith, ap (λ (x : WriteAnswer). x .place) (c .refused-write .ensures))))
 
 array-share-prefix-laid-2 : tie.Need-array-share-prefix-laid-2
 array-share-prefix-laid-2 c =
@@ -79,8 +77,8 @@ slice-aggregate-write-bytes c =
 write-bytes-requires : tie.Need-write-bytes-requires
 write-bytes-requires c κs = search needs
 
-cast-t21 : tie.Need-cast-t21
-cast-t21 c =
+cast-t20 : tie.Need-cast-t20
+cast-t20 c =
     let copied = c .before .before in
     let told = copied .before .before .before .before in
     let called = told .before .before in
@@ -109,7 +107,7 @@ returns-3 c =
     write-done _ _ _ laid _ (called .accept-file .ensures) (told .enum-told .given .1) (left .if1 .left)
     (copied-count _ fit lays (accepts .1) copies)
     in
-    (is .0, copied-whole _ fit lays (accepts .1) copies ∙ is .1)
+    (is .0, (copied-whole _ fit lays (accepts .1) copies ∙ is .1, omega arith))
 
 pub write-table-spec : {M : Type 1} → statement M
 write-table-spec =
@@ -121,15 +119,14 @@ write-table-spec =
     slice-aggregate-accept-file
     accept-file-requires
     enum-known-check
-    cast-refused-write
-    refused-write-requires
+    refused-record-requires
     returns
     enum-told
-    refused-write-requires-2
+    refused-write-requires
     returns-2
     array-share-prefix-laid-2
     slice-aggregate-write-bytes
     write-bytes-requires
-    cast-t21
+    cast-t20
     same-length
     returns-3)

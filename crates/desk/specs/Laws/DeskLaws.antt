@@ -8,7 +8,7 @@ use lib.Dec.{leb}
 use lib.ListN.{length, take, drop, replicate, length-replicate}
 use lib.Seq.{take-all, take-append-seam}
 use borrow.Author.Tests.{le-leb, lt-leb}
-use Rattle.notation.specs.Checked.{Checked, refused, passed}
+use Rattle.notation.specs.Checked.{Checked, refused, passed, require, _>>=_, _>>_}
 use Rattle.notation.specs.Laws.CheckedLaws.{require-holds, require-fails, bind-refused, bind-goes, then-refused, then-goes}
 use Rattle.taskfile.specs.declared.Check.the-variants.{Passed, Refused}
 use Rattle.taskfile.specs.declared.Table.{Table}
@@ -26,11 +26,10 @@ use Rattle.writer.specs.Laws.AcceptLaidLaws.{accept-laid}
 use Rattle.writer.specs.Laws.DeskDemandLaws.{fields-sound}
 use Rattle.writer.specs.Laws.LayoutSizes.{layout-fits, layout-length}
 use Rattle.writer.specs.Layout.{layout}
-use Rattle.writer.specs.Memory.{memoryOf, tableBytes}
-use Rattle.writer.specs.WriteEntries.{written, tabled, answerOf, afterOf, writeAnswer, writeAfter, tableAnswer, tableAfter, fileRoom}
+use Rattle.writer.specs.WriteEntries.{written, answerOf, afterOf, writeAnswer, writeAfter, fileRoom}
 
 -- an answer and lent memory as a check's outcome has them
-abbrev Comes : Checked ℕ (List ℕ) → List ℕ → WriteAnswer → List ℕ → Type 0
+abbrev pub Comes : Checked ℕ (List ℕ) → List ℕ → WriteAnswer → List ℕ → Type 0
 Comes c buffer answer after = (answer ≡ answerOf c) × (after ≡ afterOf c buffer)
 
 comes-as : {c d : Checked ℕ (List ℕ)} (buffer : List ℕ) → c ≡ d → Comes c buffer (answerOf d) (afterOf d buffer)
@@ -130,41 +129,44 @@ module _ (t : Table) (buffer file : List ℕ) (laid : accept file ≡ acceptTabl
         in
         (ap done count ∙ is .0, is .1)
 
--- ---- the table's entry
+-- ---- what is made of an accepted file's table
 
-module _ (file : File) (memory : List ℕ) (x : AcceptAnswer) (says : AcceptedAs x (accept file)) where
-  abbrev pub TableIs : WriteAnswer → List ℕ → Type 0
-  TableIs answer after = (answer ≡ tableAnswer file memory) × (after ≡ tableAfter file memory)
+-- the bytes that are made of the table, in a buffer with room for them
+abbrev pub madeOf : ℕ → (Table → List ℕ) → File → List ℕ → Checked ℕ (List ℕ)
+madeOf room bytesOf f buffer = do
+  a ← accept f
+  require (leb room (length buffer)) 20 0
+  passed (bytesOf (a .table))
 
+module _ (room : ℕ) (bytesOf : Table → List ℕ) (file : File) (buffer : List ℕ) (x : AcceptAnswer)
+    (says : AcceptedAs x (accept file)) where
   -- a file that is refused
-  pub table-refused : {n p : ℕ} → x .check ≡ Refused n p → TableIs (refusal n p) memory
-  unfolding tabled tableAnswer tableAfter answerOf afterOf
-  table-refused e = comes-as memory (bind-refused _ (accepted-refused x (accept file) says e))
+  pub made-refused : {n p : ℕ} → x .check ≡ Refused n p → Comes (madeOf room bytesOf file buffer) buffer (refusal n p) buffer
+  unfolding answerOf afterOf
+  made-refused e = comes-as buffer (bind-refused _ (accepted-refused x (accept file) says e))
 
   module _ (passes : x .check ≡ Passed) where
     abbrev found : (a : Accepted) × (accept file ≡ passed a) × AcceptedParts x a
     found = accepted-passed x (accept file) says passes
 
-    -- memory that is too short
-    pub table-no-room : length memory < tableBytes → TableIs (refusal 20 0) memory
-    unfolding tabled tableAnswer tableAfter answerOf afterOf
-    table-no-room lt =
-        comes-as memory
+    -- a buffer that is too short
+    pub made-no-room : length buffer < room → Comes (madeOf room bytesOf file buffer) buffer (refusal 20 0) buffer
+    unfolding answerOf afterOf
+    made-no-room lt =
+        comes-as buffer
         (bind-goes _ (found .1)
-        ∙ require-fails (leb tableBytes (length memory)) 20 0 (passed (memoryOf (found .0 .table)))
-        (lt-leb tableBytes (length memory) lt))
+        ∙ require-fails (leb room (length buffer)) 20 0 (passed (bytesOf (found .0 .table))) (lt-leb room (length buffer) lt))
 
-    -- a table that was filled in
-    pub table-done : tableBytes ≤ length memory → {n : ℕ} {after : List ℕ}
-        → Appends tableBytes memory 0 (memoryOf (x .table)) after n → length (memoryOf (x .table)) ≡ tableBytes
-        → TableIs (done n) after
-    unfolding tabled tableAnswer tableAfter answerOf afterOf
-    table-done room does whole =
+    -- bytes that were written, all of them
+    pub made-done : room ≤ length buffer → {limit n : ℕ} {after : List ℕ}
+        → Appends limit buffer 0 (bytesOf (x .table)) after n → length (bytesOf (x .table)) ≤ limit
+        → Comes (madeOf room bytesOf file buffer) buffer (done n) after
+    unfolding answerOf afterOf
+    made-done enough does whole =
         let is =
-        comes-as memory
+        comes-as buffer
         (bind-goes _ (found .1)
-        ∙ require-holds (leb tableBytes (length memory)) 20 0 (passed (memoryOf (found .0 .table)))
-        (le-leb tableBytes (length memory) room)
-        ∙ ap (λ (t : Table). passed (memoryOf t)) (sym (found .2 .table)))
+        ∙ require-holds (leb room (length buffer)) 20 0 (passed (bytesOf (found .0 .table))) (le-leb room (length buffer) enough)
+        ∙ ap (λ (t : Table). passed (bytesOf t)) (sym (found .2 .table)))
         in
-        (ap done (appends-count does (omega (arith, whole))) ∙ is .0, appends-front does (omega (arith, whole)) ∙ is .1)
+        (ap done (appends-count does whole) ∙ is .0, appends-front does whole ∙ is .1)

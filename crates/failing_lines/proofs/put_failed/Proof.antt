@@ -7,8 +7,9 @@ use lib.ListN.{length}
 use borrow.Author.Needs.{needs}
 use Rattle.writing.specs.Laws.WritingLaws.{appends-length}
 use Rattle.sheets.specs.Texts.{failedWord}
+use Rattle.printing.specs.Code.Spaced.{spacedNumbers}
 use Rattle.printing.specs.Laws.LineLaws.{PutsText, puts-enough}
-use Rattle.failing_lines.specs.Laws.FailingLines.{spacedNumbers, failedTo, failed-none, failed-more, failed-put}
+use Rattle.failing_lines.specs.Laws.FailingLines.{failedTo, failed-none, failed-more, failed-put}
 use Rattle.failing_lines.proofs.put_failed.Statement.{statement}
 use Rattle.failing_lines.proofs.put_failed.Tie as tie
 

@@ -7,8 +7,9 @@ use lib.ListN.{length}
 use borrow.Author.Needs.{needs}
 use Rattle.writing.specs.Laws.WritingLaws.{appends-length}
 use Rattle.sheets.specs.Texts.{jobWord, roundsWord}
+use Rattle.printing.specs.Code.Spaced.{spacedNumbers}
 use Rattle.printing.specs.Laws.LineLaws.{PutsText, puts-enough}
-use Rattle.failing_lines.specs.Laws.FailingLines.{spacedNumbers, roundsTo, job-rounds-none}
+use Rattle.failing_lines.specs.Laws.FailingLines.{roundsTo, job-rounds-none}
 use Rattle.failing_lines.specs.Laws.FailingLines.{job-rounds-more, job-rounds-put}
 use Rattle.failing_lines.proofs.put_job_rounds.Statement.{statement}
 use Rattle.failing_lines.proofs.put_job_rounds.Tie as tie

@@ -1,15 +1,14 @@
 -- Laws of the lines about a failing order as they are written: one number, one job more.
 -- Assumes nothing.
 use mathlib.Core.Path.{_≡_, refl, sym, ap, subst, _∙_}
-use Prim.Native.Nat.{ℕ, _+_, _≤_, _<_}
+use Prim.Native.Nat.{ℕ, _+_, _≤_}
 use native.Mathlib.Numerals.{add-one}
 use native.Mathlib.Omega.{arith}
 use mathlib.Core.Bool.{Bool, true, false}
 use mathlib.Core.List.{List, [], _∷_, _++_, map, map-map, append-assoc, append-nil}
-use lib.ListN.{length, getD, take}
-use lib.Seq.{take-suc, take-all}
+use lib.ListN.{length, getD}
 use Rattle.notation.specs.Laws.ElementLaws.{each-snoc, only-append, only-in, only-drops}
-use Rattle.notation.specs.Laws.ListLaws.{from-snoc, each-append, each-map}
+use Rattle.notation.specs.Laws.ListLaws.{from-snoc}
 use Rattle.notation.specs.Laws.TabulateLaws.{values-snoc}
 use Rattle.notation.specs.Lists.{from, upTo, only, each}
 use Rattle.plan.specs.Runs.{Step}
@@ -18,63 +17,19 @@ use Rattle.marks.specs.Code.Marks.{stepMarked, stepCount, stepsMarked, roundsIn
 use Rattle.writing.specs.Laws.WritingLaws.{appends-none, appends-more}
 use Rattle.sheets.specs.Sheets.{orderLine}
 use Rattle.sheets.specs.Texts.{Text, decimal, line, jobWord, orderWord, failedWord, roundsWord}
+use Rattle.printing.specs.Code.Spaced.{spacedNumbers}
 use Rattle.printing.specs.Laws.LineLaws.{PutsText, puts-same, spaced-each}
+use Rattle.printing.specs.Laws.SpacedLaws.{spaced-none, numbers-are, numbers-snoc, numbers-more, numbers-put}
 use Rattle.failing_lines.specs.Code.LineParts.{failedPart, jobLine}
-
--- numbers, with a space before each
-unfoldable pub spacedNumbers : List ℕ → Text
-spacedNumbers ns = each ns (λ n. 32 ∷ decimal n)
-
-numbers-are : (ns : List ℕ) → each (map decimal ns) (λ w. 32 ∷ w) ≡ spacedNumbers ns
-unfolding spacedNumbers
-numbers-are ns = each-map decimal ns (λ w. 32 ∷ w)
-
-numbers-line : (word : Text) (ns : List ℕ) → (word ++ spacedNumbers ns) ++ (10 ∷ []) ≡ line word (map decimal ns)
-unfolding line
-numbers-line word ns =
-    ap (λ (l : Text). l ++ (10 ∷ [])) (sym (spaced-each word (map decimal ns) ∙ ap (λ (l : Text). word ++ l) (numbers-are ns)))
-
-numbers-snoc : (ns : List ℕ) (n : ℕ) → spacedNumbers ns ++ (32 ∷ decimal n) ≡ spacedNumbers (ns ++ (n ∷ []))
-unfolding spacedNumbers each
-numbers-snoc ns n =
-    sym (each-append (λ k. 32 ∷ decimal k) ns (n ∷ []) ∙ ap (λ (l : Text). spacedNumbers ns ++ l) (append-nil (32 ∷ decimal n)))
-
--- nothing is written yet
-pub spaced-none : (before : List ℕ) (at : ℕ) → PutsText before at (spacedNumbers []) before at
-unfolding spacedNumbers each
-spaced-none before at = appends-none 4608 before at
-
--- one number more
-numbers-more : {before : List ℕ} {at : ℕ} (ns : List ℕ) {mid : List ℕ} {m : ℕ} (n : ℕ) {after : List ℕ} {k : ℕ}
-    → 4608 ≤ length before → PutsText before at (spacedNumbers ns) mid m → PutsText mid m (32 ∷ decimal n) after k
-    → PutsText before at (spacedNumbers (ns ++ (n ∷ []))) after k
-numbers-more ns n enough first second = puts-same (numbers-snoc ns n) (appends-more enough first second)
-
--- a line of numbers, from its three parts
-numbers-put : {before : List ℕ} {at : ℕ} (word : Text) (ns : List ℕ) {one : List ℕ} {l : ℕ} {two : List ℕ} {m : ℕ}
-    {after : List ℕ} {n : ℕ} → 4608 ≤ length before → PutsText before at word one l → PutsText one l (spacedNumbers ns) two m
-    → PutsText two m (10 ∷ []) after n → PutsText before at (line word (map decimal ns)) after n
-numbers-put word ns enough first second third =
-    puts-same (numbers-line word ns) (appends-more enough (appends-more enough first second) third)
 
 -- ---- the order
 
-module _ (order : List ℕ) where
-  pub orders-more : {before : List ℕ} {at : ℕ} (k : ℕ) {mid : List ℕ} {m : ℕ} {after : List ℕ} {n : ℕ}
-      → 4608 ≤ length before → k < length order → PutsText before at (spacedNumbers (take k order)) mid m
-      → PutsText mid m (32 ∷ decimal (getD order k 0)) after n → PutsText before at (spacedNumbers (take (k + 1) order)) after n
-  orders-more k enough lt first second =
-      let more : take k order ++ (getD order k 0 ∷ []) ≡ take (k + 1) order =
-      sym (take-suc order k 0 lt) ∙ ap (λ (j : ℕ). take j order) (sym (add-one k)) in
-      puts-same (ap spacedNumbers more) (numbers-more (take k order) (getD order k 0) enough first second)
-
-pub order-put : {before : List ℕ} {at : ℕ} (order : List ℕ) (k : ℕ) {one : List ℕ} {l : ℕ} {two : List ℕ} {m : ℕ}
-    {after : List ℕ} {n : ℕ} → 4608 ≤ length before → length order ≤ k → PutsText before at orderWord one l
-    → PutsText one l (spacedNumbers (take k order)) two m → PutsText two m (10 ∷ []) after n
+pub order-put : {before : List ℕ} {at : ℕ} (order : List ℕ) {one : List ℕ} {l : ℕ} {two : List ℕ} {m : ℕ}
+    {after : List ℕ} {n : ℕ} → 4608 ≤ length before → PutsText before at orderWord one l
+    → PutsText one l (spacedNumbers order) two m → PutsText two m (10 ∷ []) after n
     → PutsText before at (orderLine order) after n
 unfolding orderLine
-order-put order k enough all first second third =
-    numbers-put orderWord order enough first (puts-same (ap spacedNumbers (take-all k order all)) second) third
+order-put order enough first second third = numbers-put orderWord order enough first second third
 
 -- ---- the failed jobs
 

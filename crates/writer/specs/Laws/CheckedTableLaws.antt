@@ -128,7 +128,7 @@ locks-even t fit =
     )
 
 -- the tasks passed, and the locks
-fields-parts : (t : Table) {u : Unit {0}} → fields t ≡ passed u
+pub fields-parts : (t : Table) {u : Unit {0}} → fields t ≡ passed u
     → (taskFields 0 (claimedTasks t) ≡ passed tt) × (lockFields 0 (claimedLocks t) ≡ passed tt)
 unfolding fields
 fields-parts t h =

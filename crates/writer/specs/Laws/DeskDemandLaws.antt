@@ -40,7 +40,7 @@ use Rattle.writer.specs.Laws.WriteRefusals.{written-numbered}
 -- ---- tables
 
 -- with room, what is written is decided by the table alone
-written-room : (t : Table) (buffer : List ℕ) → fileRoom ≤ length buffer
+pub written-room : (t : Table) (buffer : List ℕ) → fileRoom ≤ length buffer
     → written t buffer ≡ _>>_ (acceptTable t) (passed (layout t))
 unfolding written
 written-room t buffer room =
@@ -68,7 +68,7 @@ judges-alike t fit buffer room =
     )
 
 -- number 0 says that bytes were written
-zero-written : (c : Checked ℕ (List ℕ)) → Numbered c → answerOf c .number ≡ 0 → (bytes : List ℕ) × (c ≡ passed bytes)
+pub zero-written : (c : Checked ℕ (List ℕ)) → Numbered c → answerOf c .number ≡ 0 → (bytes : List ℕ) × (c ≡ passed bytes)
 unfolding answerOf
 zero-written (refused number place) (by-number h) e = absurd (omega (arith, e))
 zero-written (passed bytes) h e = (bytes, refl)
@@ -89,10 +89,16 @@ module _ (t : Table) (buffer : List ℕ) (zero : writeAnswer t buffer .number �
       found .1 ∙ ap (λ (file : File). passed file) (sym (passed-same (then-passed (require (leb fileRoom (length buffer)) 20 0) _ (parts .2) .2)))
 
 -- what stands in the buffer up to the returned length
+pub bytes-written : (c : Checked ℕ (List ℕ)) (buffer bytes : List ℕ) → c ≡ passed bytes
+    → take (answerOf c .length) (afterOf c buffer) ≡ bytes
+unfolding answerOf afterOf
+bytes-written c buffer bytes e =
+    ap (λ (d : Checked ℕ (List ℕ)). take (answerOf d .length) (afterOf d buffer)) e
+    ∙ take-append-seam bytes (drop (length bytes) buffer)
+
 file-written : (t : Table) (buffer file : List ℕ) → written t buffer ≡ passed file → writtenFile t buffer ≡ file
-unfolding writtenFile writeAnswer writeAfter answerOf afterOf
-file-written t buffer file e =
-    ap (λ (c : Checked ℕ File). take (answerOf c .length) (afterOf c buffer)) e ∙ take-append-seam file (drop (length file) buffer)
+unfolding writtenFile writeAnswer writeAfter
+file-written t buffer file e = bytes-written (written t buffer) buffer file e
 
 -- the table of an accepted table is the one that was timed
 timed-table : (t : Table) {a : Accepted} → timed t ≡ passed a → a .table ≡ t
@@ -107,7 +113,7 @@ module _ (t : Table) {a : Accepted} (e : acceptTable t ≡ passed a) where
   unfolding acceptTable judgedWhole
   fields-sound = then-passed (fields t) _ (placed-passed (indexOf t) (judgedWhole t) e) .1
 
-  table-covered : a .table ≡ covered t
+  pub table-covered : a .table ≡ covered t
   unfolding acceptTable judgedWhole
   table-covered =
       let rest = then-passed (fields t) _ (placed-passed (indexOf t) (judgedWhole t) e) .2 in
@@ -141,14 +147,14 @@ module _ (f : File) {c : Chains} (chained : chainsOf f ≡ passed c) {a : Accept
       let step = bind-passed (load f) _ e in
       (step .0, step .1, placed-passed (recordAt (step .0 .chains)) (timed (step .0 .table)) (step .2))
 
-  table-read : a .table ≡ tableAt f c
+  pub table-read : a .table ≡ tableAt f c
   table-read =
       let parts = load-parts f (loads .1) in
       timed-table (loads .0 .table) (loads .2)
       ∙ parts .1
       ∙ ap (tableAt f) (passed-same (sym (parts .0) ∙ chained))
 
-  table-accepted : acceptTable (tableAt f c) ≡ passed a
+  pub table-accepted : acceptTable (tableAt f c) ≡ passed a
   unfolding acceptTable judgedWhole placedBy
   table-accepted =
       let t = tableAt f c in

@@ -14,7 +14,7 @@ use Rattle.notation.specs.Checked.{passed}
 use Rattle.notation.specs.Lists.{padded}
 use Rattle.notation.specs.Ordered.{Every}
 use Rattle.notation.specs.Laws.CheckedLaws.{then-goes, require-holds}
-use Rattle.notation.specs.Laws.PaddedLaws.{padded-length, every-padded}
+use Rattle.notation.specs.Laws.PaddedLaws.{padded-length, every-take, every-padded}
 use Rattle.notation.specs.Laws.PairLaws.{every-of, every-map}
 use Rattle.notation.specs.Laws.TestLaws.{and-both}
 use Rattle.taskfile.specs.declared.Instruction.{Instruction}
@@ -25,7 +25,7 @@ use Rattle.taskfile.specs.Laws.ChainLaws.{tasks-held, ceilings-held, holdings-h
 use Rattle.taskfile.specs.Records.{File, byteAt, wideAt, next, tidy, inRange, zeroFrom, instructionAt}
 use Rattle.taskfile.specs.Records.{tidyInstruction, instructionInRange, windowInRange}
 use Rattle.taskfile.specs.Tables.{endInstruction, noTask, entryAt, tableAt}
-use Rattle.writer.specs.Claims.{claimedTasks, claimedBody, claimedLocks, covered, coveredEntry, Bytes, Fits, FitsEntry}
+use Rattle.writer.specs.Claims.{claimedTasks, claimedBody, claimedLocks, covered, coveredEntry, Bytes, Fits, FitsEntry, ByteFields}
 use Rattle.writer.specs.Fields.{bodyFields, taskFields, lockFields, fields}
 use Rattle.writer.specs.Laws.ChainRecords.{GoodRecord, LedChain, LedTasks, chains-led}
 use Rattle.writer.specs.Laws.LaidChainLaws.{noTask-fits}
@@ -163,6 +163,15 @@ unfolding wideAt
 wide-small f small r k =
     omega (arith, byte-small f small r k, byte-small f small r (k + 1), byte-small f small r (k + 2), byte-small f small r (k + 3))
 
+bytes-dropped : (n : ℕ) (f : File) → Bytes f → Bytes (drop n f)
+bytes-dropped zero f small = small
+bytes-dropped (suc n) [] small = tt
+bytes-dropped (suc n) (b ∷ f) small = bytes-dropped n f (small .1)
+
+instructionAt-small : (f : File) → Bytes f → (r : ℕ) → ByteFields (instructionAt f r)
+unfolding instructionAt
+instructionAt-small f small r = (byte-small f small r 3, byte-small f small r 4, byte-small f small r 5)
+
 entry-fits : (f : File) → Bytes f → (t : TaskChain) → FitsEntry (entryAt f t)
 unfolding entryAt
 entry-fits f small t =
@@ -171,6 +180,11 @@ entry-fits f small t =
       period = wide-small f small (t .taskRecord) 8;
       arrival = wide-small f small (t .taskRecord) 12;
       body = padded-length mostInstructions endInstruction (map (instructionAt f) (t .body));
+      instructions =
+          every-padded ByteFields mostInstructions endInstruction (map (instructionAt f) (t .body))
+          (omega arith, omega arith, omega arith)
+          (every-map ByteFields (instructionAt f) (t .body)
+          (every-of (λ r. ByteFields (instructionAt f r)) (instructionAt-small f small) (t .body)));
     }
 
 pub fits-read : (f : File) → Bytes f → {c : Chains} → chainsOf f ≡ passed c → Fits (tableAt f c)
@@ -179,6 +193,7 @@ fits-read f small {c} e =
     record {
       window = wide-small f small 0 4;
       store = length-take-le 8 (drop 8 f) (omega (arith, length-drop 8 f, chains-led f e .whole));
+      values = every-take (λ (b : ℕ). b < 256) 8 (drop 8 f) (bytes-dropped 8 f small);
       entriesFull = padded-length mostTasks noTask (map (entryAt f) (c .tasks));
       entries =
           every-padded FitsEntry mostTasks noTask (map (entryAt f) (c .tasks)) noTask-fits

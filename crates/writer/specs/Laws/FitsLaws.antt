@@ -9,13 +9,15 @@ use mir.Val.{Val}
 use denote.Array.{each}
 use denote.Laws.{Is}
 use denote.Shadow.{shadow}
-use denote.Struct.Field.{Field, u32-field}
+use denote.Struct.Field.{Field, u8-field, u32-field}
 use Rattle.notation.specs.Ordered.{Every}
+use Rattle.taskfile.proofs.Instruction as instruction
 use Rattle.taskfile.proofs.Table as table
 use Rattle.taskfile.proofs.TaskEntry as entry
+use Rattle.taskfile.specs.declared.Instruction.{Instruction}
 use Rattle.taskfile.specs.declared.Table.{Table}
 use Rattle.taskfile.specs.declared.TaskEntry.{TaskEntry}
-use Rattle.writer.specs.Claims.{Fits, FitsEntry}
+use Rattle.writer.specs.Claims.{Fits, FitsEntry, ByteFields}
 
 -- an array's elements have what any value of their type has
 pub elements-fit : (F : Field) (P : F .Value → Type 0)
@@ -25,7 +27,12 @@ elements-fit F P one [] us all = tt
 elements-fit F P one (x ∷ xs) [] all = absurd all
 elements-fit F P one (x ∷ xs) (u ∷ us) all = (one x (u ∷ []) (all .0), elements-fit F P one xs us (all .1))
 
--- an entry and a table, from what their types own
+-- an instruction, an entry and a table, from what their types own
+fields-owned : (i : Instruction) (vs : List Val) → Is instruction.the-row i vs → ByteFields i
+fields-owned i vs is =
+    let parts = is .1 .1 in
+    (parts .1 .0 .1, parts .1 .1 .0 .1, parts .1 .1 .1 .0 .1)
+
 pub entry-fits : (e : TaskEntry) (vs : List Val) → Is entry.the-row e vs → FitsEntry e
 entry-fits e vs is =
     let parts = is .1 .1 in
@@ -34,6 +41,7 @@ entry-fits e vs is =
       period = parts .1 .0 .1;
       arrival = parts .1 .1 .0 .1;
       body = sym (length-map (e .body) _) ∙ parts .1 .1 .1 .1 .0 .1 .0 .1;
+      instructions = elements-fit instruction.the-field ByteFields fields-owned (e .body) _ (parts .1 .1 .1 .1 .0 .1 .1);
     }
 
 pub table-fits : (t : Table) (vs : List Val) → Is table.the-row t vs → Fits t
@@ -42,6 +50,7 @@ table-fits t vs is =
     record {
       window = parts .0 .1;
       store = sym (length-map (t .store) _) ∙ parts .1 .0 .1 .0 .1;
+      values = elements-fit u8-field (λ (b : ℕ). b < 256) (λ b vs is. is .1) (t .store) _ (parts .1 .0 .1 .1);
       entriesFull = sym (length-map (t .entries) _) ∙ parts .1 .1 .1 .0 .1 .0 .1;
       entries = elements-fit entry.the-field FitsEntry entry-fits (t .entries) _ (parts .1 .1 .1 .0 .1 .1);
       ceilings = sym (length-map (t .ceilings) _) ∙ parts .1 .1 .1 .1 .1 .0 .1 .0 .1;

@@ -12,7 +12,7 @@ use Rattle.notation.specs.Checked.{passed, require, placedBy, _>>=_, _>>_}
 use Rattle.notation.specs.Lists.{from, upTo, each, member, sum}
 use Rattle.notation.specs.Laws.CheckedLaws.{then-goes}
 use Rattle.notation.specs.Laws.MemberLaws.{member-inside}
-use Rattle.notation.specs.Laws.PaddedLaws.{padded-length, every-take}
+use Rattle.notation.specs.Laws.PaddedLaws.{padded-length, every-padded, every-take}
 use Rattle.notation.specs.Laws.PairLaws.{every-imp, every-append, from-within}
 use Rattle.notation.specs.Ordered.{Every}
 use Rattle.taskfile.specs.declared.Kind.the-variants.{Header, LockRecord}
@@ -26,7 +26,7 @@ use Rattle.taskfile.specs.Laws.CheckSteps.{noneOf-upTo-none}
 use Rattle.taskfile.specs.Records.{records, windowInRange}
 use Rattle.taskfile.specs.Tables.{endInstruction, noTask}
 use Rattle.writer.specs.Claims.{claimed, claimedTasks, claimedBody, lockArray, noLock, claimedLocks, recordTotal, indexOf, locksAt}
-use Rattle.writer.specs.Claims.{FitsEntry, Fits}
+use Rattle.writer.specs.Claims.{FitsEntry, ByteFields, Fits}
 use Rattle.writer.specs.Fields.{taskFields, lockFields, fields}
 use Rattle.writer.specs.Layout.{linkTo, afterTask, headerRecord, taskRecords, lockRecords, layout}
 use Rattle.writer.specs.Laws.ClaimLaws.{claimed-most}
@@ -50,6 +50,8 @@ noTask-fits =
       period = omega arith;
       arrival = omega arith;
       body = padded-length mostInstructions endInstruction [];
+      instructions =
+          every-padded ByteFields mostInstructions endInstruction [] (omega arith, omega arith, omega arith) tt;
     }
 
 -- every task that a table claims fits, also the one too many

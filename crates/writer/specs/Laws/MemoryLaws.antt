@@ -13,7 +13,7 @@ use Rattle.notation.specs.Ordered.{Every}
 use Rattle.taskfile.specs.declared.Instruction.{Instruction}
 use Rattle.taskfile.specs.declared.Table.{Table}
 use Rattle.taskfile.specs.declared.TaskEntry.{TaskEntry}
-use Rattle.writer.specs.Claims.{Fits, FitsEntry}
+use Rattle.writer.specs.Claims.{Fits, FitsEntry, ByteFields}
 use Rattle.writer.specs.Laws.MemoryReading.{byte-behind, wide-behind, wide-skipped, bytes-behind, parts-long, parts-back}
 use Rattle.writer.specs.Laws.WideBytesLaws.{Wide}
 use Rattle.writer.specs.Layout.{wideBytes}
@@ -197,6 +197,11 @@ wide-small memory at small =
       byte-small memory (at + 3) small,
     )
 
+instructionIn-small : (memory : List ℕ) (at : ℕ) → Every (λ (b : ℕ). b < 256) memory → ByteFields (instructionIn memory at)
+unfolding instructionIn
+instructionIn-small memory at small =
+    (byte-small memory (at + 1) small, byte-small memory (at + 2) small, byte-small memory (at + 3) small)
+
 entry-small : (memory : List ℕ) (at : ℕ) → Every (λ (b : ℕ). b < 256) memory → FitsEntry (entryIn memory at)
 unfolding entryIn
 entry-small memory at small =
@@ -205,17 +210,24 @@ entry-small memory at small =
       period = wide-small memory (at + 4) small;
       arrival = wide-small memory (at + 8) small;
       body = values-length (λ p. instructionIn memory (at + 16 + 4 * p)) 16;
+      instructions =
+          every-map ByteFields (λ p. instructionIn memory (at + 16 + 4 * p)) (upTo 16)
+          (every-of (λ p. ByteFields (instructionIn memory (at + 16 + 4 * p)))
+          (λ p. instructionIn-small memory (at + 16 + 4 * p) small) (upTo 16));
     }
 
 -- whatever bytes hold is a table that fits
 pub memory-fits : (memory : List ℕ) → Every (λ (b : ℕ). b < 256) memory → Fits (tableIn memory)
-unfolding tableIn holdingsIn
+unfolding tableIn holdingsIn bytesAt byteIn
 memory-fits memory small =
     let at : ℕ → TaskEntry = λ i. entryIn memory (24 + 80 * i) in
     let holding : ℕ → ℕ = λ l. wideIn memory (664 + 4 * l) in
     record {
       window = wide-small memory 0 small;
       store = bytesAt-length memory 4 8;
+      values =
+          every-map (λ (b : ℕ). b < 256) (λ k. byteIn memory (4 + k)) (upTo 8)
+          (every-of (λ k. byteIn memory (4 + k) < 256) (λ k. byte-small memory (4 + k) small) (upTo 8));
       entriesFull = values-length at 8;
       entries =
           every-map FitsEntry at (upTo 8)
