@@ -1,8 +1,8 @@
 /*
  * Adqurim's C interface: the reader of task files, the replay of an order, the walk of all orders,
  * the check of a round plan, the conversions of an order to its plan and of a plan to its order,
- * the sheet, the list of jobs, and the table in memory, read from a file and written to one. For
- * C11 and C++11 or later.
+ * the sheet, the list of jobs, the table in memory, read from a file and written to one, and the
+ * conversions of a table's text to its file and of a file to its text. For C11 and C++11 or later.
  *
  * Each entry comes twice: as a proved entry of the library, which fills words that the caller
  * lends, and as a function that calls the entry and fills a struct.
@@ -17,6 +17,8 @@
  *   adqurim_jobs            adqurim_list_jobs
  *   adqurim_table           adqurim_read_table
  *   adqurim_write           adqurim_write_file
+ *   adqurim_text_to_file    adqurim_convert_text
+ *   adqurim_file_to_text    adqurim_convert_file
  *
  * A slice passes as a pointer and then a length: bytes for a file, an order, a plan, a text or a
  * table in memory, records for a list of jobs, words of 64 bits for an answer. A pointer is never
@@ -43,7 +45,8 @@ extern "C" {
 
 /*
  * The room that number 20 asks for: bytes of an order, bytes of a plan, records of a job list,
- * bytes of a sheet's text, bytes of a table in memory, bytes of a file that is written.
+ * bytes of a sheet's text, bytes of a table in memory, bytes of a file that is written, bytes of a
+ * table's text. A table's text that is read has at most as many, or it is refused by 62.
  */
 #define ADQURIM_ORDER_ROOM 512
 #define ADQURIM_PLAN_ROOM 1281
@@ -51,20 +54,23 @@ extern "C" {
 #define ADQURIM_SHEET_ROOM 4608
 #define ADQURIM_TABLE_ROOM 696
 #define ADQURIM_FILE_ROOM 2320
+#define ADQURIM_TEXT_ROOM 8192
 
 /* The allowance of a sheet's walk. */
 #define ADQURIM_SHEET_ALLOWANCE 1000000
 
 /*
  * The numbers of an answer. A refusal has its number, its place, and every other field zero.
- * 30 to 34 come from entries that take an order, 40 to 45 from entries that take a plan.
+ * 30 to 34 come from entries that take an order, 40 to 45 from entries that take a plan, 60 to 62
+ * from the entry that takes a table's text.
  */
 enum adqurim_number {
     ADQURIM_ACCEPTED = 0, /* no refusal; place 0 */
 
     /* The file's author. The place is a record. For a table in memory, which earns 4, 5 and 7 to
        11, it is the index that the record would have had in the file: the header at 0, each task
-       followed by its body, then the locks. */
+       followed by its body, then the locks. For a table's text, which earns the same numbers, it is
+       the record's line: 0 for the header, and one more than that index for any other record. */
     ADQURIM_SIZE = 1,    /* length 0, above 4,096 or no multiple of 16; place 0 */
     ADQURIM_KIND = 2,    /* wrong kind for its chain; that record */
     ADQURIM_CHAIN = 3,   /* an index outside the file or to a record already reached; its holder */
@@ -86,8 +92,8 @@ enum adqurim_number {
     /* The caller. */
     ADQURIM_ROOM = 20,      /* order buffer below 512 bytes, plan buffer below 1,281, job list
                                below 32, a sheet's text below 4,608, a table in memory that is to
-                               be filled below 696, a file that is to be written below 2,320;
-                               place 0 */
+                               be filled below 696, a file that is to be written below 2,320, a
+                               table's text that is to be written below 8,192; place 0 */
     ADQURIM_UNDECIDED = 21, /* the walk's count exceeds the allowance; place 0 */
 
     /* The author of an order. The place is a step's index. For 30, 33 and 34 the order's byte at
@@ -108,7 +114,14 @@ enum adqurim_number {
                            offset */
     ADQURIM_ORDER = 43, /* a pair of jobs breaks the round rules, locks aside; the lower job */
     ADQURIM_LOCK = 44,  /* the priority clause of a nested pair fails; the lower job */
-    ADQURIM_GUESS = 45  /* wrong guesses; the lowest round that has one */
+    ADQURIM_GUESS = 45, /* wrong guesses; the lowest round that has one */
+
+    /* The author of a table's text. The place is a line, counted from 0. The first line at fault
+       is refused, and on one line 60 comes before 61. */
+    ADQURIM_LINE = 60,  /* not in the grammar, or missing; that line */
+    ADQURIM_LARGE = 61, /* a number too large for its field: above 255 for a byte, above
+                           4,294,967,295 for a wide field; that line */
+    ADQURIM_LONG = 62 /* more than 8,192 bytes; place 0 */
 };
 
 /* A walk's verdict. */
@@ -128,6 +141,7 @@ enum adqurim_verdict {
 #define ADQURIM_JOBS_WORDS 3
 #define ADQURIM_TABLE_WORDS 3
 #define ADQURIM_WRITE_WORDS 3
+#define ADQURIM_TEXT_WORDS 3
 
 /* What adqurim_read answers, word by word. */
 typedef struct adqurim_read_answer {
@@ -211,7 +225,7 @@ typedef struct adqurim_task_table {
     uint32_t holdings[ADQURIM_MOST_LOCKS]; /* the longest holding time of each lock, any value */
 } adqurim_task_table;
 
-/* What adqurim_table and adqurim_write answer, word by word. */
+/* What adqurim_table, adqurim_write and the conversions of a text answer, word by word. */
 typedef struct adqurim_write_answer {
     uint64_t number; /* an adqurim_number */
     uint64_t place;
@@ -235,6 +249,7 @@ ADQURIM_STATIC_ASSERT(offsetof(adqurim_job, arrival) == 8, "the arrival is at by
 ADQURIM_STATIC_ASSERT(offsetof(adqurim_job, latest) == 16, "the latest finish is at byte 16");
 ADQURIM_STATIC_ASSERT(sizeof(adqurim_write_answer) == ADQURIM_TABLE_WORDS * 8, "3 words");
 ADQURIM_STATIC_ASSERT(sizeof(adqurim_write_answer) == ADQURIM_WRITE_WORDS * 8, "3 words");
+ADQURIM_STATIC_ASSERT(sizeof(adqurim_write_answer) == ADQURIM_TEXT_WORDS * 8, "3 words");
 ADQURIM_STATIC_ASSERT(sizeof(adqurim_instruction) == 4, "an instruction has 4 bytes");
 ADQURIM_STATIC_ASSERT(offsetof(adqurim_instruction, c) == 3, "its last field is at byte 3");
 ADQURIM_STATIC_ASSERT(sizeof(adqurim_task_entry) == 80, "a task has 80 bytes");
@@ -471,6 +486,56 @@ bool adqurim_write(const uint8_t *table, size_t table_len, uint8_t *file, size_t
                    uint64_t *answer, size_t answer_len);
 
 /*
+ * A table's text is lines, each ended by a newline (byte 10), with one space between words and
+ * numbers in decimal without leading zeros:
+ *
+ *   window W                         the window
+ *   start V V V V V V V V            the initial values of variables 0 to 7
+ *   task C P A                       for each task, then its instructions by name:
+ *     end, load a b, store a b, set a b, add a b, subtract a b, less a b c, equal a b c,
+ *     pick a b, acquire a, release a, assert a
+ *   lock CEILING H                   for each lock, after all tasks
+ *
+ * A line stands at the left, without a space before its word. The grammar sets no counts of tasks,
+ * instructions and locks, even none; number 5 judges those.
+ *
+ * Converts a table's text to its file, in walk order: the header, each task followed by its body,
+ * then the locks. Fills the first 3 words of the answer:
+ *
+ *   word 0   the number: 0 if the text is of the grammar and its table accepted, else the number
+ *            of the refusal: 62 first of all, then 60 and 61 for a line, then 4, 5 or 7 to 11 for
+ *            the table, 20 if the file's buffer is below 2,320 bytes
+ *   word 1   the place of the refusal, a line; 0 for 11, 20 and 62, and if nothing is refused
+ *   word 2   how many bytes the file has, at most 2,320
+ *
+ * A refusal has word 2 zero. Words past the third never change. Bytes of the buffer past the file
+ * never change, and a refusal changes none.
+ *
+ * Returns whether the answer has room for the 3 words. Without room nothing changes, the buffer
+ * neither, and the answer is false. The text is only read; text, file and answer do not overlap.
+ */
+bool adqurim_text_to_file(const uint8_t *text, size_t text_len, uint8_t *file, size_t file_len,
+                          uint64_t *answer, size_t answer_len);
+
+/*
+ * Converts a task file to its table's text and fills the first 3 words of the answer:
+ *
+ *   word 0   the number: 0 if the file is accepted, else the number of the refusal, 1 to 11 for
+ *            the file, 20 if the text's buffer is below 8,192 bytes
+ *   word 1   the place of the refusal, a record's index for the file; else 0
+ *   word 2   how many bytes the text has
+ *
+ * A refusal has word 2 zero. Words past the third never change. No zero byte follows the text:
+ * bytes of the buffer past it never change, and a refusal changes none. The text, converted back,
+ * is the file with its records in walk order.
+ *
+ * Returns whether the answer has room for the 3 words. Without room nothing changes, the buffer
+ * neither, and the answer is false. The file is only read; file, text and answer do not overlap.
+ */
+bool adqurim_file_to_text(const uint8_t *file, size_t file_len, uint8_t *text, size_t text_len,
+                          uint64_t *answer, size_t answer_len);
+
+/*
  * The same entries with structs. Each returns the answer's number, 0 if nothing is refused. What
  * is said above of the lent bytes holds here too.
  *
@@ -578,6 +643,24 @@ static inline uint64_t adqurim_write_file(const adqurim_task_table *table, uint8
     uint64_t words[ADQURIM_WRITE_WORDS];
     memcpy(bytes, table, sizeof bytes);
     (void)adqurim_write(bytes, sizeof bytes, file, file_len, words, ADQURIM_WRITE_WORDS);
+    memcpy(answer, words, sizeof words);
+    return answer->number;
+}
+
+/* Converts a table's text to its file. */
+static inline uint64_t adqurim_convert_text(const uint8_t *text, size_t text_len, uint8_t *file,
+                                            size_t file_len, adqurim_write_answer *answer) {
+    uint64_t words[ADQURIM_TEXT_WORDS];
+    (void)adqurim_text_to_file(text, text_len, file, file_len, words, ADQURIM_TEXT_WORDS);
+    memcpy(answer, words, sizeof words);
+    return answer->number;
+}
+
+/* Converts a task file to its table's text. */
+static inline uint64_t adqurim_convert_file(const uint8_t *file, size_t file_len, uint8_t *text,
+                                            size_t text_len, adqurim_write_answer *answer) {
+    uint64_t words[ADQURIM_TEXT_WORDS];
+    (void)adqurim_file_to_text(file, file_len, text, text_len, words, ADQURIM_TEXT_WORDS);
     memcpy(answer, words, sizeof words);
     return answer->number;
 }

@@ -15,12 +15,16 @@ use plan_order::entries::plan_to_order;
 use replay::entries::replay;
 use sheet_lines::fill_sheet;
 use table_memory::table_in;
+use text_desk::file_to_text;
+use text_desk::text_to_file;
 use timing::JobRecord;
 use walker::entries::walk_file;
+use words::FILE_WORDS;
 use words::READ_WORDS;
 use words::RUN_WORDS;
 use words::SHEET_WORDS;
 use words::TABLE_WORDS;
+use words::TEXT_WORDS;
 use words::WALK_WORDS;
 use words::WRITE_WORDS;
 use words::put_read;
@@ -43,6 +47,7 @@ ghost use Rattle.plan.specs.Plans.{planAnswer};
 ghost use Rattle.matching.specs.ConversionEntries.{orderToPlanAnswer, orderToPlanAfter};
 ghost use Rattle.matching.specs.ConversionEntries.{planToOrderAnswer, planToOrderAfter};
 ghost use Rattle.sheets.specs.Sheets.{sheetAnswer, sheetAfter};
+ghost use Rattle.texts.specs.TextEntries.{toFileAnswer, toFileAfter, toTextAnswer, toTextAfter};
 ghost use Rattle.words.specs.Words.{wordsOfRead, wordsOfRun, wordsOfWalk, readWords, runWords, walkWords, filledWith};
 ghost use Rattle.words.specs.Words.{wordsOfList, wordsOfSheet, wordsOfWrite, listWords, sheetWords, writeWords};
 ghost use Rattle.writer.specs.WriteEntries.{tableAnswer, tableAfter};
@@ -236,6 +241,48 @@ pub extern "C" fn adqurim_write(table: &[u8], file: &mut [u8], answer: &mut [u64
     }
     let t = table_in(table);
     let x = write_table(t, file);
+    put_write(x, answer);
+    true
+}
+
+// The conversion of a text to a file. Word 0 is the number, 60 to 62 for the text, 4, 5 or 7 to 11 for its table, or 20
+// if the file is below 2,320 bytes, word 1 the place, a line of the text, word 2 how many bytes were written. A refusal
+// leaves the file as it was, and bytes past what was written never change. It answers whether there was room for the
+// words; without room nothing changes, the file neither.
+#[no_mangle]
+pub extern "C" fn adqurim_text_to_file(text: &[u8], file: &mut [u8], answer: &mut [u64]) -> bool
+    ensures room { λ r. ⌜ r ≡ leb wordsOfWrite (length (now (answer .entry))) ⌝ }
+    ensures words { λ _. ⌜ now (answer .exit)
+        ≡ filledWith (writeWords (toFileAnswer (now (text .entry)) (now (file .entry)))) (now (answer .entry)) ⌝ }
+    ensures written { λ _. ⌜ now (file .exit)
+        ≡ (if leb wordsOfWrite (length (now (answer .entry)))
+        then toFileAfter (now (text .entry)) (now (file .entry)) else now (file .entry)) ⌝ }
+{
+    if answer.len() < FILE_WORDS {
+        return false;
+    }
+    let x = text_to_file(text, file);
+    put_write(x, answer);
+    true
+}
+
+// The conversion of a file to a text. Word 0 is the number, 1 to 11 for the file or 20 if the text is below 8,192
+// bytes, word 1 the place, a record of the file, word 2 how many bytes were written. A refusal leaves the text as it
+// was, and bytes past what was written never change. It answers whether there was room for the words; without room
+// nothing changes, the text neither.
+#[no_mangle]
+pub extern "C" fn adqurim_file_to_text(file: &[u8], text: &mut [u8], answer: &mut [u64]) -> bool
+    ensures room { λ r. ⌜ r ≡ leb wordsOfWrite (length (now (answer .entry))) ⌝ }
+    ensures words { λ _. ⌜ now (answer .exit)
+        ≡ filledWith (writeWords (toTextAnswer (now (file .entry)) (now (text .entry)))) (now (answer .entry)) ⌝ }
+    ensures written { λ _. ⌜ now (text .exit)
+        ≡ (if leb wordsOfWrite (length (now (answer .entry)))
+        then toTextAfter (now (file .entry)) (now (text .entry)) else now (text .entry)) ⌝ }
+{
+    if answer.len() < TEXT_WORDS {
+        return false;
+    }
+    let x = file_to_text(file, text);
     put_write(x, answer);
     true
 }

@@ -48,3 +48,11 @@ pub const ORDER: u8 = 43;
 pub const LOCK: u8 = 44;
 
 pub const GUESS: u8 = 45;
+
+// Document 02, E5: the author of a text: a line not in the grammar or missing, a number too large for its field, and a
+// text that is too long.
+pub const LINE: u8 = 60;
+
+pub const LARGE: u8 = 61;
+
+pub const LONG: u8 = 62;

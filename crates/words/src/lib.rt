@@ -34,6 +34,10 @@ pub const TABLE_WORDS: usize = 3;
 
 pub const WRITE_WORDS: usize = 3;
 
+pub const FILE_WORDS: usize = 3;
+
+pub const TEXT_WORDS: usize = 3;
+
 pub const READ_WORDS: usize = 11;
 
 pub const RUN_WORDS: usize = 43;

@@ -1,9 +1,10 @@
-//! The files whose reading is timed, the orders and plans whose checks and conversions are, and the
-//! tables in memory.
+//! The files whose reading is timed, the orders and plans whose checks and conversions are, the
+//! tables in memory and the texts.
 
 use crate::measure::{Entry, Input};
+use binding::TEXT_ROOM;
 use conformance::cases::{
-    accepted, full_holding_table, full_table, plan_of_x, table_x, ORDER_OF_X,
+    accepted, full_holding_table, full_table, longest_text_table, plan_of_x, table_x, ORDER_OF_X,
 };
 use conformance::orders::random_order;
 use conformance::waits::without_holding;
@@ -117,6 +118,38 @@ pub fn memory_rows() -> Vec<Row> {
         plain(&format!("memory to file: {name}"), Input { entry: Entry::Write, file, bytes })
     });
     filled.chain(written).collect()
+}
+
+/// A text of the longest length that is all of one line behind its opening and a task.
+fn longest_of(line: &str) -> Vec<u8> {
+    let opening = "window 1\nstart 0 0 0 0 0 0 0 0\ntask 1 1 0\n";
+    let lines = (TEXT_ROOM - opening.len()) / (line.len() + 1);
+    format!("{opening}{}", format!("{line}\n").repeat(lines)).into_bytes()
+}
+
+/// The rows of a table's text: to its file, and from it. The last texts are refused.
+pub fn text_rows() -> Vec<Row> {
+    let tables = [
+        ("table X", table_x()),
+        ("145 records", full_table()),
+        ("145 records, 2,091 bytes", longest_text_table()),
+    ];
+    let to_file = tables.iter().map(|(name, table)| {
+        plain(&format!("text to file: {name}"), Input::of(Entry::TextToFile, table.text()))
+    });
+    let to_text = tables.iter().map(|(name, table)| {
+        plain(&format!("file to text: {name}"), Input::of(Entry::FileToText, table.write()))
+    });
+    let digits = "9".repeat(TEXT_ROOM - "window \n".len());
+    let hostile = [
+        ("8,190 bytes, 2,037 instructions", longest_of("end")),
+        ("8,182 bytes, 741 tasks", longest_of("task 1 1 0")),
+        ("8,192 bytes, a number of 8,184 digits", format!("window {digits}\n").into_bytes()),
+    ];
+    let refused = hostile.map(|(name, text)| {
+        plain(&format!("text to file: {name}"), Input::of(Entry::TextToFile, text))
+    });
+    to_file.chain(to_text).chain(refused).collect()
 }
 
 /// The periods of the family that is measured whole, longest first.

@@ -55,6 +55,7 @@ fn main() -> std::io::Result<()> {
     let conversions = measure_rows(files::conversion_rows())?;
     let files = measure_rows(files::file_rows())?;
     let memories = measure_rows(files::memory_rows())?;
+    let texts = measure_rows(files::text_rows())?;
     let walks: Vec<WalkTiming> = walks::walk_rows().into_iter().map(walks::time_walks).collect();
     let tables = Tables {
         reads: report::read_table(&reads),
@@ -63,11 +64,14 @@ fn main() -> std::io::Result<()> {
         conversions: report::conversion_table(&conversions),
         files: report::file_table(&files),
         memories: report::memory_table(&memories),
+        texts: report::text_table(&texts),
         walks: report::walk_table(&walks),
         stack: report::stack(stack::least_kib()?),
     };
-    let Tables { reads, replays, plans, conversions, files, memories, walks, stack } = &tables;
-    print!("{reads}\n{replays}\n{plans}\n{conversions}\n{files}\n{memories}\n{walks}\n{stack}");
+    let Tables { reads, replays, plans, conversions, .. } = &tables;
+    print!("{reads}\n{replays}\n{plans}\n{conversions}\n");
+    let Tables { files, memories, texts, walks, stack, .. } = &tables;
+    print!("{files}\n{memories}\n{texts}\n{walks}\n{stack}");
     let page = report::page(&tables, &load);
     std::fs::write(PAGE, page + &report::history(&std::fs::read_to_string(PAGE)?))
 }

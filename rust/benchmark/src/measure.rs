@@ -1,10 +1,11 @@
 //! How long the proved entries and the interpreter take on an input.
 
 use binding::raw::{self, Job, JobsAnswer, ReadAnswer, RunAnswer, SheetAnswer, WriteAnswer};
-use binding::{FILE_ROOM, JOB_LIST_ROOM, ORDER_ROOM, PLAN_ROOM, SHEET_ROOM, TABLE_ROOM};
+use binding::{FILE_ROOM, JOB_LIST_ROOM, ORDER_ROOM, PLAN_ROOM, SHEET_ROOM, TABLE_ROOM, TEXT_ROOM};
 use conformance::proved::{
-    expected_check_plan, expected_jobs, expected_order_to_plan, expected_plan_to_order,
-    expected_read, expected_replay, expected_sheet, expected_table, expected_write,
+    expected_check_plan, expected_file_to_text, expected_jobs, expected_order_to_plan,
+    expected_plan_to_order, expected_read, expected_replay, expected_sheet, expected_table,
+    expected_text_to_file, expected_write,
 };
 use std::hint::black_box;
 use std::io::{Read, Result, Write};
@@ -37,10 +38,12 @@ pub enum Entry {
     Sheet,
     Table,
     Write,
+    TextToFile,
+    FileToText,
 }
 
 /// In the order of their numbers, by which a child is told the entry.
-const ENTRIES: [Entry; 9] = [
+const ENTRIES: [Entry; 11] = [
     Entry::Read,
     Entry::Replay,
     Entry::CheckPlan,
@@ -50,13 +53,15 @@ const ENTRIES: [Entry; 9] = [
     Entry::Sheet,
     Entry::Table,
     Entry::Write,
+    Entry::TextToFile,
+    Entry::FileToText,
 ];
 
 /// What an entry is called on.
 #[derive(Debug, Clone)]
 pub struct Input {
     pub entry: Entry,
-    /// None for the writer.
+    /// None for the writer; the text where that is converted.
     pub file: Vec<u8>,
     /// The order, the plan or the table in memory; none for an entry that takes a file alone.
     pub bytes: Vec<u8>,
@@ -101,11 +106,11 @@ fn with_text(print: fn(&[u8], &mut [u8]) -> SheetAnswer, file: &[u8]) -> Answer 
     Answer::Sheet(answer)
 }
 
-/// Fills a table in memory of its own, which counts as used.
-fn with_memory(fill: fn(&[u8], &mut [u8]) -> WriteAnswer, file: &[u8]) -> Answer {
-    let mut memory = [0; TABLE_ROOM];
-    let answer = fill(file, &mut memory);
-    black_box(&memory);
+/// Fills a table in memory, a file or a text of its own, which counts as used.
+fn with_room<const ROOM: usize>(fill: fn(&[u8], &mut [u8]) -> WriteAnswer, bytes: &[u8]) -> Answer {
+    let mut buffer = [0; ROOM];
+    let answer = fill(bytes, &mut buffer);
+    black_box(&buffer);
     Answer::Write(answer)
 }
 
@@ -123,7 +128,7 @@ impl Input {
         Input::of(Entry::Read, file)
     }
 
-    /// The input of an entry that takes a file alone.
+    /// The input of an entry that takes a file alone, or a text.
     pub fn of(entry: Entry, file: Vec<u8>) -> Input {
         Input { entry, file, bytes: Vec::new() }
     }
@@ -139,8 +144,10 @@ impl Input {
             Entry::PlanToOrder => with_buffer::<ORDER_ROOM>(expected_plan_to_order, file, bytes),
             Entry::Jobs => with_list(expected_jobs, file),
             Entry::Sheet => with_text(expected_sheet, file),
-            Entry::Table => with_memory(expected_table, file),
+            Entry::Table => with_room::<TABLE_ROOM>(expected_table, file),
             Entry::Write => with_file(expected_write, bytes),
+            Entry::TextToFile => with_room::<FILE_ROOM>(expected_text_to_file, file),
+            Entry::FileToText => with_room::<TEXT_ROOM>(expected_file_to_text, file),
         }
     }
 
@@ -155,8 +162,10 @@ impl Input {
             Entry::PlanToOrder => with_buffer::<ORDER_ROOM>(raw::plan_to_order, file, bytes),
             Entry::Jobs => with_list(raw::jobs, file),
             Entry::Sheet => with_text(raw::sheet, file),
-            Entry::Table => with_memory(raw::table, file),
+            Entry::Table => with_room::<TABLE_ROOM>(raw::table, file),
             Entry::Write => with_file(raw::write, bytes),
+            Entry::TextToFile => with_room::<FILE_ROOM>(raw::text_to_file, file),
+            Entry::FileToText => with_room::<TEXT_ROOM>(raw::file_to_text, file),
         }
     }
 

@@ -90,6 +90,11 @@ pub fn memory_table(timings: &[Timing]) -> String {
     table("entry and table", timings)
 }
 
+/// The table of a table's text.
+pub fn text_table(timings: &[Timing]) -> String {
+    table("what is converted", timings)
+}
+
 /// The walk's table, and below it the median of its ratios.
 pub fn walk_table(timings: &[WalkTiming]) -> String {
     let mut text = String::new();
@@ -159,6 +164,7 @@ pub struct Tables {
     pub conversions: String,
     pub files: String,
     pub memories: String,
+    pub texts: String,
     pub walks: String,
     pub stack: String,
 }
@@ -231,7 +237,7 @@ side; the buffer is lent anew for each call, and filling it with zeros before is
 
 /// The other entries beside the interpreter.
 fn files_part(tables: &Tables) -> String {
-    let Tables { files, memories, .. } = tables;
+    let Tables { files, memories, texts, .. } = tables;
     format!(
         "## The job list and the sheet
 
@@ -245,6 +251,12 @@ A file into a table in memory, and such a table into a file. The file is read fi
 side; the table is judged before it is written. What is filled is lent anew for each call, as zeros.
 
 {memories}
+## The text of a table
+
+A text to its file, and a file to its text. A file is read first, by either side; the table of a text
+is judged before its file is written. What is filled is lent anew for each call, as zeros.
+
+{texts}
 "
     )
 }

@@ -32,7 +32,7 @@ impl Refusal {
 
 impl InTable<'_> {
     /// The rule, the record that breaks it, and what is wrong with that.
-    fn fault(&self) -> Option<(Rule, Site, String)> {
+    pub(crate) fn fault(&self) -> Option<(Rule, Site, String)> {
         let (rule, place) = (self.refusal.rule()?, usize::try_from(self.refusal.place).ok()?);
         let site = self.table.site(place)?;
         let says = match (rule, site) {

@@ -1,9 +1,10 @@
 //! Safe calls of the proved entries through the C interface of `include/adqurim.h`.
 //!
 //! [`read`], [`jobs`], [`replay`], [`walk`], [`check_plan`], [`order_to_plan`], [`plan_to_order`],
-//! [`table`] and [`write`] give a value or a [`Refusal`], which prints as a sentence; [`sheet`]
-//! gives a text for every file. [`Refusal::in_order`] also names a wrong step's task or value, and
-//! [`Refusal::in_table`] the task, instruction or lock of a table that is not written. The module
+//! [`table`], [`write`], [`text_to_file`] and [`file_to_text`] give a value or a [`Refusal`], which
+//! prints as a sentence; [`sheet`] gives one for every file. [`Refusal::in_order`] also names a wrong
+//! step's task or value, [`Refusal::in_table`] the task, instruction or lock of a table that is not
+//! written, and [`Refusal::in_text`] shows the line of a text that is not converted. The module
 //! [`raw`] has the same entries with their numbers, places and lent memory.
 //!
 //! ```
@@ -13,17 +14,20 @@
 //! ```
 
 mod in_table;
+mod in_text;
 pub mod raw;
 mod refusal;
 mod table;
 mod words;
 
 pub use in_table::InTable;
+pub use in_text::InText;
 pub use refusal::{InOrder, Place, Refusal, Rule};
 pub use table::{Instruction, Site, Table, TaskEntry};
 pub use words::{
     Job, BYTES_OF_TASK, FILE_ROOM, JOB_LIST_ROOM, MOST_INSTRUCTIONS, MOST_JOBS, MOST_LOCKS,
-    MOST_TASKS, ORDER_ROOM, PLAN_ROOM, SHEET_ALLOWANCE, SHEET_ROOM, TABLE_ROOM, VARIABLES,
+    MOST_TASKS, ORDER_ROOM, PLAN_ROOM, SHEET_ALLOWANCE, SHEET_ROOM, TABLE_ROOM, TEXT_ROOM,
+    VARIABLES,
 };
 
 /// A job's number: jobs are numbered from 0 by task, then by arrival.
@@ -163,6 +167,25 @@ pub fn write(table: &Table) -> Result<Vec<u8>, Refusal> {
     accept(answer.number, answer.place)?;
     file.truncate(answer.length as usize);
     Ok(file)
+}
+
+/// The file of a text, with its records in walk order, or a refusal by 4, 5, 7 to 11 or 60 to 62.
+/// Its place is a line of the text; [`Refusal::in_text`] shows it.
+pub fn text_to_file(text: &[u8]) -> Result<Vec<u8>, Refusal> {
+    let mut file = vec![0; FILE_ROOM];
+    let answer = raw::text_to_file(text, &mut file);
+    accept(answer.number, answer.place)?;
+    file.truncate(answer.length as usize);
+    Ok(file)
+}
+
+/// The text of a file, each line ended by a newline, or a refusal by 1 to 11.
+pub fn file_to_text(file: &[u8]) -> Result<String, Refusal> {
+    let mut text = vec![0; TEXT_ROOM];
+    let answer = raw::file_to_text(file, &mut text);
+    accept(answer.number, answer.place)?;
+    text.truncate(answer.length as usize);
+    Ok(String::from_utf8(text).expect("a table's text is ASCII"))
 }
 
 /// The refusal of an answer, if it is one.

@@ -4,7 +4,7 @@
 pub use crate::words::{
     Job, JobsAnswer, ReadAnswer, RunAnswer, SheetAnswer, Verdict, WalkAnswer, WriteAnswer,
     CHECK_PLAN_WORDS, CONVERSION_WORDS, JOBS_WORDS, READ_WORDS, REPLAY_WORDS, SHEET_WORDS,
-    TABLE_ROOM, TABLE_WORDS, WALK_WORDS, WRITE_WORDS,
+    TABLE_ROOM, TABLE_WORDS, TEXT_WORDS, WALK_WORDS, WRITE_WORDS,
 };
 
 mod c {
@@ -100,6 +100,24 @@ mod c {
             table_len: usize,
             file: *mut u8,
             file_len: usize,
+            answer: *mut u64,
+            answer_len: usize,
+        ) -> bool;
+
+        pub fn adqurim_text_to_file(
+            text: *const u8,
+            text_len: usize,
+            file: *mut u8,
+            file_len: usize,
+            answer: *mut u64,
+            answer_len: usize,
+        ) -> bool;
+
+        pub fn adqurim_file_to_text(
+            file: *const u8,
+            file_len: usize,
+            text: *mut u8,
+            text_len: usize,
             answer: *mut u64,
             answer_len: usize,
         ) -> bool;
@@ -341,6 +359,54 @@ pub fn write_words(table: &[u8], file: &mut [u8], answer: &mut [u64]) -> bool {
 pub fn write(table: &[u8; TABLE_ROOM], file: &mut [u8]) -> WriteAnswer {
     let mut words = [0; WRITE_WORDS];
     let room = write_words(table, file, &mut words);
+    assert!(room, "the entry has room for its words");
+    WriteAnswer::from(words)
+}
+
+/// Converts a text to its file in a lent buffer, and lent words. False, and neither changed, if
+/// there is no room for 3 words.
+pub fn text_to_file_words(text: &[u8], file: &mut [u8], answer: &mut [u64]) -> bool {
+    // SAFETY: as for the writer, with the text for the table.
+    unsafe {
+        c::adqurim_text_to_file(
+            text.as_ptr(),
+            text.len(),
+            file.as_mut_ptr(),
+            file.len(),
+            answer.as_mut_ptr(),
+            answer.len(),
+        )
+    }
+}
+
+/// Converts a text to its file. It stands at the buffer's front; a refusal leaves all.
+pub fn text_to_file(text: &[u8], file: &mut [u8]) -> WriteAnswer {
+    let mut words = [0; TEXT_WORDS];
+    let room = text_to_file_words(text, file, &mut words);
+    assert!(room, "the entry has room for its words");
+    WriteAnswer::from(words)
+}
+
+/// Converts a file to its text in a lent buffer, and lent words. False, and neither changed, if
+/// there is no room for 3 words.
+pub fn file_to_text_words(file: &[u8], text: &mut [u8], answer: &mut [u64]) -> bool {
+    // SAFETY: as for the walk, with the text for the order.
+    unsafe {
+        c::adqurim_file_to_text(
+            file.as_ptr(),
+            file.len(),
+            text.as_mut_ptr(),
+            text.len(),
+            answer.as_mut_ptr(),
+            answer.len(),
+        )
+    }
+}
+
+/// Converts a file to its text. It stands at the buffer's front; a refusal leaves all.
+pub fn file_to_text(file: &[u8], text: &mut [u8]) -> WriteAnswer {
+    let mut words = [0; TEXT_WORDS];
+    let room = file_to_text_words(file, text, &mut words);
     assert!(room, "the entry has room for its words");
     WriteAnswer::from(words)
 }

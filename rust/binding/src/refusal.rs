@@ -18,7 +18,8 @@ pub struct Refusal {
 pub enum Place {
     /// No place; its number is 0.
     Nowhere,
-    /// A record of the file; of a table in memory, the index that the record would have had.
+    /// A record of the file; of a table in memory, the index that the record would have had; of a
+    /// text, the line of the record.
     Record,
     /// A step of the order; past its last one where a step is missing.
     Step,
@@ -28,9 +29,12 @@ pub enum Place {
     Job,
     /// A round.
     Round,
+    /// A line of the text; past its last one where a line is missing.
+    Line,
 }
 
-/// A rule by the name that document 01 gives its number. Document 02 has no names for 33 and 34.
+/// A rule by the name that document 01 gives its number. Document 02 has no names for 33 and 34, nor
+/// for 60 to 62.
 #[derive(Debug, Clone, Copy, PartialEq, Eq, Hash)]
 pub enum Rule {
     Size = 1,
@@ -57,6 +61,9 @@ pub enum Rule {
     Order = 43,
     Lock = 44,
     Guess = 45,
+    Line = 60,
+    Large = 61,
+    Long = 62,
 }
 
 /// What is said of a rule: its name, what its place counts, and the words that follow the place.
@@ -64,7 +71,7 @@ type Entry = (Rule, &'static str, Place, &'static str);
 
 /// Every rule, ascending.
 #[rustfmt::skip]
-const ENTRIES: [Entry; 24] = [
+const ENTRIES: [Entry; 27] = [
     (Rule::Size, "SIZE", Place::Nowhere,
         "the file's length is 0, above 4,096 or no multiple of 16"),
     (Rule::Kind, "KIND", Place::Record,
@@ -92,7 +99,7 @@ const ENTRIES: [Entry; 24] = [
     (Rule::Room, "ROOM", Place::Nowhere,
         "the lent memory is too short: \
          an order needs 512 bytes, a plan 1,281 bytes, a job list 32 records, \
-         a sheet 4,608 bytes, a table 696 bytes, a file 2,320 bytes"),
+         a sheet 4,608 bytes, a table 696 bytes, a file 2,320 bytes, a text 8,192 bytes"),
     (Rule::Undecided, "UNDECIDED", Place::Nowhere,
         "the walk's count exceeds the allowance"),
     (Rule::Step, "STEP", Place::Step,
@@ -119,6 +126,12 @@ const ENTRIES: [Entry; 24] = [
          the inner one's base"),
     (Rule::Guess, "GUESS", Place::Round,
         "is the lowest with a wrong guess"),
+    (Rule::Line, "LINE", Place::Line,
+        "is not in the grammar of texts, or is missing"),
+    (Rule::Large, "LARGE", Place::Line,
+        "has a number that is too large for its field"),
+    (Rule::Long, "LONG", Place::Nowhere,
+        "the text has more than 8,192 bytes"),
 ];
 
 impl Rule {
@@ -163,6 +176,7 @@ impl Place {
             Place::Offset => Some("offset"),
             Place::Job => Some("job"),
             Place::Round => Some("round"),
+            Place::Line => Some("line"),
         }
     }
 }

@@ -11,13 +11,15 @@ pub const VARIABLES: usize = 8;
 pub const BYTES_OF_TASK: u8 = 16;
 
 /// The room that number 20 asks for: bytes of an order, bytes of a plan, records of a job list,
-/// bytes of a sheet's text, bytes of a table in memory, bytes of a file that is written.
+/// bytes of a sheet's text, bytes of a table in memory, bytes of a file that is written, bytes of a
+/// table's text. A text that is read has at most as many bytes as one that is written has room for.
 pub const ORDER_ROOM: usize = 512;
 pub const PLAN_ROOM: usize = 1281;
 pub const JOB_LIST_ROOM: usize = 32;
 pub const SHEET_ROOM: usize = 4608;
 pub const TABLE_ROOM: usize = 696;
 pub const FILE_ROOM: usize = 2320;
+pub const TEXT_ROOM: usize = 8192;
 
 /// The allowance of a sheet's walk.
 pub const SHEET_ALLOWANCE: u64 = 1_000_000;
@@ -139,9 +141,11 @@ impl From<JobsAnswer> for [u64; JOBS_WORDS] {
     }
 }
 
-/// How many words the entries fill that read a table into memory and write one to a file.
+/// How many words the entries fill that read a table into memory and write one to a file, and those
+/// that convert a text to a file and a file to a text.
 pub const TABLE_WORDS: usize = 3;
 pub const WRITE_WORDS: usize = TABLE_WORDS;
+pub const TEXT_WORDS: usize = TABLE_WORDS;
 
 /// What these entries answer.
 #[derive(Debug, Clone, Copy, PartialEq, Eq, Default)]

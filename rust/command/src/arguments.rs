@@ -20,10 +20,12 @@ pub enum Subcommand {
     CheckPlan,
     Order,
     Rewrite,
+    Text,
+    File,
 }
 
 /// Every subcommand with its name, in the order of the help.
-pub const SUBCOMMANDS: [(Subcommand, &str); 9] = [
+pub const SUBCOMMANDS: [(Subcommand, &str); 11] = [
     (Subcommand::Check, "check"),
     (Subcommand::Read, "read"),
     (Subcommand::Jobs, "jobs"),
@@ -33,6 +35,8 @@ pub const SUBCOMMANDS: [(Subcommand, &str); 9] = [
     (Subcommand::CheckPlan, "check-plan"),
     (Subcommand::Order, "order"),
     (Subcommand::Rewrite, "rewrite"),
+    (Subcommand::Text, "text"),
+    (Subcommand::File, "file"),
 ];
 
 impl Subcommand {
@@ -49,6 +53,11 @@ impl Subcommand {
     fn takes_numbers(self) -> bool {
         use Subcommand::{CheckPlan, Order, Plan, Replay};
         matches!(self, Replay | Plan | CheckPlan | Order)
+    }
+
+    /// What the first word after it names.
+    fn takes(self) -> &'static str {
+        if self == Subcommand::File { "TEXT" } else { "FILE" }
     }
 
     /// The words that show its help.
@@ -69,6 +78,7 @@ pub enum Source {
 #[derive(Debug, PartialEq, Eq)]
 pub struct Request {
     pub subcommand: Subcommand,
+    /// A task file, or a table's text where that is converted.
     pub file: Source,
     /// An order's or a plan's bytes; none are given to a subcommand that takes none.
     pub numbers: Source,
@@ -118,7 +128,7 @@ fn shown(word: &OsStr) -> String {
 fn request(subcommand: Subcommand, words: &[OsString]) -> Result<Request, Problem> {
     let (allowance, words) = options(subcommand, words)?;
     let Some((file, numbers)) = words.split_first() else {
-        return Err(wrong(subcommand, "no FILE is given".to_string()));
+        return Err(wrong(subcommand, format!("no {} is given", subcommand.takes())));
     };
     if let Some(word) = numbers.first().filter(|_| !subcommand.takes_numbers()) {
         return Err(wrong(subcommand, format!("{} is one word too many", shown(word))));

@@ -18,6 +18,8 @@ pub fn answer(request: &Request, streams: &mut Streams) -> Result<Status, Proble
     let answer = match request.subcommand {
         Subcommand::Check => return check(&file, streams),
         Subcommand::Rewrite => return rewrite(&file, streams),
+        Subcommand::Text => return text(&file, streams),
+        Subcommand::File => return from_text(&file, streams),
         Subcommand::Walk => walk(&file, request.allowance, streams),
         Subcommand::Read => read(&file).map(accepted),
         Subcommand::Jobs => jobs(&file).map(accepted),
@@ -39,6 +41,14 @@ fn print(text: &str, streams: &mut Streams) -> Result<(), Problem> {
     Ok(streams.output.write_all(text.as_bytes())?)
 }
 
+/// Says something on standard error of what is refused. The refusal is printed and the status says
+/// it: an explanation that is lost changes neither.
+fn tell(says: &str, streams: &mut Streams) -> Result<Status, Problem> {
+    streams.output.flush()?;
+    let _ = streams.errors.write_all(says.as_bytes());
+    Ok(Status::Refused)
+}
+
 /// Says on standard error what a refusal means; if it names a step, which task or value is wrong,
 /// and if it names a record, what that record is. Where it names a step, the numbers are an order's.
 fn explain(
@@ -47,7 +57,6 @@ fn explain(
     numbers: &[u8],
     streams: &mut Streams,
 ) -> Result<Status, Problem> {
-    streams.output.flush()?;
     let mut text = format!("adqurim: {}\n", refusal.in_order(numbers));
     if refusal.rule().map(|rule| rule.place()) == Some(Place::Record) {
         let record = refusal.place as usize;
@@ -55,9 +64,7 @@ fn explain(
         let is = records::name(file, record).unwrap_or("reached by no chain".to_string());
         text += &format!("adqurim: record {record}, bytes {first} to {last}, is {is}\n");
     }
-    // The refusal is printed and the status says it: an explanation that is lost changes neither.
-    let _ = streams.errors.write_all(text.as_bytes());
-    Ok(Status::Refused)
+    tell(&text, streams)
 }
 
 /// The sheet, as its proved entry writes it.
@@ -71,15 +78,34 @@ fn check(file: &[u8], streams: &mut Streams) -> Result<Status, Problem> {
     }
 }
 
-/// The file with its records in walk order. Its bytes go where a file is expected, so a refusal
-/// leaves that empty and is told on standard error alone.
+/// Writes a file or a text. Its bytes go where one is expected, so a refusal leaves that empty and is
+/// told on standard error alone.
+fn write(bytes: &[u8], streams: &mut Streams) -> Result<Status, Problem> {
+    streams.output.write_all(bytes)?;
+    Ok(Status::Accepted)
+}
+
+/// The file with its records in walk order.
 fn rewrite(file: &[u8], streams: &mut Streams) -> Result<Status, Problem> {
     match binding::table(file).and_then(|table| binding::write(&table)) {
-        Ok(written) => {
-            streams.output.write_all(&written)?;
-            Ok(Status::Accepted)
-        }
+        Ok(written) => write(&written, streams),
         Err(refusal) => explain(&refusal, file, &[], streams),
+    }
+}
+
+/// A file's text.
+fn text(file: &[u8], streams: &mut Streams) -> Result<Status, Problem> {
+    match binding::file_to_text(file) {
+        Ok(text) => write(text.as_bytes(), streams),
+        Err(refusal) => explain(&refusal, file, &[], streams),
+    }
+}
+
+/// A text's file. A refusal shows the line that it names.
+fn from_text(text: &[u8], streams: &mut Streams) -> Result<Status, Problem> {
+    match binding::text_to_file(text) {
+        Ok(file) => write(&file, streams),
+        Err(refusal) => tell(&format!("adqurim: {}\n", refusal.in_text(text)), streams),
     }
 }
 

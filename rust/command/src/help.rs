@@ -14,16 +14,19 @@ adqurim checks the task table of a parcel depot's box.
   adqurim check-plan FILE PLAN..      check a plan in rounds
   adqurim order FILE PLAN..           convert a plan to its order
   adqurim rewrite FILE                write the file with its records in walk order
+  adqurim text FILE                   print the table's text
+  adqurim file TEXT                   write the file of a table's text
 
-FILE is a task file, `-` standard input. ORDER and PLAN are bytes, each a word from 0 to 255;
-a single `-` takes the bytes themselves from standard input. `adqurim SUBCOMMAND --help` says more.
+FILE is a task file, TEXT a table's text, `-` standard input. ORDER and PLAN are bytes, each a word
+from 0 to 255; a single `-` takes the bytes themselves from standard input.
+`adqurim SUBCOMMAND --help` says more.
 ";
 
 const STATUSES: &str = "
 Status: 0 the table holds, or what was given is accepted; 1 some order fails (check and walk);
 2 a file that cannot be read, or wrong usage; 3 refused, or undecided within the allowance.
-A refusal is a line `refused NUMBER PLACE`, which rewrite leaves out; standard error explains it in
-a sentence.
+A refusal is a line `refused NUMBER PLACE`, which rewrite, text and file leave out; standard error
+explains it in a sentence.
 ";
 
 const CHECK: &str = "\
@@ -94,6 +97,36 @@ Writes the file to standard output with its records in walk order: the header, e
 its body, then the locks. The table stays the same. Nothing is written of a file that is refused.
 ";
 
+const TEXT: &str = "\
+adqurim text FILE
+
+Prints the table's text: a `window` line, a `start` line with the eight initial values, each `task`
+line (execution time, period, first arrival) followed by its instructions, then the `lock` lines
+(ceiling, longest holding time). Nothing is printed of a file that is refused.
+";
+
+const FILE: &str = "\
+adqurim file TEXT
+
+Writes the file of a table's text to standard output, with its records in walk order:
+
+  window 5
+  start 0 0 0 0 0 0 0 0
+  task 2 8 0
+  load 0 0
+  end
+  lock 1 0
+
+A line begins with its word: there is no space before it, one between words, and none after the
+last. Numbers have no leading zeros, and each line is ended by a newline. The instructions are end;
+acquire a, release a, assert a; load a b, store a b, set a b, add a b, subtract a b, pick a b;
+less a b c, equal a b c.
+
+A line that is not of this form, or is out of place or missing, is refused by 60, a number too large
+for its field by 61, a text above 8,192 bytes by 62; then the table itself is judged. A place is a
+line, counted from 0; standard error shows the line. Nothing is written of a text that is refused.
+";
+
 /// The help of a subcommand, or of the program.
 pub fn text(subcommand: Option<Subcommand>) -> String {
     let own = match subcommand {
@@ -107,6 +140,8 @@ pub fn text(subcommand: Option<Subcommand>) -> String {
         Some(Subcommand::CheckPlan) => CHECK_PLAN,
         Some(Subcommand::Order) => ORDER,
         Some(Subcommand::Rewrite) => REWRITE,
+        Some(Subcommand::Text) => TEXT,
+        Some(Subcommand::File) => FILE,
     };
     format!("{own}{STATUSES}")
 }

@@ -5,9 +5,9 @@ use crate::{Problem, Streams};
 use std::fs::File;
 use std::io::Read;
 
-/// How much is read of anything: a byte above the longest file, 4,096. What comes after the first
-/// 513 bytes of an order or 1,282 of a plan changes no answer either.
-const MOST_BYTES: u64 = 4_097;
+/// How much is read of anything: a byte above the longest text, 8,192. What comes after the first
+/// 4,097 bytes of a file, 513 of an order or 1,282 of a plan changes no answer either.
+const MOST_BYTES: u64 = 8_193;
 
 /// The bytes of a source, no more of them than can change an answer.
 pub fn bytes(source: &Source, streams: &mut Streams) -> Result<Vec<u8>, Problem> {

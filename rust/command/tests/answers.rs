@@ -5,7 +5,7 @@ use conformance::cases::{accepted, edited, table_x, tasks};
 use conformance::families::{any, crowded, long, nest_of_four, refused_files, small};
 use conformance::orders::{random_order, variants};
 use generator::files::{damaged, random_bytes, random_records};
-use generator::{code, Random, TableDescription};
+use generator::{code, texts, Random, TableDescription};
 use interpreter::timing::accept;
 use interpreter::{conversion, plan, sheet, JobRecord};
 use std::ffi::OsString;
@@ -111,6 +111,11 @@ fn input_in_pieces_and_input_without_end() {
     // The only route job has five steps, and with three jobs no step is in a round 3.
     assert_eq!(run_on(&["replay", path, "-"], &mut io::repeat(0), false).output, "refused 30 5\n");
     assert_eq!(run_on(&["order", path, "-"], &mut io::repeat(3), false).output, "refused 42 25\n");
+    let long = run_on(&["file", "-"], &mut io::repeat(b'w'), false).errors;
+    assert_eq!(long, "adqurim: the text has more than 8,192 bytes (62 LONG)\n");
+    let text = samples::named("lost-update").text;
+    let pieces = run_bytes(&["file", "-"], &mut Pieces(text.as_bytes()), false);
+    assert_eq!(pieces.output, samples::named("lost-update").file());
 }
 
 /// Numbers, each after a space.
@@ -145,10 +150,18 @@ fn run_with_numbers(subcommand: &str, file: &[u8], bytes: &[u8]) -> Ran {
     run_on(&words.collect::<Vec<&str>>(), &mut &file[..], false)
 }
 
-/// The file of the first accepted table of those that are drawn.
-fn accepted_file(random: &mut Random, make: fn(&mut Random) -> TableDescription) -> Vec<u8> {
-    let mut drawn = std::iter::repeat_with(|| make(random).write());
-    drawn.find(|file| accept(file).is_ok()).expect("some table is accepted")
+/// Makes a table.
+type Make = fn(&mut Random) -> TableDescription;
+
+/// The first accepted table of those that are drawn.
+fn accepted_table(random: &mut Random, make: Make) -> TableDescription {
+    let mut drawn = std::iter::repeat_with(|| make(random));
+    drawn.find(|table| accept(&table.write()).is_ok()).expect("some table is accepted")
+}
+
+/// Its file.
+fn accepted_file(random: &mut Random, make: Make) -> Vec<u8> {
+    accepted_table(random, make).write()
 }
 
 #[test]
@@ -252,15 +265,54 @@ fn random_files_are_rewritten_in_walk_order() {
     let mut random = Random::new(0x3EE7);
     for make in [small, crowded, any] {
         for _ in 0..100 {
-            let table = std::iter::repeat_with(|| make(&mut random))
-                .find(|table| accept(&table.write()).is_ok())
-                .expect("some table is accepted");
+            let table = accepted_table(&mut random, make);
             let shuffled = table.write_shuffled(&mut random).0;
             let ran = run_bytes(&["rewrite", "-"], &mut &shuffled[..], false);
             assert_eq!((ran.status, &ran.errors[..]), (Status::Accepted, ""));
             assert_eq!(ran.output, table.write());
         }
     }
+}
+
+/// Random tables go to their texts and back, whatever the order of the records.
+#[test]
+fn random_files_and_their_texts() {
+    let mut random = Random::new(0x7EF7);
+    for make in [small, crowded, any] {
+        for _ in 0..100 {
+            let table = accepted_table(&mut random, make);
+            let shuffled = table.write_shuffled(&mut random).0;
+            let printed = run_bytes(&["text", "-"], &mut &shuffled[..], false);
+            assert_eq!((printed.status, &printed.errors[..]), (Status::Accepted, ""));
+            assert_eq!(printed.output, table.text());
+            let back = run_bytes(&["file", "-"], &mut &printed.output[..], false);
+            assert_eq!((back.status, &back.errors[..]), (Status::Accepted, ""));
+            assert_eq!(back.output, table.write());
+        }
+    }
+}
+
+/// Nothing is written of a text that is refused; the errors show its line.
+#[test]
+fn texts_that_are_refused_are_not_written() {
+    let mut random = Random::new(0x7EAD);
+    let makes = [texts::wrong_lines, texts::wrong_words, texts::miscounted, texts::cut_short];
+    let mut refused = 0;
+    for make in makes {
+        for _ in 0..100 {
+            let text = make(&mut random);
+            let answer = interpreter::text_to_file(&text, &mut [0; 2_320]);
+            let ran = run_bytes(&["file", "-"], &mut &text[..], false);
+            assert_eq!(ran.status == Status::Accepted, answer.number == 0);
+            if answer.number != 0 {
+                assert!(ran.output.is_empty());
+                assert!(ran.errors.contains(&format!("({} ", answer.number)), "{}", ran.errors);
+                assert_eq!(ran.errors.lines().count(), 1);
+                refused += 1;
+            }
+        }
+    }
+    assert!(refused >= 200, "{refused}");
 }
 
 /// Nothing is written of a file that is refused; the errors are those of `read`.
@@ -275,12 +327,14 @@ fn files_that_are_refused_are_not_rewritten() {
     files.retain(|file| accept(file).is_err());
     assert!(files.len() >= 200);
     for file in files {
-        let ran = run_bytes(&["rewrite", "-"], &mut &file[..], false);
         let read = run_on(&["read", "-"], &mut &file[..], false);
-        assert_eq!((ran.status, ran.output), (Status::Refused, vec![]));
-        assert_eq!(ran.errors, read.errors);
-        let number = interpreter::read(&file).number;
-        assert!(ran.errors.contains(&format!("({number} ")), "{}", ran.errors);
+        for subcommand in ["rewrite", "text"] {
+            let ran = run_bytes(&[subcommand, "-"], &mut &file[..], false);
+            assert_eq!((ran.status, ran.output), (Status::Refused, vec![]));
+            assert_eq!(ran.errors, read.errors);
+            let number = interpreter::read(&file).number;
+            assert!(ran.errors.contains(&format!("({number} ")), "{}", ran.errors);
+        }
     }
 }
 

@@ -1,14 +1,17 @@
 //! The built program: its words, its files, its streams and its status.
 
-use conformance::cases::{edited, plan_of_x, table_x, ORDER_OF_X};
+use conformance::cases::{edited, plan_of_x, table_x, ORDER_OF_X, TEXT_OF_X};
 use generator::Random;
 use std::io::Write;
 use std::path::PathBuf;
 use std::process::{Command, Output, Stdio};
 use std::{fs, iter};
 
-const SUBCOMMANDS: [&str; 9] =
-    ["check", "read", "jobs", "walk", "replay", "plan", "check-plan", "order", "rewrite"];
+/// The subcommands that take a task file, those last that print a file or a text or nothing.
+const SUBCOMMANDS: [&str; 10] =
+    ["check", "read", "jobs", "walk", "replay", "plan", "check-plan", "order", "rewrite", "text"];
+/// The one that takes a table's text.
+const OF_TEXT: &str = "file";
 /// Statuses of the program.
 const ACCEPTED: i32 = 0;
 const FAILS: i32 = 1;
@@ -123,6 +126,48 @@ fn rewrite_writes_the_file_in_walk_order() {
 }
 
 #[test]
+fn text_and_file_convert() {
+    let file = file_of_x("text");
+    assert_run(&["text", &file], &[], ACCEPTED, TEXT_OF_X, "");
+    let x = table_x().write();
+    let shuffled = table_x().write_shuffled(&mut Random::new(0x7E47)).0;
+    assert_run(&["text", "-"], &shuffled, ACCEPTED, TEXT_OF_X, "");
+    let path = PathBuf::from(env!("CARGO_TARGET_TMPDIR")).join("file.text");
+    fs::write(&path, TEXT_OF_X).expect("the text can be written");
+    let path = path.to_str().expect("a plain path");
+    for (words, input) in [(["file", path], &[][..]), (["file", "-"], TEXT_OF_X.as_bytes())] {
+        let run = run(&words, input);
+        assert_eq!((run.status.code(), &run.stdout), (Some(ACCEPTED), &x));
+        assert_eq!(text(&run.stderr), "");
+    }
+}
+
+/// Nothing stands where a file or a text is expected; standard error shows the line.
+#[test]
+fn texts_that_are_refused_are_explained() {
+    #[rustfmt::skip]
+    let cases = [
+        ("load 0", "lod 0", "line 3, `lod 0 0`: no line begins with `lod` (60 LINE)"),
+        ("load 0", "load 256", "line 3, `load 256 0`: the number `256` is above 255 (61 LARGE)"),
+        ("load 0", "load 4", "line 3, `load 4 0` (instruction 0 of task 0): a field is out of range \
+            (4 FIELD)"),
+        ("task 1 4", "task 1 9", "line 8, `task 1 9 1` (task 1): the period 9 is above the previous \
+            task's 8 (8 RATE)"),
+        ("window 5", "window 99999", "the table has more than 32 jobs (11 JOBS)"),
+    ];
+    for (from, to, says) in cases {
+        let text = TEXT_OF_X.replacen(from, to, 1);
+        let errors = format!("adqurim: {says}\n");
+        assert_run(&["file", "-"], text.as_bytes(), REFUSED, "", &errors);
+    }
+    let long = "adqurim: the text has more than 8,192 bytes (62 LONG)\n";
+    assert_run(&["file", "-"], &[b' '; 8_193], REFUSED, "", long);
+    assert_run(&["file", "-"], &[b' '; 100_000], REFUSED, "", long);
+    let missing = "adqurim: line 0 is missing: it is `window W` (60 LINE)\n";
+    assert_run(&["file", "-"], &[], REFUSED, "", missing);
+}
+
+#[test]
 fn the_allowance_of_a_walk() {
     let file = file_of_x("allowance");
     let says = "adqurim: the walk's count exceeds the allowance (21 UNDECIDED)\n";
@@ -145,7 +190,7 @@ fn refusals_are_explained() {
     for subcommand in SUBCOMMANDS {
         let file = edited(&x, &[(8 * 16, 9)]);
         // Where a file is expected, no line stands in its place.
-        let line = if subcommand == "rewrite" { "" } else { "refused 2 8\n" };
+        let line = if ["rewrite", "text"].contains(&subcommand) { "" } else { "refused 2 8\n" };
         assert_run(&[subcommand, "-"], &file, REFUSED, line, kind);
     }
     let size = "adqurim: the file's length is 0, above 4,096 or no multiple of 16 (1 SIZE)\n";
@@ -182,7 +227,7 @@ fn wrong_steps_are_explained_with_their_task_or_value() {
 fn wrong_usage_is_told_and_points_to_the_help() {
     let file = file_of_x("wrong_usage");
     #[rustfmt::skip]
-    let cases: [(&[&str], &str); 17] = [
+    let cases: [(&[&str], &str); 20] = [
         (&[], "no subcommand is given"),
         (&["cheque", &file], "there is no subcommand `cheque`"),
         (&["--allowance", "5"], "there is no subcommand `--allowance`"),
@@ -193,6 +238,9 @@ fn wrong_usage_is_told_and_points_to_the_help() {
         (&["rewrite"], "rewrite: no FILE is given"),
         (&["rewrite", &file, &file], &format!("rewrite: `{file}` is one word too many")),
         (&["rewrite", "--allowance", "1", &file], "rewrite: there is no option `--allowance`"),
+        (&["text"], "text: no FILE is given"),
+        (&["file"], "file: no TEXT is given"),
+        (&["file", &file, "7"], "file: `7` is one word too many"),
         (&["walk", "--allowance"], "walk: --allowance needs a number of moves"),
         (&["walk", "--allowance", "-1", &file], "walk: --allowance needs a number of moves"),
         (&["check", "--allowance", "1", &file], "check: there is no option `--allowance`"),
@@ -215,7 +263,7 @@ fn wrong_usage_is_told_and_points_to_the_help() {
 fn files_that_cannot_be_read_are_named() {
     let missing = PathBuf::from(env!("CARGO_TARGET_TMPDIR")).join("no-such.task");
     let missing = missing.to_str().expect("a plain path");
-    for subcommand in SUBCOMMANDS {
+    for subcommand in SUBCOMMANDS.into_iter().chain([OF_TEXT]) {
         for path in [missing, env!("CARGO_TARGET_TMPDIR")] {
             let run = run(&[subcommand, path], &[]);
             let begins = format!("adqurim: cannot read {path}: ");
@@ -229,7 +277,7 @@ fn files_that_cannot_be_read_are_named() {
 fn help_of_the_program_and_of_each_subcommand() {
     let of_program = run(&["--help"], &[]);
     assert_eq!((of_program.status.code(), text(&of_program.stderr)), (Some(ACCEPTED), ""));
-    for subcommand in SUBCOMMANDS {
+    for subcommand in SUBCOMMANDS.into_iter().chain([OF_TEXT]) {
         assert!(text(&of_program.stdout).contains(&format!("\n  adqurim {subcommand} ")));
         for words in [[subcommand, "--help"], [subcommand, "-h"]] {
             let run = run(&words, &[]);

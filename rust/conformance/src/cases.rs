@@ -6,6 +6,62 @@ use interpreter::timing::{accept, Accepted};
 /// The order in the sheet of table X.
 pub const ORDER_OF_X: [u8; 8] = [0, 16, 16, 16, 0, 0, 0, 0];
 
+/// The text of table X, by hand: line 2 is task 0, 8 is task 1.
+pub const TEXT_OF_X: &str = "\
+window 5
+start 0 0 0 0 0 0 0 0
+task 2 8 0
+load 0 0
+load 1 0
+equal 0 1 1
+assert 2
+end
+task 1 4 1
+set 0 1
+store 0 0
+end
+";
+
+/// A text with the word of every line, by hand: two tasks and three locks.
+pub const TEXT_OF_ALL: &str = "\
+window 7
+start 0 1 22 255 4 5 6 7
+task 3 40 0
+load 3 7
+store 7 3
+set 0 255
+add 1 2
+subtract 2 1
+less 0 1 7
+equal 3 2 6
+pick 1 15
+acquire 0
+acquire 2
+release 2
+release 0
+assert 1
+end
+task 1 40 4294967295
+end
+lock 0 0
+lock 7 4294967295
+lock 1 12
+";
+
+/// A table with the longest text, 2,091 bytes: each of its lines is as long as it can be.
+pub fn longest_text_table() -> TableDescription {
+    let skips = (10..15).rev().map(|count| code::skip_if_equal(3, 3, count));
+    let sums = (0..10).map(|_| code::subtract(3, 3));
+    let body: Vec<InstructionDescription> = skips.chain(sums).chain([code::end()]).collect();
+    // Three execution times of ten digits and five of nine are the most digits that fit a period.
+    let execution = |task: u32| if task < 3 { 1_000_000_000 } else { 100_000_000 };
+    let task = |number| TaskDescription::new([execution(number), u32::MAX, u32::MAX], &body);
+    let mut table = TableDescription::new(u32::MAX, (0..8).map(task).collect());
+    (table.initial_store, table.ceilings) = ([255; 8], vec![7; 8]);
+    table.holdings = vec![u32::MAX; 8];
+    table
+}
+
 /// Table X of document 01, in walk order: record 1 is task 0, 7 is task 1.
 pub fn table_x() -> TableDescription {
     let reader = [code::load(0, 0), code::load(1, 0), code::skip_if_equal(0, 1, 1), code::assert(2)];

@@ -1,15 +1,18 @@
 //! Calls of the proved entries that must answer as the interpreter does, field by field and byte by
 //! byte.
 
-use crate::entries::{filled, pattern};
+use crate::entries::{amid, filled, pattern, word_pattern};
 use crate::proved::{
-    expected_check_plan, expected_order_to_plan, expected_plan_to_order, expected_replay,
+    expected_check_plan, expected_file_to_text, expected_order_to_plan, expected_plan_to_order,
+    expected_replay, expected_table, expected_text_to_file,
 };
 use binding::raw::{
-    check_plan, order_to_plan, order_to_plan_words, plan_to_order, plan_to_order_words, replay,
-    walk, RunAnswer, WalkAnswer,
+    check_plan, file_to_text, file_to_text_words, order_to_plan, order_to_plan_words,
+    plan_to_order, plan_to_order_words, replay, table, table_words, text_to_file,
+    text_to_file_words, walk, RunAnswer, WalkAnswer, WriteAnswer, WRITE_WORDS,
 };
-use binding::{ORDER_ROOM, PLAN_ROOM};
+use binding::{FILE_ROOM, ORDER_ROOM, PLAN_ROOM, TABLE_ROOM, TEXT_ROOM};
+use generator::Random;
 
 /// Asserts that both replays give one answer.
 pub fn compare_replay(name: &str, file: &[u8], order: &[u8]) -> RunAnswer {
@@ -76,5 +79,74 @@ impl Conversion {
             assert!(buffer == pattern(size), "{}", case());
         }
         expected
+    }
+}
+
+/// Writes something that is made of bytes into a lent buffer, and lent words.
+type Write = fn(&[u8], &mut [u8]) -> WriteAnswer;
+type WriteWords = fn(&[u8], &mut [u8], &mut [u64]) -> bool;
+
+/// An entry of both sides that writes to the front of a buffer and changes nothing past that, the
+/// proved one also with lent words, and the room that it needs.
+pub struct Writing {
+    pub proved: Write,
+    pub words: WriteWords,
+    pub expected: Write,
+    pub room: usize,
+}
+
+pub const TO_MEMORY: Writing =
+    Writing { proved: table, words: table_words, expected: expected_table, room: TABLE_ROOM };
+
+pub const TO_FILE: Writing = Writing {
+    proved: text_to_file,
+    words: text_to_file_words,
+    expected: expected_text_to_file,
+    room: FILE_ROOM,
+};
+
+pub const TO_TEXT: Writing = Writing {
+    proved: file_to_text,
+    words: file_to_text_words,
+    expected: expected_file_to_text,
+    room: TEXT_ROOM,
+};
+
+impl Writing {
+    /// Asserts that both sides give one answer and leave one buffer of those that were like this
+    /// one: what is written at its front, and every other byte as it was.
+    pub fn compare(&self, bytes: &[u8], blank: &[u8]) -> WriteAnswer {
+        let (mut buffer, mut left) = (blank.to_vec(), blank.to_vec());
+        let expected = (self.expected)(bytes, &mut left);
+        let case = || format!("{} bytes lent: {}", blank.len(), shown(bytes));
+        assert_eq!((self.proved)(bytes, &mut buffer), expected, "{}", case());
+        assert!(buffer == left, "the buffers differ, {}", case());
+        let length = expected.length as usize;
+        assert!(buffer[length..] == blank[length..], "past what is written, {}", case());
+        expected
+    }
+
+    /// Lends part of a larger buffer, some words of a larger list, and the bytes amid others. Only
+    /// the three words and what is written change, and nothing without room for the words.
+    pub fn compare_lent(&self, random: &mut Random, bytes: &[u8], size: usize, length: usize) {
+        let (around, at) = amid(random, bytes);
+        let unchanged = around.clone();
+        let (mut buffer, mut words) = (pattern(size + 16), word_pattern(length + 16));
+        let (mut left, mut expected) = (buffer.clone(), words.clone());
+        let room = (self.words)(&around[at], &mut buffer[8..][..size], &mut words[8..][..length]);
+        assert_eq!(room, length >= WRITE_WORDS, "{size} {length}");
+        if room {
+            let answer = (self.expected)(bytes, &mut left[8..][..size]);
+            expected[8..][..WRITE_WORDS].copy_from_slice(&<[u64; WRITE_WORDS]>::from(answer));
+        }
+        assert!(buffer == left && words == expected && around == unchanged, "{size} {length}");
+    }
+}
+
+/// Bytes for a message: a text as it is, a file in numbers.
+fn shown(bytes: &[u8]) -> String {
+    match bytes.first() {
+        Some(1) => format!("{bytes:02x?}"),
+        _ => format!("\"{}\"", bytes.escape_ascii()),
     }
 }

@@ -117,6 +117,17 @@ pub fn expected_write(memory: &[u8; TABLE_ROOM], file: &mut [u8]) -> WriteAnswer
     written_to(interpreter::write(memory, file))
 }
 
+/// What the proved conversion of a text must answer, by the interpreter, and leave in the file's
+/// buffer.
+pub fn expected_text_to_file(text: &[u8], file: &mut [u8]) -> WriteAnswer {
+    written_to(interpreter::text_to_file(text, file))
+}
+
+/// The same for the conversion of a file and the text's buffer.
+pub fn expected_file_to_text(file: &[u8], text: &mut [u8]) -> WriteAnswer {
+    written_to(interpreter::file_to_text(file, text))
+}
+
 /// An answer of the interpreter's writer.
 fn written_to(answer: interpreter::WriteAnswer) -> WriteAnswer {
     let interpreter::WriteAnswer { number, place, length } = answer;

@@ -1,8 +1,10 @@
 //! The entries and their answers: the section "Numbers by who causes them".
 
+use crate::claims::accept_claims;
 use crate::memory::{TaskTable, TABLE_ROOM};
 use crate::numbers::{refuse, Refusal};
 use crate::order::Ending;
+use crate::text::{accept_text, text_of, LONGEST_TEXT};
 use crate::timing::{accept, Accepted, JobRecord, MOST_JOBS};
 use crate::walk::Outcome;
 use crate::{conversion, order, plan, writer};
@@ -12,6 +14,8 @@ pub const ORDER_ROOM: usize = 512;
 pub const PLAN_ROOM: usize = 1281;
 /// E2: "in a buffer of at least 2,320 bytes".
 pub const FILE_ROOM: usize = 2320;
+/// E5: "a target below 2,320 bytes or, for text, below 8,192".
+pub const TEXT_ROOM: usize = LONGEST_TEXT;
 
 /// "the reader its response times (0 past the last task) and job count"
 #[derive(Debug, Clone, PartialEq, Eq, Default)]
@@ -30,8 +34,8 @@ pub struct JobListAnswer {
     pub jobs: usize,
 }
 
-/// The answer of the writer and of what fills a table in memory: "an accepted call also returns the
-/// length of what it wrote".
+/// The answer of the writer, of what fills a table in memory and of the conversions of a text: "an
+/// accepted call also returns the length of what it wrote".
 #[derive(Debug, Clone, PartialEq, Eq, Default)]
 pub struct WriteAnswer {
     pub number: u8,
@@ -98,10 +102,15 @@ fn settle<A: From<Refusal>>(result: Result<A, Refusal>) -> A {
     result.unwrap_or_else(A::from)
 }
 
-/// The file's numbers first, "Then 20": "place 0, buffer untouched."
+/// Number 20: "place 0, buffer untouched."
+fn demand_room(room: usize, needed: usize) -> Result<(), Refusal> {
+    if room < needed { refuse(20, 0) } else { Ok(()) }
+}
+
+/// The file's numbers first, "Then 20".
 fn accept_with_room(file: &[u8], room: usize, needed: usize) -> Result<Accepted, Refusal> {
     let accepted = accept(file)?;
-    if room < needed { refuse(20, 0) } else { Ok(accepted) }
+    demand_room(room, needed).map(|()| accepted)
 }
 
 /// "An accepted conversion or failing walk zero-fills to 512 or 1,281; bytes beyond never change."
@@ -204,13 +213,32 @@ pub fn table(file: &[u8], memory: &mut [u8]) -> WriteAnswer {
     settle(bytes.map(|bytes| write_front(memory, &bytes)))
 }
 
+/// Writes the file of an accepted table, "20 last".
+fn write_file(
+    accepted: Result<Accepted, Refusal>,
+    file_buffer: &mut [u8],
+) -> Result<WriteAnswer, Refusal> {
+    let table = accepted?.table;
+    demand_room(file_buffer.len(), FILE_ROOM)?;
+    Ok(write_front(file_buffer, &writer::lay_out(&table)))
+}
+
 /// E2's writer: "4, 5, 7, 8, 9, 10 and 11 for a bad table ... then 20 for a short buffer, the
 /// buffer untouched."
 pub fn write(memory: &[u8; TABLE_ROOM], file_buffer: &mut [u8]) -> WriteAnswer {
-    let accepted = writer::accept_memory(&TaskTable::from_bytes(memory));
-    let with_room = accepted.and_then(|accepted| match file_buffer.len() < FILE_ROOM {
-        true => refuse(20, 0),
-        false => Ok(writer::lay_out(&accepted.table)),
-    });
-    settle(with_room.map(|file| write_front(file_buffer, &file)))
+    let accepted = accept_claims(&TaskTable::from_bytes(memory).claims());
+    settle(write_file(accepted, file_buffer))
+}
+
+/// E5: converts a text to its file, in walk order: 62, 60 and 61, the table's own numbers at lines,
+/// then 20.
+pub fn text_to_file(text: &[u8], file_buffer: &mut [u8]) -> WriteAnswer {
+    settle(write_file(accept_text(text), file_buffer))
+}
+
+/// E5: converts a file to its text: 1 to 11 at records, then 20.
+pub fn file_to_text(file: &[u8], text_buffer: &mut [u8]) -> WriteAnswer {
+    let accepted = accept_with_room(file, text_buffer.len(), TEXT_ROOM);
+    let text = accepted.map(|accepted| text_of(&accepted.table));
+    settle(text.map(|text| write_front(text_buffer, text.as_bytes())))
 }

@@ -1,6 +1,7 @@
 //! The table in memory of E2 in document 02, which leaves its form to the C interface: counts, and
 //! room for as many parts as document 01 allows, in 696 bytes.
 
+use crate::claims::{ClaimedLock, ClaimedTable, ClaimedTask};
 use crate::file::{wide, Table, Task, MOST_INSTRUCTIONS, MOST_LOCKS, MOST_TASKS};
 use crate::machine::{encode, Store};
 
@@ -78,6 +79,17 @@ impl TaskEntry {
         bytes[BODY..].copy_from_slice(&self.body.concat());
     }
 
+    /// The task that it claims. Instructions past the room are blank: the first is too many.
+    fn claims(&self) -> ClaimedTask {
+        let instruction = |position| self.body.get(position).copied().unwrap_or_default();
+        ClaimedTask {
+            execution: self.execution,
+            period: self.period,
+            first_arrival: self.first_arrival,
+            body: (0..usize::from(self.length)).map(instruction).collect(),
+        }
+    }
+
     fn of(task: &Task) -> TaskEntry {
         let mut entry = TaskEntry {
             execution: task.execution,
@@ -121,6 +133,21 @@ impl TaskTable {
         }
         bytes[HOLDINGS..].copy_from_slice(&self.holdings.map(narrow).concat());
         bytes
+    }
+
+    /// The table that it claims. Tasks and locks past the room are blank: the first is too many.
+    pub fn claims(&self) -> ClaimedTable {
+        let task = |number| self.entries.get(number).map(TaskEntry::claims).unwrap_or_default();
+        let lock = |number| match self.ceilings.get(number) {
+            Some(ceiling) => ClaimedLock { ceiling: *ceiling, holding: self.holdings[number] },
+            None => ClaimedLock::default(),
+        };
+        ClaimedTable {
+            window: self.window,
+            initial_store: self.initial_store,
+            tasks: (0..usize::from(self.tasks)).map(task).collect(),
+            locks: (0..usize::from(self.locks)).map(lock).collect(),
+        }
     }
 
     /// A table that was read, with zeros past its counts.

@@ -1,71 +1,8 @@
 //! E2 of document 02: "a writer that lays a table out in walk order".
 
-use crate::file::{check_rules, demand_field, BodyInstruction, Table, Task, RECORD};
-use crate::machine::{decode, encode};
-use crate::memory::{narrow, TaskEntry, TaskTable};
-use crate::numbers::{refuse, Refusal};
-use crate::timing::{accept_table, Accepted};
-
-/// "4, 5, 7, 8, 9, 10 and 11 for a bad table, in the reader's order, at the index the record would
-/// have had".
-pub fn accept_memory(memory: &TaskTable) -> Result<Accepted, Refusal> {
-    let table = walk_memory(memory)?;
-    check_rules(&table.tasks, &table.ceilings)?;
-    accept_table(table)
-}
-
-/// 4 and 5 as the walk of records meets them: "header, each task followed by its body, then locks".
-/// No index is followed here, so of the reader's "3, 5, 2, 4" only 5 and 4 are left at a record.
-fn walk_memory(memory: &TaskTable) -> Result<Table, Refusal> {
-    demand_field(memory.window >= 1, 0)?;
-    if memory.tasks == 0 {
-        return refuse(5, 0);
-    }
-    let mut tasks: Vec<Task> = Vec::new();
-    let mut record = 1;
-    for number in 0..usize::from(memory.tasks) {
-        // Memory has room for as many tasks as the limit allows: the one without room is too many.
-        let Some(entry) = memory.entries.get(number) else { return refuse(5, record) };
-        tasks.push(walk_task(entry, record)?);
-        record += 1 + usize::from(entry.length);
-    }
-    let ceilings = walk_locks(memory, record)?;
-    // Any holding time is in range.
-    let holdings = memory.holdings[..ceilings.len()].to_vec();
-    let (window, initial_store) = (memory.window, memory.initial_store);
-    Ok(Table { window, initial_store, tasks, ceilings, holdings })
-}
-
-/// A task and its body: "1 ≤ C ≤ P", then "an empty body (place: the holder)".
-fn walk_task(entry: &TaskEntry, record: usize) -> Result<Task, Refusal> {
-    let TaskEntry { execution, period, first_arrival, length, body: room } = *entry;
-    demand_field(1 <= execution && execution <= period, record)?;
-    if length == 0 {
-        return refuse(5, record);
-    }
-    let mut body = Vec::new();
-    for position in 0..usize::from(length) {
-        let record = record + 1 + position;
-        let Some([operation, a, b, c]) = room.get(position) else { return refuse(5, record) };
-        match decode(*operation, *a, *b, *c) {
-            Some(instruction) => body.push(BodyInstruction { record, instruction }),
-            None => return refuse(4, record),
-        }
-    }
-    Ok(Task { record, execution, period, first_arrival, body })
-}
-
-/// The locks, of which the first would be at this record: "ceiling, 0 to 7".
-fn walk_locks(memory: &TaskTable, first: usize) -> Result<Vec<u8>, Refusal> {
-    let mut ceilings = Vec::new();
-    for number in 0..usize::from(memory.locks) {
-        let record = first + number;
-        let Some(ceiling) = memory.ceilings.get(number) else { return refuse(5, record) };
-        demand_field(*ceiling <= 7, record)?;
-        ceilings.push(*ceiling);
-    }
-    Ok(ceilings)
-}
+use crate::file::{Table, Task, RECORD};
+use crate::machine::encode;
+use crate::memory::narrow;
 
 /// The file of a table, "each record once, unused bytes zero".
 pub fn lay_out(table: &Table) -> Vec<u8> {

@@ -1,23 +1,35 @@
-//! The samples of `samples/`: task files that a planner of parcel lanes recognises. Their bytes
-//! come from the descriptions here and their sheets from the interpreter.
+//! The samples of `samples/`: tables that a planner of parcel lanes recognises. Their texts are
+//! written by hand; the task files are made from them, and the sheets from these by the interpreter.
 
 #![forbid(unsafe_code)]
 
-mod tables;
-
-use generator::TableDescription;
+use interpreter::text::file_of_text;
+use std::fs;
 use std::path::{Path, PathBuf};
 
-/// A sample: the name of its files, and its table.
+/// A sample: the name of its files, and its table's text.
 pub struct Sample {
     pub name: &'static str,
-    pub table: TableDescription,
+    pub text: String,
 }
 
+/// Every sample's name, in the order in which they are explained.
+pub const NAMES: [&str; 8] = [
+    "lost-update",
+    "lost-update-locked",
+    "nested-lock",
+    "half-changed-lane",
+    "lane-kept-apart",
+    "long-hold",
+    "slow-sorter",
+    "too-many-orders",
+];
+
 impl Sample {
-    /// The bytes of its task file.
+    /// The bytes of its task file. A sample may show a table that is refused.
     pub fn file(&self) -> Vec<u8> {
-        self.table.write()
+        let file = file_of_text(self.text.as_bytes());
+        file.unwrap_or_else(|refusal| panic!("{}.text: {refusal:?}", self.name))
     }
 
     /// The sheet that the check program has to print.
@@ -26,18 +38,16 @@ impl Sample {
     }
 }
 
-/// Every sample, in the order in which they are explained.
+/// Every sample, in the order of the names.
 pub fn all() -> Vec<Sample> {
-    vec![
-        Sample { name: "lost-update", table: tables::lost_update() },
-        Sample { name: "lost-update-locked", table: tables::lost_update_locked() },
-        Sample { name: "nested-lock", table: tables::nested_lock() },
-        Sample { name: "half-changed-lane", table: tables::half_changed_lane() },
-        Sample { name: "lane-kept-apart", table: tables::lane_kept_apart() },
-        Sample { name: "long-hold", table: tables::long_hold() },
-        Sample { name: "slow-sorter", table: tables::slow_sorter() },
-        Sample { name: "too-many-orders", table: tables::too_many_orders() },
-    ]
+    NAMES.map(named).into()
+}
+
+/// The sample with this name.
+pub fn named(name: &'static str) -> Sample {
+    let path = path(name, "text");
+    let text = fs::read_to_string(&path);
+    Sample { name, text: text.unwrap_or_else(|error| panic!("{}: {error}", path.display())) }
 }
 
 /// The directory of the samples.
@@ -45,7 +55,7 @@ pub fn directory() -> PathBuf {
     Path::new(env!("CARGO_MANIFEST_DIR")).join("../../samples")
 }
 
-/// The path of a sample's file with this extension: `task`, `sheet` or `md`.
+/// The path of a sample's file with this extension: `text`, `task`, `sheet` or `md`.
 pub fn path(name: &str, extension: &str) -> PathBuf {
     directory().join(name).with_extension(extension)
 }

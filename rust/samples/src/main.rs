@@ -1,4 +1,4 @@
-//! Rewrites the task file and the sheet of every sample.
+//! Rewrites the task file and the sheet of every sample from its text.
 
 use std::{env, fs, io};
 

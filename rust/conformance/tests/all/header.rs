@@ -2,11 +2,11 @@
 
 use binding::raw::{
     Verdict, CHECK_PLAN_WORDS, CONVERSION_WORDS, JOBS_WORDS, READ_WORDS, REPLAY_WORDS, SHEET_WORDS,
-    TABLE_WORDS, WALK_WORDS, WRITE_WORDS,
+    TABLE_WORDS, TEXT_WORDS, WALK_WORDS, WRITE_WORDS,
 };
 use binding::{
     Place, Rule, FILE_ROOM, JOB_LIST_ROOM, MOST_INSTRUCTIONS, MOST_JOBS, MOST_LOCKS, MOST_TASKS,
-    ORDER_ROOM, PLAN_ROOM, SHEET_ALLOWANCE, SHEET_ROOM, TABLE_ROOM, VARIABLES,
+    ORDER_ROOM, PLAN_ROOM, SHEET_ALLOWANCE, SHEET_ROOM, TABLE_ROOM, TEXT_ROOM, VARIABLES,
 };
 use std::collections::{BTreeMap, BTreeSet};
 
@@ -52,7 +52,7 @@ fn declared<'a>(text: &'a str, words: &str) -> BTreeSet<&'a str> {
 #[test]
 fn every_entry_of_the_header_is_bound() {
     let entries = declared(HEADER, "bool ");
-    assert_eq!(entries.len(), 10);
+    assert_eq!(entries.len(), 12);
     assert_eq!(entries, declared(BOUND, "pub fn "));
 }
 
@@ -60,7 +60,7 @@ fn every_entry_of_the_header_is_bound() {
 fn every_rule_has_its_number_in_the_header() {
     let name = |rule: Rule| (format!("ADQURIM_{}", rule.name()), rule.number());
     let mut rules: Named = Rule::all().map(name).collect();
-    assert_eq!(rules.len(), 24);
+    assert_eq!(rules.len(), 27);
     rules.insert("ADQURIM_ACCEPTED".to_string(), 0);
     assert_eq!(enumerators("adqurim_number"), rules);
 }
@@ -89,6 +89,7 @@ fn every_constant_is_in_the_header() {
         ("ADQURIM_SHEET_ROOM", SHEET_ROOM),
         ("ADQURIM_TABLE_ROOM", TABLE_ROOM),
         ("ADQURIM_FILE_ROOM", FILE_ROOM),
+        ("ADQURIM_TEXT_ROOM", TEXT_ROOM),
         ("ADQURIM_SHEET_ALLOWANCE", SHEET_ALLOWANCE as usize),
         ("ADQURIM_READ_WORDS", READ_WORDS),
         ("ADQURIM_REPLAY_WORDS", REPLAY_WORDS),
@@ -99,6 +100,7 @@ fn every_constant_is_in_the_header() {
         ("ADQURIM_JOBS_WORDS", JOBS_WORDS),
         ("ADQURIM_TABLE_WORDS", TABLE_WORDS),
         ("ADQURIM_WRITE_WORDS", WRITE_WORDS),
+        ("ADQURIM_TEXT_WORDS", TEXT_WORDS),
     ];
     assert_eq!(constants(), named(expected.map(|(name, size)| (name, size as u64))));
 }
@@ -110,7 +112,8 @@ fn mends(number: u64) -> &'static str {
         10..=11 => "the bench, which supplies the times",
         20..=21 => "the caller",
         30..=34 => "the author of the order",
-        _ => "the author of the plan",
+        40..=45 => "the author of the plan",
+        _ => "the author of the text",
     }
 }
 

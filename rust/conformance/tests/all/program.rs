@@ -1,11 +1,12 @@
-//! The built check program and the script `check` at the root, run on files and pipes, against the
-//! interpreter's sheet.
+//! The built programs, the script `check` at the root over them, run on files, texts and pipes,
+//! against the interpreter's sheet and conversions.
 
-use conformance::cases::{edited, table_x};
+use binding::TEXT_ROOM;
+use conformance::cases::{edited, longest_text_table, table_x, TEXT_OF_ALL, TEXT_OF_X};
 use conformance::families::{long, nest_of_four, refused_files, small};
 use generator::files::{damaged, random_bytes, random_records};
-use generator::{random_race, Random};
-use interpreter::sheet;
+use generator::{random_race, texts, Random};
+use interpreter::{file_to_text, sheet, text_to_file, WriteAnswer};
 use std::fs::{self, File};
 use std::io::{self, Write};
 use std::path::{Path, PathBuf};
@@ -33,16 +34,27 @@ fn root() -> PathBuf {
     Path::new(env!("CARGO_MANIFEST_DIR")).join("../..")
 }
 
-/// The check program. It is built with the proofs, before these tests.
-fn program() -> Command {
-    let built = root().join("target/bin/sheet");
-    assert!(built.is_file(), "{} is missing: run `rt check sheet`", built.display());
+/// A program, which is built with the proofs, before these tests.
+fn built(name: &str) -> Command {
+    let built = root().join("target/bin").join(name);
+    assert!(built.is_file(), "{} is missing: run `rt check {name}`", built.display());
     Command::new(built)
+}
+
+/// The check program.
+fn program() -> Command {
+    built("sheet")
+}
+
+/// The program that converts a text to its file and a file to its text.
+fn converter() -> Command {
+    built("text")
 }
 
 /// The script, with these words.
 fn script(words: &[&str]) -> Command {
     program();
+    converter();
     let mut command = Command::new(root().join("check"));
     command.args(words);
     command
@@ -227,9 +239,11 @@ fn the_script_without_a_file_that_can_be_read() {
 #[test]
 fn the_script_says_how_it_is_used() {
     let (asked, wrong) = (run_on(script(&["--help"]), &[]), run_on(script(&["a", "b"]), &[]));
-    assert!(text(&asked.stdout).starts_with("usage: ./check [FILE]"));
+    assert!(text(&asked.stdout).starts_with("usage: ./check [--text] [FILE]"));
     assert_eq!((&asked.stdout, &asked.stderr), (&wrong.stderr, &wrong.stdout));
     assert_eq!((asked.status.code(), wrong.status.code()), (Some(0), Some(NO_FILE)));
+    let wrong = run_on(script(&["--text", "a", "b"]), &[]);
+    assert_eq!((&asked.stdout, wrong.status.code()), (&wrong.stderr, Some(NO_FILE)));
 }
 
 #[test]
@@ -238,4 +252,147 @@ fn the_readme_shows_the_sheet_of_its_command() {
     let command = format!("    ./check samples/{}.task\n", sample.name);
     let lines: String = sample.sheet().lines().map(|line| format!("    {line}\n")).collect();
     assert!(README.contains(&command) && README.contains(&lines));
+}
+
+/// What the converter has to write: the other form of a text or a file, or the refusal's line.
+fn converted(bytes: &[u8]) -> Vec<u8> {
+    let mut buffer = vec![0; TEXT_ROOM];
+    let is_text = bytes.first() == Some(&b'w');
+    let convert = if is_text { text_to_file } else { file_to_text };
+    let WriteAnswer { number, place, length } = convert(bytes, &mut buffer);
+    match number {
+        0 => buffer[..length].to_vec(),
+        _ => format!("refused {number} {place}\n").into_bytes(),
+    }
+}
+
+#[test]
+fn the_converter_on_files_and_texts() {
+    let mut random = Random::new(822);
+    let mut inputs: Vec<Vec<u8>> =
+        [TEXT_OF_X, TEXT_OF_ALL, "", "w", "window 1\n"].map(|text| text.as_bytes().into()).into();
+    inputs.extend([longest_text_table().text(), longest_text_table().write()]);
+    inputs.extend(samples::all().into_iter().map(|sample| sample.text.into_bytes()));
+    inputs.extend(files().into_iter().step_by(5));
+    inputs.extend(texts::uniform());
+    let makes = [texts::good, texts::wrong_lines, texts::wrong_words, texts::many_lines];
+    for make in [&makes[..], &[texts::wrong_bytes, texts::cut_short]].concat() {
+        inputs.extend((0..25).map(|_| make(&mut random)));
+    }
+    for input in inputs {
+        let output = run_on(converter(), &input);
+        assert!(output.stdout == converted(&input), "{}", input.escape_ascii());
+        assert_eq!((text(&output.stderr), output.status.code()), ("", Some(0)));
+    }
+}
+
+#[test]
+fn the_converter_reads_single_bytes_and_no_more_than_it_has_to() {
+    let output = run(converter(), |input| write_slowly(input, TEXT_OF_X.as_bytes()));
+    assert_eq!(output.stdout, table_x().write());
+    let output = run(converter(), |input| write_slowly(input, &table_x().write()));
+    assert_eq!(text(&output.stdout), TEXT_OF_X);
+    let mut written = 0;
+    let output = run(converter(), |input| written = write_on(input));
+    assert!(written < ENDLESS, "all was read");
+    assert_eq!(text(&output.stdout), "refused 1 0\n");
+}
+
+/// The sheet of a text is that of its file. The slow sorter's text is refused at its line.
+#[test]
+fn the_script_on_every_sample_as_a_text() {
+    for sample in samples::all() {
+        let name = format!("{}.text", sample.name);
+        let mut by_name = script(&[&name]);
+        by_name.current_dir(samples::directory());
+        let of_file = run_on(script(&["-"]), &sample.file());
+        for output in [run_on(by_name, &[]), run_on(script(&[]), sample.text.as_bytes())] {
+            assert_eq!(output.status, of_file.status, "{name}");
+            let sheet = sample.sheet().replace("refused 10 1", "refused 10 2");
+            assert_eq!(text(&output.stdout), sheet, "{name}");
+        }
+    }
+}
+
+#[test]
+fn the_script_prints_the_text() {
+    for sample in samples::all().iter().filter(|sample| sample.name != "slow-sorter") {
+        let name = format!("{}.task", sample.name);
+        let mut by_name = script(&["--text", &name]);
+        by_name.current_dir(samples::directory());
+        for output in [
+            run_on(by_name, &[]),
+            run_on(script(&["--text"]), &sample.file()),
+            run_on(script(&["--text", "-"]), sample.text.as_bytes()),
+        ] {
+            let printed = (text(&output.stdout), text(&output.stderr), output.status.code());
+            assert_eq!(printed, (&sample.text[..], "", Some(HOLDS)), "{name}");
+        }
+    }
+    let refused = edited(&table_x().write(), &[(8 * 16, 9)]);
+    let output = run_on(script(&["--text"]), &refused);
+    assert_eq!((text(&output.stdout), output.status.code()), ("refused 2 8\n", Some(REFUSED)));
+    let says = "check: record 8 (instruction 0 of task 1) has the wrong kind for its chain (2)\n";
+    assert_eq!(text(&output.stderr), says);
+}
+
+/// Asserts what the script says of a text that is refused, whether the sheet or the text is wanted.
+fn assert_explains(input: &[u8], refused: &str, says: &str) {
+    for words in [&["-"][..], &["--text"]] {
+        let output = run_on(script(words), input);
+        let found = (text(&output.stdout), text(&output.stderr));
+        assert_eq!(found, (&format!("{refused}\n")[..], &format!("check: {says}\n")[..]));
+        assert_eq!(output.status.code(), Some(REFUSED));
+    }
+}
+
+#[test]
+fn the_script_shows_the_line_of_a_text_that_is_refused() {
+    let x = |from: &str, to: &str| TEXT_OF_X.replacen(from, to, 1).into_bytes();
+    #[rustfmt::skip]
+    let cases = [
+        (x("load 0", "lod 0"), "refused 60 3",
+            "line 3 \"lod 0 0\" is not in the grammar of texts (60)"),
+        (x("load 0", "load\t0\0"), "refused 60 3",
+            "line 3 \"load?0? 0\" is not in the grammar of texts (60)"),
+        (b"window 5\n".to_vec(), "refused 60 1", "line 1 is missing (60)"),
+        (b"window 5".to_vec(), "refused 60 0",
+            "line 0 \"window 5\" has no newline at its end (60)"),
+        ([TEXT_OF_X.as_bytes(), b"lock 0 \0"].concat(), "refused 60 12",
+            "line 12 \"lock 0 ?\" has no newline at its end (60)"),
+        (x("load 0", "load 256"), "refused 61 3",
+            "line 3 \"load 256 0\" has a number that is too large for its field (61)"),
+        (vec![b'w'; 9_000], "refused 62 0", "the text has more than 8,192 bytes (62)"),
+        (x("window 5", "window 0"), "refused 4 0",
+            "line 0 \"window 0\" (the header) has a value out of range, or an unused byte that is \
+             not zero (4)"),
+        (x("task 1 4", "task 1 9"), "refused 8 8",
+            "line 8 \"task 1 9 1\" (task 1) is a task with a period above the previous task's (8)"),
+        (x("set 0 1", "acquire 5"), "refused 9 9",
+            "line 9 \"acquire 5\" (instruction 0 of task 1) acquires or releases a lock that is not \
+             in the table, or whose ceiling is below the task (9)"),
+        ([TEXT_OF_X.as_bytes(), b"lock 0 0\nlock 8 0\n"].concat(), "refused 4 13",
+            "line 13 \"lock 8 0\" (lock 1) has a value out of range, or an unused byte that is not \
+             zero (4)"),
+        (x("window 5", "window 999"), "refused 11 0",
+            "there are more than 32 jobs in the window (11)"),
+    ];
+    for (input, refused, says) in cases {
+        assert_explains(&input, refused, says);
+    }
+    let long = format!("window {}\n", "9".repeat(8_000));
+    let shown = format!("line 0 \"window {}\"", "9".repeat(53));
+    let says = format!("{shown} has a number that is too large for its field (61)");
+    assert_explains(long.as_bytes(), "refused 61 0", &says);
+}
+
+/// What begins with another letter than the first of `window` is taken for a file, and the script
+/// says so.
+#[test]
+fn the_script_says_what_it_took_for_a_file() {
+    for begin in ["Window 5\n", " window 5\n", "task 1 1 0\n", "\u{feff}window 5\n"] {
+        let says = explained(begin.as_bytes());
+        let taken = "it was taken for a task file, since it does not begin with the word window";
+        assert!(says.ends_with(&format!("\ncheck: {taken}\n")), "{says}");
+    }
 }

@@ -8,8 +8,8 @@ use conformance::families::refused_files;
 use generator::{code, TableDescription, TaskDescription};
 use std::collections::BTreeSet;
 
-/// The numbers and names of document 01, and document 02's 33 and 34.
-const NAMES: [(u64, &str); 24] = [
+/// The numbers and names of document 01, and document 02's 33, 34 and 60 to 62.
+const NAMES: [(u64, &str); 27] = [
     (1, "SIZE"),
     (2, "KIND"),
     (3, "CHAIN"),
@@ -34,17 +34,21 @@ const NAMES: [(u64, &str); 24] = [
     (43, "ORDER"),
     (44, "LOCK"),
     (45, "GUESS"),
+    (60, "LINE"),
+    (61, "LARGE"),
+    (62, "LONG"),
 ];
 
 /// What the place is, by the papers: the number says whose.
 fn place_by_document(number: u64) -> Place {
     match number {
-        1 | 11 | 20 | 21 => Place::Nowhere,
+        1 | 11 | 20 | 21 | 62 => Place::Nowhere,
         2..=10 => Place::Record,
         30..=34 => Place::Step,
         40..=42 => Place::Offset,
         43 | 44 => Place::Job,
-        _ => Place::Round,
+        45 => Place::Round,
+        _ => Place::Line,
     }
 }
 
@@ -111,6 +115,9 @@ fn some_messages_whole() {
         (44, 1, "job 1 and a job with a higher number nest, but the outer one's priority is not \
             below the inner one's base (44 LOCK)"),
         (45, 1, "round 1 is the lowest with a wrong guess (45 GUESS)"),
+        (60, 3, "line 3 is not in the grammar of texts, or is missing (60 LINE)"),
+        (61, 3, "line 3 has a number that is too large for its field (61 LARGE)"),
+        (62, 0, "the text has more than 8,192 bytes (62 LONG)"),
         (12, 4, "refused by the unknown number 12 at place 4"),
         (u64::MAX, 0, "refused by the unknown number 18446744073709551615 at place 0"),
     ];
@@ -142,7 +149,7 @@ fn steps_with_the_order_at_hand() {
 #[test]
 fn other_refusals_with_an_order_at_hand() {
     let order = [0, 80, 23];
-    for number in (0..=60).chain([u64::MAX]) {
+    for number in (0..=70).chain([u64::MAX]) {
         for place in [0, 2, 3, 1_281, u64::MAX] {
             let refusal = Refusal { number, place };
             let is_step = [30, 33, 34].contains(&number) && place < 3;
@@ -246,7 +253,7 @@ fn times(execution: u32, period: u32) -> TaskEntry {
 #[test]
 fn other_refusals_with_a_table_at_hand() {
     let table = x_with_locks();
-    for number in (0..=60).chain([u64::MAX]) {
+    for number in (0..=70).chain([u64::MAX]) {
         for place in [0, 1, 2, 7, 10, 11, 12, 13, 1_281, u64::MAX] {
             let refusal = Refusal { number, place };
             let says = refusal.in_table(&table).to_string();
@@ -309,6 +316,16 @@ fn given_before_plans() -> Vec<(u8, usize)> {
     given
 }
 
+/// Numbers and places that the interpreter gives to texts: a line missing, a number too large, a
+/// text too long.
+fn given_to_texts() -> Vec<(u8, usize)> {
+    let give = |text: &[u8]| {
+        let answer = interpreter::text_to_file(text, &mut []);
+        (answer.number, answer.place)
+    };
+    [&b"window 1\n"[..], b"window 4294967296\n", &[b'w'; 8_193]].map(give).into()
+}
+
 /// Numbers and places that the interpreter gives to plans: changes of P10, then P11, then a lock.
 fn given_to_plans() -> Vec<(u8, usize)> {
     let x = table_x().write();
@@ -327,7 +344,8 @@ fn given_to_plans() -> Vec<(u8, usize)> {
 #[test]
 fn every_number_that_the_interpreter_gives_has_a_message() {
     let mut numbers = BTreeSet::new();
-    for (number, place) in given_before_plans().into_iter().chain(given_to_plans()) {
+    let given = given_before_plans().into_iter().chain(given_to_plans()).chain(given_to_texts());
+    for (number, place) in given {
         let (number, place) = (number.into(), place as u64);
         assert_says(Refusal { number, place });
         numbers.insert(number);

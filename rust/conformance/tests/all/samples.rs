@@ -2,14 +2,12 @@
 
 use binding::{JobNumber, Refusal, Verdict};
 use conformance::cases::accepted;
-use generator::{code, TableDescription};
 use interpreter::sheet::SHEET_ALLOWANCE;
-use samples::Sample;
 use std::collections::BTreeSet;
 use std::fs;
 
-/// What stands in the repository for each sample: the file, its sheet, its page.
-const EXTENSIONS: [&str; 3] = ["task", "sheet", "md"];
+/// What stands in the repository for each sample: its text, the file, its sheet, its page.
+const EXTENSIONS: [&str; 4] = ["text", "task", "sheet", "md"];
 
 /// A sample's file with this extension, as it stands in the repository.
 fn committed(name: &str, extension: &str) -> Vec<u8> {
@@ -27,9 +25,20 @@ fn page(name: &str) -> String {
     String::from_utf8(committed(name, "md")).expect("a page is text")
 }
 
-fn table(name: &str) -> TableDescription {
-    let named = |sample: &Sample| sample.name == name;
-    samples::all().into_iter().find(named).expect("a sample has this name").table
+/// The lines of a sample's text.
+fn lines(name: &'static str) -> Vec<String> {
+    samples::named(name).text.lines().map(String::from).collect()
+}
+
+/// The file of these lines, by the proved conversion.
+fn file_of(lines: &[String]) -> Vec<u8> {
+    let text = lines.join("\n") + "\n";
+    binding::text_to_file(text.as_bytes()).unwrap_or_else(|refusal| panic!("{refusal}: {text}"))
+}
+
+/// Where the tasks' lines are.
+fn tasks(lines: &[String]) -> Vec<usize> {
+    (0..lines.len()).filter(|at| first_word(&lines[*at]) == "task").collect()
 }
 
 #[test]
@@ -43,17 +52,47 @@ fn files_and_sheets_are_as_made() {
     }
 }
 
+/// The proved conversions agree with the files: the text of each file is the sample's, and the file
+/// of each text too. That of the slow sorter is refused, at the sorter's line and record.
 #[test]
-fn the_directory_holds_three_files_for_each_sample() {
-    let names = samples::all().into_iter().map(|sample| sample.name);
-    let expected: BTreeSet<String> =
-        names.flat_map(|name| EXTENSIONS.map(|extension| format!("{name}.{extension}"))).collect();
+fn texts_are_those_of_their_files() {
+    for sample in samples::all() {
+        let (text, file) = (sample.text.as_bytes(), task_file(sample.name));
+        match sample.name {
+            "slow-sorter" => {
+                let [at_line, at_record] = [2, 1].map(|place| Refusal { number: 10, place });
+                assert_eq!(binding::text_to_file(text), Err(at_line));
+                assert_eq!(binding::file_to_text(&file), Err(at_record));
+                assert!(page(sample.name).contains("`refused 10 2`"));
+            }
+            name => {
+                assert_eq!(binding::text_to_file(text), Ok(file.clone()), "{name}");
+                assert_eq!(binding::file_to_text(&file), Ok(sample.text.clone()), "{name}");
+            }
+        }
+    }
+}
+
+#[test]
+fn each_page_shows_the_text() {
+    for sample in samples::all() {
+        let shown: String = sample.text.lines().map(|line| format!("    {line}\n")).collect();
+        assert!(page(sample.name).ends_with(&format!("\n\n{shown}")), "{}", sample.name);
+    }
+}
+
+#[test]
+fn the_directory_holds_four_files_for_each_sample() {
+    let expected: BTreeSet<String> = samples::NAMES
+        .into_iter()
+        .flat_map(|name| EXTENSIONS.map(|extension| format!("{name}.{extension}")))
+        .collect();
     let entries = fs::read_dir(samples::directory()).expect("samples/ is there");
     let name = |entry: std::io::Result<fs::DirEntry>| {
         entry.expect("it can be listed").file_name().into_string().expect("a plain name")
     };
     assert_eq!(entries.map(name).collect::<BTreeSet<String>>(), expected);
-    assert_eq!(expected.len(), 24);
+    assert_eq!(expected.len(), 32);
 }
 
 #[test]
@@ -100,40 +139,37 @@ fn the_proved_walk_finds_what_each_sample_shows() {
 
 #[test]
 fn the_locked_sample_is_the_unlocked_one_and_a_lock() {
-    let (plain, mut locked) = (table("lost-update"), table("lost-update-locked"));
-    assert_eq!(locked.ceilings, [1]);
-    locked.ceilings.clear();
-    for task in &mut locked.tasks {
-        let lock_steps = [9, 10]; // Acquire and Release
-        task.body.retain(|instruction| !lock_steps.contains(&instruction.operation));
-    }
-    assert_eq!(locked, plain);
+    let mut locked = lines("lost-update-locked");
+    assert_eq!(locked.last().map(String::as_str), Some("lock 1 0"));
+    locked.retain(|line| !["acquire", "release", "lock"].contains(&first_word(line)));
+    assert_eq!(locked, lines("lost-update"));
 }
 
-/// Where the helper's Acquire stands in each body of the nested sample, its load, and its Release.
-const INNER_ACQUIRE: usize = 1;
-const INNER_LOAD: usize = 2;
-const INNER_RELEASE: usize = 3;
+/// Where the helper's Acquire stands after each task's line of the nested sample, its load, and its
+/// Release.
+const INNER_ACQUIRE: usize = 2;
+const INNER_LOAD: usize = 3;
+const INNER_RELEASE: usize = 4;
 
 #[test]
 fn the_nested_sample_is_the_locked_one_and_a_helper() {
-    let (locked, mut nested) = (table("lost-update-locked"), table("nested-lock"));
-    for task in &mut nested.tasks {
-        assert_eq!(task.body.remove(INNER_RELEASE), code::release(0));
-        assert_eq!(task.body.remove(INNER_ACQUIRE), code::acquire(0));
+    let mut nested = lines("nested-lock");
+    for task in tasks(&nested).into_iter().rev() {
+        assert_eq!(nested.remove(task + INNER_RELEASE), "release 0");
+        assert_eq!(nested.remove(task + INNER_ACQUIRE), "acquire 0");
     }
-    assert_eq!(nested, locked);
+    assert_eq!(nested, lines("lost-update-locked"));
 }
 
 /// Without the helper's Acquire its Release frees the lock. A second load takes the place of the
 /// Acquire, so that each job has as many steps.
 #[test]
 fn the_nested_sample_would_fail_if_the_inner_release_freed() {
-    let mut freed = table("nested-lock");
-    for task in &mut freed.tasks {
-        task.body[INNER_ACQUIRE] = task.body[INNER_LOAD];
+    let mut freed = lines("nested-lock");
+    for task in tasks(&freed) {
+        freed[task + INNER_ACQUIRE] = freed[task + INNER_LOAD].clone();
     }
-    let Ok(Verdict::Fails { order, ending, .. }) = binding::walk(&freed.write(), SHEET_ALLOWANCE)
+    let Ok(Verdict::Fails { order, ending, .. }) = binding::walk(&file_of(&freed), SHEET_ALLOWANCE)
     else {
         panic!("it fails");
     };
@@ -146,23 +182,25 @@ fn the_nested_sample_would_fail_if_the_inner_release_freed() {
 
 #[test]
 fn the_lane_samples_differ_in_one_period() {
-    let (half, mut apart) = (table("half-changed-lane"), table("lane-kept-apart"));
-    assert_eq!((half.tasks[1].period, apart.tasks[1].period), (20, 40));
-    apart.tasks[1].period = 20;
-    assert_eq!(apart, half);
+    let mut apart = lines("lane-kept-apart");
+    let divert = apart.iter_mut().find(|line| *line == "task 10 40 0").expect("it is a line");
+    *divert = "task 10 20 0".to_string();
+    assert_eq!(apart, lines("half-changed-lane"));
 }
 
 /// Without its holding time the sample holds: it is that which lets job 3 preempt job 1.
 #[test]
 fn the_long_hold_would_hold_without_its_holding_time() {
-    let held = table("long-hold");
-    assert_eq!((&held.ceilings[..], &held.holdings[..]), (&[1][..], &[20][..]));
-    let file = TableDescription { holdings: vec![0], ..held.clone() }.write();
+    let mut free = lines("long-hold");
+    let held = file_of(&free);
+    assert_eq!(free.pop().as_deref(), Some("lock 1 20"));
+    free.push("lock 1 0".to_string());
+    let file = file_of(&free);
     assert_eq!(binding::walk(&file, SHEET_ALLOWANCE), Ok(Verdict::Holds { count: 262 }));
     assert!(page("long-hold").contains("`verdict holds 262`"));
     let times = |file: &[u8]| binding::read(file).expect("it is accepted").response_times;
-    assert_eq!((times(&file), times(&held.write())), (vec![70, 30, 10], vec![70, 60, 10]));
-    let [short, long] = [&file, &held.write()].map(|file| accepted(file));
+    assert_eq!((times(&file), times(&held)), (vec![70, 30, 10], vec![70, 60, 10]));
+    let [short, long] = [&file, &held].map(|file| accepted(file));
     let (change, divert) = (interpreter::JobNumber(1), interpreter::JobNumber(3));
     assert!(short.comes_before(change, divert) && !short.may_preempt(divert, change));
     assert!(long.may_preempt(divert, change) && !long.comes_before(change, divert));
@@ -170,11 +208,11 @@ fn the_long_hold_would_hold_without_its_holding_time() {
 
 #[test]
 fn the_slow_sorter_has_the_times_of_p4() {
-    let tasks = table("slow-sorter").tasks;
-    let times: Vec<(u32, u32)> = tasks.iter().map(|task| (task.execution, task.period)).collect();
-    assert_eq!(times, [(3_000_000_000, 4_000_000_000), (1_500_000_000, 3_000_000_000)]);
+    let lines = lines("slow-sorter");
+    let times: Vec<&str> = tasks(&lines).into_iter().map(|at| &lines[at][..]).collect();
+    assert_eq!(times, ["task 3000000000 4000000000 0", "task 1500000000 3000000000 0"]);
     // What a sum in 32 bits would make of the sorter's time, which is below its period.
-    assert_eq!(times[0].0.wrapping_add(times[1].0), 205_032_704);
+    assert_eq!(3_000_000_000_u32.wrapping_add(1_500_000_000), 205_032_704);
 }
 
 #[test]

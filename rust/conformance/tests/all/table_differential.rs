@@ -1,12 +1,12 @@
 //! The proved entry that fills a table in memory from a file, called through its C interface,
 //! against the interpreter: the answer, every byte of the lent memory, and the lent words.
 
-use binding::raw::{table, table_words, WriteAnswer, TABLE_WORDS};
+use binding::raw::{table, WriteAnswer, TABLE_WORDS};
 use binding::TABLE_ROOM;
 use conformance::cases::{edited, full_table, table_x};
-use conformance::entries::{amid, pattern, word_pattern};
+use conformance::comparison::TO_MEMORY;
+use conformance::entries::pattern;
 use conformance::families::*;
-use conformance::proved::expected_table;
 use generator::files::{damaged, random_bytes, random_records};
 use generator::hostile::hostile_files;
 use generator::{random_nest, random_race, Random};
@@ -23,17 +23,9 @@ const FAMILIES: [Family; 8] = [
     Family { name: "the largest table", seed: 827, tables: 200, make: largest_with_assertions },
 ];
 
-/// Asserts that both sides give one answer and leave one memory of this size: the table at its
-/// front, and every other byte as it was.
+/// Asserts that both sides give one answer and leave one memory of this size.
 pub(crate) fn compare(file: &[u8], size: usize) -> WriteAnswer {
-    let (mut memory, mut left) = (pattern(size), pattern(size));
-    let expected = expected_table(file, &mut left);
-    let case = || format!("{size} bytes lent: {file:02x?}");
-    assert_eq!(table(file, &mut memory), expected, "{}", case());
-    assert!(memory == left, "the tables differ, {}", case());
-    let length = expected.length as usize;
-    assert!(memory[length..] == pattern(size)[length..], "{}", case());
-    expected
+    TO_MEMORY.compare(file, &pattern(size))
 }
 
 #[test]
@@ -96,22 +88,6 @@ fn memory_of_every_size() {
     }
 }
 
-/// Lends part of a larger memory, some words of a larger list, and the file amid other bytes. Only
-/// the three words and the table's bytes change, and none without room for the words.
-fn compare_lent(random: &mut Random, file: &[u8], size: usize, length: usize) {
-    let (files, at) = amid(random, file);
-    let unchanged = files.clone();
-    let (mut memory, mut words) = (pattern(size + 16), word_pattern(length + 16));
-    let (mut left, mut expected) = (memory.clone(), words.clone());
-    let room = table_words(&files[at], &mut memory[8..][..size], &mut words[8..][..length]);
-    assert_eq!(room, length >= TABLE_WORDS);
-    if room {
-        let answer = expected_table(file, &mut left[8..][..size]);
-        expected[8..][..TABLE_WORDS].copy_from_slice(&<[u64; TABLE_WORDS]>::from(answer));
-    }
-    assert!(memory == left && words == expected && files == unchanged, "{size} {length}");
-}
-
 #[test]
 fn lent_memory_and_answers_of_many_lengths() {
     let mut random = Random::new(829);
@@ -119,7 +95,7 @@ fn lent_memory_and_answers_of_many_lengths() {
     for file in [&x[..], &x[..17], &[], &full] {
         for length in 0..=2 * TABLE_WORDS {
             for size in (0..3).chain(TABLE_ROOM - 3..TABLE_ROOM + 3).chain([2 * TABLE_ROOM]) {
-                compare_lent(&mut random, file, size, length);
+                TO_MEMORY.compare_lent(&mut random, file, size, length);
             }
         }
     }

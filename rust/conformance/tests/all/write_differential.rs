@@ -6,9 +6,10 @@ use binding::{FILE_ROOM, TABLE_ROOM};
 use conformance::cases::{full_table, table_x};
 use conformance::entries::{amid, pattern, word_pattern};
 use conformance::proved::expected_write;
+use conformance::tally::Tally;
 use generator::memory::*;
 use generator::{random_table, Random, Sizes};
-use std::collections::{BTreeMap, BTreeSet};
+use std::collections::BTreeSet;
 use std::time::Instant;
 
 /// A family of tables in memory: its seed, how many there are, and how one is made.
@@ -46,33 +47,6 @@ fn litter_alone(random: &mut Random) -> Memory {
     memory
 }
 
-/// How often each number came up, and at which places.
-#[derive(Debug, Default)]
-struct Tally {
-    times: BTreeMap<u64, u64>,
-    places: BTreeMap<u64, BTreeSet<u64>>,
-    /// How often a file was written of so many records.
-    records: BTreeMap<u64, u64>,
-}
-
-impl Tally {
-    fn note(&mut self, answer: WriteAnswer) {
-        *self.times.entry(answer.number).or_default() += 1;
-        self.places.entry(answer.number).or_default().insert(answer.place);
-        if answer.number == 0 {
-            *self.records.entry(answer.length / 16).or_default() += 1;
-        }
-    }
-
-    fn times(&self, number: u64) -> u64 {
-        self.times.get(&number).copied().unwrap_or(0)
-    }
-
-    fn places(&self, number: u64) -> usize {
-        self.places.get(&number).map_or(0, BTreeSet::len)
-    }
-}
-
 /// Asserts that both sides give one answer and leave one buffer: the file at its front, and every
 /// other byte as it was.
 pub(crate) fn compare(memory: &Memory, blank: &[u8]) -> WriteAnswer {
@@ -98,26 +72,29 @@ fn some_size(random: &mut Random) -> usize {
 #[test]
 fn tables_good_and_bad() {
     let (begin, blank) = (Instant::now(), pattern(LONGEST));
-    let mut tally = Tally::default();
+    let (mut tally, mut lengths) = (Tally::default(), BTreeSet::new());
     for Family { name, seed, tables, make } in FAMILIES {
         let mut random = Random::new(seed);
         for _ in 0..tables {
             let memory = make(&mut random);
-            tally.note(compare(&memory, &blank[..some_size(&mut random)]));
+            let answer = compare(&memory, &blank[..some_size(&mut random)]);
+            tally.note(answer.number, answer.place);
+            lengths.insert(answer.length);
         }
-        println!("{name}: {:?} {:?}", tally.times, begin.elapsed());
+        println!("{name}: {} {:?}", tally.shown(), begin.elapsed());
     }
-    let tables: u64 = tally.times.values().sum();
-    let places: Vec<(u64, usize)> = NUMBERS.map(|number| (number, tally.places(number))).into();
-    println!("{tables} tables, places {places:?}, records {:?}", tally.records.len());
-    assert!(tables >= 200_000);
-    assert_eq!(tally.times.keys().copied().collect::<Vec<u64>>(), NUMBERS);
-    assert!(NUMBERS.iter().all(|number| tally.times(*number) >= 500), "{:?}", tally.times);
+    println!("{} tables, files of {} lengths", tally.all(), lengths.len());
+    assert!(tally.all() >= 200_000);
+    assert_eq!(tally.numbers(), NUMBERS);
+    assert!(NUMBERS.iter().all(|number| tally.times(*number) >= 500), "{}", tally.shown());
     // A place is far from fixed where it names a record, and 0 where it does not.
-    assert!([4, 5, 7].iter().all(|number| tally.places(*number) >= 100), "{places:?}");
-    assert!([8, 9, 10].iter().all(|number| tally.places(*number) >= 60), "{places:?}");
-    assert!([0, 11, 20].iter().all(|number| tally.places(*number) == 1), "{places:?}");
-    assert!(tally.records.len() >= 100);
+    let places = |numbers: &[u64], at: fn(usize) -> bool| {
+        assert!(numbers.iter().all(|number| at(tally.places(*number))), "{}", tally.shown());
+    };
+    places(&[4, 5, 7], |places| places >= 100);
+    places(&[8, 9, 10], |places| places >= 60);
+    places(&[0, 11, 20], |places| places == 1);
+    assert!(lengths.len() > 100);
 }
 
 /// Every count from 0 to 255 of each kind, over good parts and over litter.
@@ -153,12 +130,13 @@ fn every_single_byte() {
             for change in [1, 2, 3, 7, 8, 16, 127, 128, 254, 255] {
                 let mut changed = memory;
                 changed[at] = changed[at].wrapping_add(change);
-                tally.note(compare(&changed, &blank));
+                let answer = compare(&changed, &blank);
+                tally.note(answer.number, answer.place);
             }
         }
     }
-    println!("{:?}", tally.times);
-    assert!(NUMBERS[..8].iter().all(|number| tally.times(*number) > 0), "{:?}", tally.times);
+    println!("{}", tally.shown());
+    assert!(NUMBERS[..8].iter().all(|number| tally.times(*number) > 0), "{}", tally.shown());
 }
 
 /// What stands past the counts and in unused bytes changes neither answer nor file.

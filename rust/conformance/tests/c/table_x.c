@@ -1,7 +1,8 @@
 /*
  * Table X of document 01 through the C interface: read, replayed, walked with allowances 23 and 22,
  * its order converted to its plan and back, its sheet printed, its jobs listed, its table edited in
- * memory and written. Says the first result that is not the papers', and returns 1.
+ * memory and written, its text converted to its file and back. Says the first result that is not the
+ * papers', and returns 1.
  */
 #include "adqurim.h"
 #include "table_x.h"
@@ -442,6 +443,85 @@ static void table_words(void) {
     expect("word 2", words[2], sizeof table_x);
 }
 
+/* The text becomes table X's file, and the file the text again; bytes past both are unchanged. */
+static void text_of_table_x(void) {
+    adqurim_write_answer answer;
+    const size_t length = sizeof text_of_x - 1;
+    uint8_t file[ADQURIM_FILE_ROOM + 2], text[ADQURIM_TEXT_ROOM + 2];
+    memset(&answer, FILL, sizeof answer);
+    memset(file, FILL, sizeof file);
+    memset(text, FILL, sizeof text);
+    uint64_t number = adqurim_convert_text((const uint8_t *)text_of_x, length, file, sizeof file,
+                                           &answer);
+    expect("text to file", number, ADQURIM_ACCEPTED);
+    expect("place of the text", answer.place, 0);
+    expect("length of the text's file", answer.length, sizeof table_x);
+    expect("the file of the text differs", (uint64_t)(memcmp(file, table_x, sizeof table_x) != 0),
+           0);
+    expect_untouched(file + sizeof table_x, sizeof file - sizeof table_x);
+    memset(&answer, FILL, sizeof answer);
+    number = adqurim_convert_file(table_x, sizeof table_x, text, sizeof text, &answer);
+    expect("file to text", number, ADQURIM_ACCEPTED);
+    expect("place of the file", answer.place, 0);
+    expect("length of the file's text", answer.length, length);
+    expect("the text of the file differs", (uint64_t)(memcmp(text, text_of_x, length) != 0), 0);
+    expect_untouched(text + length, sizeof text - length);
+}
+
+/* A line missing, a number too large, a text too long, and a rule of the table at its line. */
+static void texts_refused(void) {
+    static const uint8_t missing[] = "window 5\n", large[] = "window 4294967296\n";
+    static const uint8_t field[] = "window 5\nstart 0 0 0 0 0 0 0 0\ntask 1 4 0\nload 4 0\nend\n";
+    static const uint8_t newlines[ADQURIM_TEXT_ROOM + 1] = {'\n'};
+    adqurim_write_answer answer;
+    uint8_t file[ADQURIM_FILE_ROOM], text[ADQURIM_TEXT_ROOM];
+    memset(file, FILL, sizeof file);
+    memset(text, FILL, sizeof text);
+    uint64_t number = adqurim_convert_text(missing, sizeof missing - 1, file, sizeof file, &answer);
+    expect("missing line", number, ADQURIM_LINE);
+    expect("place of the missing line", answer.place, 1);
+    number = adqurim_convert_text(large, sizeof large - 1, file, sizeof file, &answer);
+    expect("large number", number, ADQURIM_LARGE);
+    expect("place of the large number", answer.place, 0);
+    number = adqurim_convert_text(newlines, sizeof newlines, file, sizeof file, &answer);
+    expect("long text", number, ADQURIM_LONG);
+    number = adqurim_convert_text(field, sizeof field - 1, file, 0, &answer);
+    expect("field of a text", number, ADQURIM_FIELD);
+    expect("line of the field", answer.place, 3);
+    expect("length of a refused text", answer.length, 0);
+    number = adqurim_convert_text((const uint8_t *)text_of_x, sizeof text_of_x - 1, file,
+                                  sizeof file - 1, &answer);
+    expect("file of 2,319 bytes for a text", number, ADQURIM_ROOM);
+    number = adqurim_convert_file(table_x, sizeof table_x, text, sizeof text - 1, &answer);
+    expect("text of 8,191 bytes", number, ADQURIM_ROOM);
+    number = adqurim_convert_file(table_x, 0, text, sizeof text, &answer);
+    expect("text of no bytes", number, ADQURIM_SIZE);
+    expect_untouched(file, sizeof file);
+    expect_untouched(text, sizeof text);
+}
+
+/* The words without a struct: nothing changes where one is missing. */
+static void text_words(void) {
+    uint64_t words[ADQURIM_TEXT_WORDS] = {7};
+    uint8_t file[ADQURIM_FILE_ROOM], text[ADQURIM_TEXT_ROOM];
+    const uint8_t *lines = (const uint8_t *)text_of_x;
+    memset(file, FILL, sizeof file);
+    memset(text, FILL, sizeof text);
+    bool room = adqurim_text_to_file(lines, sizeof text_of_x - 1, file, sizeof file, words,
+                                     ADQURIM_TEXT_WORDS - 1);
+    expect("room for 2 words of a text's file", room, false);
+    room = adqurim_file_to_text(table_x, sizeof table_x, text, sizeof text, words,
+                                ADQURIM_TEXT_WORDS - 1);
+    expect("room for 2 words of a file's text", room, false);
+    expect("word 0 without room", words[0], 7);
+    expect_untouched(file, sizeof file);
+    expect_untouched(text, sizeof text);
+    room = adqurim_text_to_file(lines, sizeof text_of_x - 1, file, sizeof file, words,
+                                ADQURIM_TEXT_WORDS);
+    expect("room for 3 words of a text's file", room, true);
+    expect("word 2 of a text's file", words[2], sizeof table_x);
+}
+
 int main(void) {
     read_x();
     read_refused();
@@ -462,5 +542,8 @@ int main(void) {
     table_with_lock();
     tables_refused();
     table_words();
+    text_of_table_x();
+    texts_refused();
+    text_words();
     return 0;
 }

@@ -1,6 +1,6 @@
 // The C interface called from C++: table X of document 01 read, replayed, walked, its order
-// converted to its plan and back, its sheet printed, its jobs listed, its table edited and written.
-// Says that something differs from the papers, and returns 1.
+// converted to its plan and back, its sheet printed, its jobs listed, its table edited and written,
+// its text converted to its file and back. Says that something differs from the papers, and returns 1.
 #include "adqurim.h"
 #include "table_x.h"
 
@@ -96,6 +96,23 @@ static bool written() {
     return same && adqurim_write_file(&table, file, sizeof file - 1, &answer) == ADQURIM_ROOM;
 }
 
+// Whether the text becomes table X's file and the file the text again, and a wrong line is refused.
+static bool texts() {
+    adqurim_write_answer answer = {};
+    const auto *lines = reinterpret_cast<const uint8_t *>(text_of_x);
+    const std::size_t length = sizeof text_of_x - 1;
+    uint8_t file[ADQURIM_FILE_ROOM] = {}, text[ADQURIM_TEXT_ROOM] = {};
+    bool same = adqurim_convert_text(lines, length, file, sizeof file, &answer) == ADQURIM_ACCEPTED;
+    same = same && answer.place == 0 && answer.length == sizeof table_x &&
+           std::memcmp(file, table_x, sizeof table_x) == 0;
+    same = same && adqurim_convert_file(table_x, sizeof table_x, text, sizeof text, &answer) ==
+                       ADQURIM_ACCEPTED;
+    same = same && answer.length == length && std::memcmp(text, text_of_x, length) == 0;
+    same = same && adqurim_convert_text(lines, length - 1, file, sizeof file, &answer) ==
+                       ADQURIM_LINE;
+    return same && answer.place == 11 && answer.length == 0;
+}
+
 int main() {
     adqurim_read_answer read = {};
     adqurim_run run = {};
@@ -113,7 +130,7 @@ int main() {
            walk.length == sizeof order_of_x && order[1] == order_of_x[1];
     same = same && adqurim_walk_orders(table_x, sizeof table_x, 22, order, sizeof order,
                                        &walk) == ADQURIM_UNDECIDED;
-    same = same && slips() && there_and_back() && sheet() && jobs() && written();
+    same = same && slips() && there_and_back() && sheet() && jobs() && written() && texts();
     if (!same) {
         std::fprintf(stderr, "table X differs from the papers through C++\n");
     }

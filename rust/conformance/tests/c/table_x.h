@@ -1,6 +1,6 @@
 /*
  * Table X of document 01, by hand: 11 records in walk order, the order of its sheet, that
- * order's plan, which is case P10, and the sheet.
+ * order's plan, which is case P10, its text, and the sheet.
  */
 #ifndef TABLE_X_H
 #define TABLE_X_H
@@ -30,6 +30,19 @@ static const uint8_t plan_of_x[33] = {
     0, 0, 1, 0, 1, 0, 1, 0, 1, 0, /* job 0: rounds 0 1 1 1 1 */
     0, 0, 0, 0, 0, 0,             /* job 1: rounds 0 0 0 */
 };
+
+static const char text_of_x[] = "window 5\n"
+                                "start 0 0 0 0 0 0 0 0\n"
+                                "task 2 8 0\n"
+                                "load 0 0\n"
+                                "load 1 0\n"
+                                "equal 0 1 1\n"
+                                "assert 2\n"
+                                "end\n"
+                                "task 1 4 1\n"
+                                "set 0 1\n"
+                                "store 0 0\n"
+                                "end\n";
 
 static const char sheet_of_x[] = "tasks 2 jobs 2\n"
                                  "task 0 response 3 jobs 1\n"

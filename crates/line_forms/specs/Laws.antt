@@ -1,0 +1,3 @@
+pub mod FieldFitLaws
+pub mod FormNamedLaws
+pub mod RowOfLaws

@@ -1,0 +1,114 @@
+-- Laws of the grammar's rows as the code has them: an operation's by its number, when a line may come, and its fields'
+-- limits.
+-- Assumes nothing.
+use mathlib.Core.Path.{_≡_, refl, sym, ap, _∙_}
+use Prim.Native.Nat.{ℕ, zero, suc, _≤_, _<_}
+use native.Mathlib.Omega.{arith}
+use mathlib.Core.Bool.{true, false}
+use mathlib.Core.List.{[], _∷_}
+use lib.Dec.{leb, eqb}
+use lib.ListN.{length, getD, List·getD-eq-default, List·getD-map}
+use borrow.Author.Tests.{eqb-true, le-leb, lt-leb}
+use Rattle.notation.specs.Lists.{all, same}
+use Rattle.notation.specs.Laws.QuantifierLaws.{all-at}
+use Rattle.notation.specs.Laws.TestLaws.{and-first, and-second}
+use Rattle.machine.specs.Laws.InstructionLaws.{NoneTo}
+use Rattle.sheets.specs.Texts.{Text}
+use Rattle.texts.specs.declared.Form.{Form}
+use Rattle.texts.specs.declared.Form.the-variants.{WindowLine, StartLine, TaskLine, InstructionLine, LockLine}
+use Rattle.texts.specs.Grammar.{Row, rowOf, mayCome, operationRows, byteField, wideField}
+use Rattle.texts.specs.Laws.RowLaws.{usedOf, used-bytes, used-few}
+
+-- ---- the operations
+
+-- End's row past the operations
+operation-past : (o : ℕ) → length operationRows ≤ o → rowOf (InstructionLine o) ≡ rowOf (InstructionLine 0)
+unfolding rowOf operationRows
+operation-past o past = List·getD-eq-default operationRows _ past
+
+none-reaches : (n o : ℕ) → 1 ≤ o → NoneTo n o → n < o
+none-reaches zero o some none = some
+none-reaches (suc n) o some none = omega (arith, none-reaches n o some (none .0))
+
+-- and so of every number that is none of 1 to 11
+pub operation-else : (o : ℕ) → NoneTo 11 o → rowOf (InstructionLine o) ≡ rowOf (InstructionLine 0)
+unfolding operationRows
+operation-else zero none = refl
+operation-else (suc o) none = operation-past (suc o) (none-reaches 11 (suc o) (omega arith) none)
+
+-- the word of an operation by its number, and that of every other number
+pub operation-word : (o k : ℕ) (word : Text) → o ≡ k
+    → same (rowOf (InstructionLine k) .word) word ≡ same (rowOf (InstructionLine o) .word) word
+operation-word o k word e = ap (λ (i : ℕ). same (rowOf (InstructionLine i) .word) word) (sym e)
+
+pub operation-other : (o : ℕ) (word : Text) → NoneTo 11 o
+    → same (rowOf (InstructionLine 0) .word) word ≡ same (rowOf (InstructionLine o) .word) word
+operation-other o word none = ap (λ (r : Row). same (r .word) word) (sym (operation-else o none))
+
+-- how many fields each has, as an array
+pub operation-counts : (o : ℕ)
+    → getD (0 ∷ 2 ∷ 2 ∷ 2 ∷ 2 ∷ 2 ∷ 3 ∷ 3 ∷ 2 ∷ 1 ∷ 1 ∷ 1 ∷ []) o 0 ≡ length (rowOf (InstructionLine o) .fields)
+unfolding rowOf operationRows
+operation-counts o = List·getD-map (λ (r : Row). length (r .fields)) operationRows o _
+
+pub fields-past : (o : ℕ) → 12 ≤ o → 0 ≡ length (rowOf (InstructionLine o) .fields)
+unfolding rowOf operationRows
+fields-past o past = sym (ap (λ (r : Row). length (r .fields)) (operation-past o past))
+
+-- ---- the forms
+
+-- a line comes before its first stage, or is held against its last
+pub come-early : (stage : ℕ) (form : Form) {first : ℕ} → first ≡ rowOf form .earliest → stage < first
+    → false ≡ mayCome stage (rowOf form)
+unfolding mayCome
+come-early stage form is lt =
+    sym (and-first _ (leb stage (rowOf form .latest)) (lt-leb (rowOf form .earliest) stage (omega (arith, is))))
+
+pub come-late : (stage : ℕ) (form : Form) {first last : ℕ} → first ≡ rowOf form .earliest → first ≤ stage
+    → last ≡ rowOf form .latest → leb stage last ≡ mayCome stage (rowOf form)
+unfolding mayCome
+come-late stage form is le isLast =
+    ap (leb stage) isLast
+    ∙ sym (and-second _ (leb stage (rowOf form .latest)) (le-leb (rowOf form .earliest) stage (omega (arith, is))))
+
+-- the limit of a form's field: where all limits are one, and a lock's
+abbrev pub Limit : ℕ → ℕ → Form → Type 0
+Limit limit k form = k < length (rowOf form .fields) → limit ≡ getD (rowOf form .fields) k 0
+
+module _ (k : ℕ) where
+  limit-shared : (form : Form) (limit : ℕ) → all (λ other. eqb other limit) (rowOf form .fields) ≡ true
+      → Limit limit k form
+  limit-shared form limit holds lt =
+      sym (eqb-true _ _ (all-at (λ other. eqb other limit) (rowOf form .fields) k 0 holds lt))
+
+  pub limit-window : Limit wideField k WindowLine
+  unfolding rowOf all
+  limit-window = limit-shared WindowLine wideField refl
+
+  pub limit-start : Limit byteField k StartLine
+  unfolding rowOf all
+  limit-start = limit-shared StartLine byteField refl
+
+  pub limit-task : Limit wideField k TaskLine
+  unfolding rowOf all
+  limit-task = limit-shared TaskLine wideField refl
+
+  pub limit-operation : (o : ℕ) → Limit byteField k (InstructionLine o)
+  limit-operation o = limit-shared (InstructionLine o) byteField (used-bytes o)
+
+  pub limit-ceiling : k ≡ 0 → Limit byteField k LockLine
+  unfolding rowOf
+  limit-ceiling e lt = ap (λ (i : ℕ). getD (rowOf LockLine .fields) i 0) (sym e)
+
+  pub limit-holding : (k ≡ 0 → ⊥) → Limit wideField k LockLine
+  unfolding rowOf
+  limit-holding other lt = let one : 1 ≡ k = omega arith in ap (λ (i : ℕ). getD (rowOf LockLine .fields) i 0) one
+
+-- no line has more than eight fields
+pub fields-few : (form : Form) → length (rowOf form .fields) ≤ 8
+unfolding rowOf usedOf
+fields-few WindowLine = omega arith
+fields-few StartLine = omega arith
+fields-few TaskLine = omega arith
+fields-few (InstructionLine o) = omega (arith, used-few o)
+fields-few LockLine = omega arith

@@ -1,0 +1,13 @@
+-- `line_reading::refused_line` meets its contract.
+-- Assumes nothing.
+use mathlib.Core.Path.{refl}
+use Rattle.texts.specs.Code.LineParts.{lineAnswer}
+use Rattle.line_reading.proofs.refused_line.Statement.{statement}
+use Rattle.line_reading.proofs.refused_line.Tie as tie
+
+returns : tie.Need-returns
+unfolding lineAnswer
+returns c = refl
+
+pub refused-line-spec : {M : Type 1} → statement M
+refused-line-spec = tie.close (tie.spec returns)

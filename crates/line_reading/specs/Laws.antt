@@ -1,0 +1,3 @@
+pub mod CappedLaws
+pub mod FormReadLaws
+pub mod NamedLineLaws

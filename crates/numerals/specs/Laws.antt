@@ -1,0 +1,4 @@
+pub mod DigitLaws
+pub mod NumeralsLaws
+pub mod PartEndLaws
+pub mod WordLaws

@@ -1,0 +1,2 @@
+pub mod FiledLaws
+pub mod TextDeskLaws

@@ -1,0 +1,2 @@
+pub mod LineAnswerLaws
+pub mod TextReadLaws

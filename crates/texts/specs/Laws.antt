@@ -1,0 +1,16 @@
+pub mod AddedPartLaws
+pub mod EveryLaws
+pub mod FormLaws
+pub mod GrammarLaws
+pub mod LineReadLaws
+pub mod LineSizes
+pub mod LinesBackLaws
+pub mod LongestText
+pub mod NumeralLaws
+pub mod RowLaws
+pub mod SeparatorLaws
+pub mod SoundTableLaws
+pub mod SpelledTableLaws
+pub mod TextDemandLaws
+pub mod TextExamples
+pub mod TextFaults

@@ -1,0 +1,101 @@
+-- Computed examples: a small table's text, its reading, and where texts are refused.
+-- Assumes nothing.
+use mathlib.Core.Path.{_≡_, refl}
+use mathlib.Core.List.{[], _∷_}
+use Rattle.notation.specs.Checked.{refused, passed, require, given, placedBy, _>>=_, _>>_}
+use Rattle.notation.specs.Lists.{if_then_else_, upTo, from, all, firstWith, firstOr, same, each, bytesAt, padded, sum}
+use Rattle.sheets.specs.Texts.{digit, digits, decimal, spaced, line, taskWord}
+use Rattle.taskfile.specs.Records.{tidyInstruction, instructionInRange, usesOf, operationUses, tidyField, fieldInRange}
+use Rattle.taskfile.specs.Tables.{tasksOf, bodyOf, noTask, emptyTable}
+use Rattle.writer.specs.Claims.{claimed, claimedTasks, claimedBody, lockByLock, claimedLocks, recordTotal, indexOf}
+use Rattle.writer.specs.Fields.{bodyFields, taskFields, fields, judgedWhole, acceptTable}
+use Rattle.writer.specs.WriteEntries.{written}
+use Rattle.writer.specs.Laws.WriterExamples.{small}
+use Rattle.texts.specs.Grammar.{rowOf, operationRows, lineText, joined, fits, mayCome}
+use Rattle.texts.specs.Reading.{begins, parts, isDigit, isEmpty, isNumeral, valueAfter, valueOf, forms}
+use Rattle.texts.specs.Reading.{formNamed, lineRead, linesRead, textRead}
+use Rattle.texts.specs.TextEntries.{filed, lineOfRecord}
+use Rattle.texts.specs.TextTables.{counted, withWindow, withStore, withTasks, bareTask, addTask, longerTask}
+use Rattle.texts.specs.TextTables.{addInstruction}
+use Rattle.texts.specs.TextTables.{addLock, instructionWith, addPart, addLines, tableOf}
+use Rattle.texts.specs.TextTables.{tableLines, taskLines, instructionLine, lockLine, textOf}
+use Rattle.texts.specs.Words.{windowWord, startWord, lockWord, endWord, loadWord, storeWord, setWord, addWord}
+use Rattle.texts.specs.Words.{subtractWord, lessWord, equalWord, pickWord, acquireWord, releaseWord, assertWord}
+
+-- all that reading and writing a text rests on
+unfoldable opened : Unit {0}
+unfolding textRead linesRead lineRead formNamed forms valueOf valueAfter isNumeral isEmpty isDigit parts begins
+    mayCome fits joined lineText operationRows rowOf textOf lockLine instructionLine taskLines tableLines
+    windowWord startWord lockWord endWord loadWord storeWord setWord addWord subtractWord lessWord equalWord pickWord
+    acquireWord releaseWord assertWord taskWord line spaced decimal digits digit bytesAt each same firstOr firstWith all
+    from upTo if_then_else_ given require _>>=_ _>>_ tasksOf bodyOf lockByLock noTask padded small
+opened = tt
+
+-- the lines of a table with two tasks and a lock
+pub small-text : textOf (small 5 2 1) ≡ (119 ∷ 105 ∷ 110 ∷ 100 ∷ 111 ∷ 119 ∷ 32 ∷ 53 ∷ 10
+    ∷ 115 ∷ 116 ∷ 97 ∷ 114 ∷ 116 ∷ 32 ∷ 57 ∷ 32 ∷ 48 ∷ 32 ∷ 48 ∷ 32 ∷ 48 ∷ 32 ∷ 48 ∷ 32 ∷ 48 ∷ 32 ∷ 48 ∷ 32 ∷ 48 ∷ 10
+    ∷ 116 ∷ 97 ∷ 115 ∷ 107 ∷ 32 ∷ 50 ∷ 32 ∷ 50 ∷ 54 ∷ 48 ∷ 32 ∷ 48 ∷ 10
+    ∷ 115 ∷ 101 ∷ 116 ∷ 32 ∷ 48 ∷ 32 ∷ 49 ∷ 10
+    ∷ 101 ∷ 110 ∷ 100 ∷ 10
+    ∷ 116 ∷ 97 ∷ 115 ∷ 107 ∷ 32 ∷ 49 ∷ 32 ∷ 52 ∷ 32 ∷ 49 ∷ 10
+    ∷ 101 ∷ 110 ∷ 100 ∷ 10
+    ∷ 108 ∷ 111 ∷ 99 ∷ 107 ∷ 32 ∷ 49 ∷ 32 ∷ 54 ∷ 54 ∷ 48 ∷ 53 ∷ 49 ∷ 10 ∷ [])
+unfolding opened
+small-text = refl
+
+-- and read back
+pub small-lines : textRead (textOf (small 5 2 1)) ≡ passed (tableLines (small 5 2 1))
+unfolding opened
+small-lines = refl
+
+-- an empty text has no window
+pub text-none : textRead [] ≡ refused 60 0
+unfolding opened
+text-none = refl
+
+-- the start values are missing
+pub text-start-missing : textRead (119 ∷ 105 ∷ 110 ∷ 100 ∷ 111 ∷ 119 ∷ 32 ∷ 49 ∷ 10 ∷ []) ≡ refused 60 1
+unfolding opened
+text-start-missing = refl
+
+-- a leading zero
+pub text-zero-led : textRead (119 ∷ 105 ∷ 110 ∷ 100 ∷ 111 ∷ 119 ∷ 32 ∷ 48 ∷ 49 ∷ 10 ∷ []) ≡ refused 60 0
+unfolding opened
+text-zero-led = refl
+
+-- no newline at the end
+pub text-newline-missing : textRead (119 ∷ 105 ∷ 110 ∷ 100 ∷ 111 ∷ 119 ∷ 32 ∷ 49 ∷ []) ≡ refused 60 0
+unfolding opened
+text-newline-missing = refl
+
+-- a number too large, and nothing after it
+pub text-large-first : textRead (119 ∷ 105 ∷ 110 ∷ 100 ∷ 111 ∷ 119 ∷ 32
+    ∷ 52 ∷ 50 ∷ 57 ∷ 52 ∷ 57 ∷ 54 ∷ 55 ∷ 50 ∷ 57 ∷ 54 ∷ 10 ∷ []) ≡ refused 61 0
+unfolding opened
+text-large-first = refl
+
+-- 60 before 61 on a line
+pub text-large-words : textRead (119 ∷ 105 ∷ 110 ∷ 100 ∷ 111 ∷ 119 ∷ 32
+    ∷ 52 ∷ 50 ∷ 57 ∷ 52 ∷ 57 ∷ 54 ∷ 55 ∷ 50 ∷ 57 ∷ 54 ∷ 32 ∷ 49 ∷ 10 ∷ []) ≡ refused 60 0
+unfolding opened
+text-large-words = refl
+
+-- ---- the places of the table's own numbers
+
+-- all that judging a text's table rests on
+unfoldable judging : Unit {0}
+unfolding opened filed lineOfRecord tableOf addLines addPart withWindow withStore withTasks counted bareTask addTask
+    longerTask addInstruction addLock instructionWith emptyTable written acceptTable judgedWhole placedBy indexOf fields
+    taskFields bodyFields recordTotal claimedTasks claimedBody claimedLocks claimed sum tidyInstruction
+    instructionInRange usesOf operationUses tidyField fieldInRange
+judging = tt
+
+-- a window of 0 stands in the header, whose line is 0
+pub text-header : filed (textOf (small 0 2 1)) [] ≡ refused 4 0
+unfolding judging
+text-header = refl
+
+-- the second task is the record 4, whose line is 5
+pub text-task : filed (textOf (small 5 2 0)) [] ≡ refused 4 5
+unfolding judging
+text-task = refl
