@@ -44,7 +44,7 @@ const NUMBERS: [u64; 12] = [0, 4, 5, 7, 8, 9, 10, 11, 20, 60, 61, 62];
 /// The longest buffer that is lent for a file.
 const LONGEST: usize = 2_500;
 
-/// No call takes longer, but for those of one shape that are refused by 10 (docs/BENCHMARKS.md).
+/// No call takes longer, those refused by 10 aside, of which one shape is slow (docs/BENCHMARKS.md).
 const LIMIT: Duration = Duration::from_millis(2);
 const OVERLOAD: u64 = 10;
 /// A call that may have taken longer is timed alone, and the shortest time counts.
