@@ -2,10 +2,13 @@
 -- check's answer.
 -- Assumes nothing.
 use mathlib.Core.Path.{sym, ap, _∙_}
+use Prim.Native.Nat.{_≤_}
+use native.Mathlib.Omega.{arith}
+use lib.ListN.{length}
 use borrow.Author.Needs.{needs}
 use borrow.Author.Tests.{le-leb, lt-leb}
 use Rattle.machine.specs.declared.RunAnswer.{RunAnswer}
-use Rattle.words.specs.Words.{runWords, filledWith}
+use Rattle.words.specs.Words.{wordsOfRun, runWords, filledWith}
 use Rattle.adqurim.specs.Laws.EntryLaws.{run-unfilled}
 use Rattle.adqurim.specs.Laws.RunSizes.{plan-sized}
 use Rattle.adqurim.proofs.adqurim_check_plan.Statement.{statement}
@@ -26,8 +29,9 @@ same-length c = search needs
 returns-2 : tie.Need-returns-2
 returns-2 c =
     let lent = c .before .before .before .before .before .before .before .before .before .args .answer .now in
+    let room : wordsOfRun ≤ length lent = omega (arith, c .before .before .before .before .before .if1 .left) in
     let called = c .before .before .before .before .check-plan .ensures in (
-      sym (le-leb _ _ (c .before .before .before .before .before .if1 .left)),
+      sym (le-leb _ _ room),
       c .before .before .put-run .ensures ∙ ap (λ (a : RunAnswer). filledWith (runWords a) lent) called,
     )
 

@@ -2,10 +2,13 @@
 -- conversion's answer and the buffer is as it leaves it.
 -- Assumes nothing.
 use mathlib.Core.Path.{sym, ap, _∙_}
+use Prim.Native.Nat.{_≤_}
+use native.Mathlib.Omega.{arith}
+use lib.ListN.{length}
 use borrow.Author.Needs.{needs}
 use borrow.Author.Tests.{le-leb, lt-leb}
 use Rattle.machine.specs.declared.RunAnswer.{RunAnswer}
-use Rattle.words.specs.Words.{runWords, filledWith}
+use Rattle.words.specs.Words.{wordsOfRun, runWords, filledWith}
 use Rattle.adqurim.specs.Laws.EntryLaws.{run-unfilled, buffer-kept, buffer-changed}
 use Rattle.adqurim.specs.Laws.RunSizes.{planned-sized}
 use Rattle.adqurim.proofs.adqurim_order_to_plan.Statement.{statement}
@@ -31,10 +34,10 @@ same-length-2 c = search needs
 returns-2 : tie.Need-returns-2
 returns-2 c =
     let called = c .before .before .before .before .before .before in
-    let room = called .before .before .if1 .left in
+    let lent = called .before .before .before .before .before .before .before .args .answer .now in
+    let room : wordsOfRun ≤ length lent = omega (arith, called .before .before .if1 .left) in
     let made = called .order-to-plan .ensures in
-    let put = c .before .before .put-run .ensures in
-    let lent = called .before .before .before .before .before .before .before .args .answer .now in (
+    let put = c .before .before .put-run .ensures in (
       sym (le-leb _ _ room),
       (put ∙ ap (λ (x : RunAnswer). filledWith (runWords x) lent) (made .0), made .1 ∙ buffer-changed _ _ _ _ room),
     )

@@ -2,10 +2,13 @@
 -- reader's answer.
 -- Assumes nothing.
 use mathlib.Core.Path.{sym, ap, _∙_}
+use Prim.Native.Nat.{_≤_}
+use native.Mathlib.Omega.{arith}
+use lib.ListN.{length}
 use borrow.Author.Needs.{needs}
 use borrow.Author.Tests.{le-leb, lt-leb}
 use Rattle.timing.specs.declared.ReadAnswer.{ReadAnswer}
-use Rattle.words.specs.Words.{readWords, filledWith}
+use Rattle.words.specs.Words.{wordsOfRead, readWords, filledWith}
 use Rattle.adqurim.specs.Laws.EntryLaws.{read-unfilled}
 use Rattle.adqurim.proofs.adqurim_read.Statement.{statement}
 use Rattle.adqurim.proofs.adqurim_read.Tie as tie
@@ -25,8 +28,9 @@ same-length c = search needs
 returns-2 : tie.Need-returns-2
 returns-2 c =
     let lent = c .before .before .before .before .before .before .before .before .args .answer .now in
+    let room : wordsOfRead ≤ length lent = omega (arith, c .before .before .before .before .before .if1 .left) in
     let called = c .before .before .before .before .read .ensures in (
-      sym (le-leb _ _ (c .before .before .before .before .before .if1 .left)),
+      sym (le-leb _ _ room),
       c .before .before .put-read .ensures ∙ ap (λ (a : ReadAnswer). filledWith (readWords a) lent) called,
     )
 

@@ -2,10 +2,13 @@
 -- answer and the text is as it leaves it.
 -- Assumes nothing.
 use mathlib.Core.Path.{sym, ap, _∙_}
+use Prim.Native.Nat.{_≤_}
+use native.Mathlib.Omega.{arith}
+use lib.ListN.{length}
 use borrow.Author.Needs.{needs}
 use borrow.Author.Tests.{le-leb, lt-leb}
 use Rattle.sheets.specs.declared.SheetAnswer.{SheetAnswer}
-use Rattle.words.specs.Words.{sheetWords, filledWith}
+use Rattle.words.specs.Words.{wordsOfSheet, sheetWords, filledWith}
 use Rattle.adqurim.specs.Laws.EntryLaws.{sheet-unfilled, buffer-kept, buffer-changed}
 use Rattle.adqurim.proofs.adqurim_sheet.Statement.{statement}
 use Rattle.adqurim.proofs.adqurim_sheet.Tie as tie
@@ -30,10 +33,10 @@ same-length-2 c = search needs
 returns-2 : tie.Need-returns-2
 returns-2 c =
     let called = c .before .before .before .before .before .before in
-    let room = called .before .before .if1 .left in
+    let lent = called .before .before .before .before .before .before .args .answer .now in
+    let room : wordsOfSheet ≤ length lent = omega (arith, called .before .before .if1 .left) in
     let made = called .fill-sheet .ensures in
-    let put = c .before .before .put-sheet-words .ensures in
-    let lent = called .before .before .before .before .before .before .args .answer .now in (
+    let put = c .before .before .put-sheet-words .ensures in (
       sym (le-leb _ _ room),
       (put ∙ ap (λ (x : SheetAnswer). filledWith (sheetWords x) lent) (made .0), made .1 ∙ buffer-changed _ _ _ _ room),
     )

@@ -2,10 +2,13 @@
 -- answer and the buffer is as the walk leaves it.
 -- Assumes nothing.
 use mathlib.Core.Path.{sym, ap, _∙_}
+use Prim.Native.Nat.{_≤_}
+use native.Mathlib.Omega.{arith}
+use lib.ListN.{length}
 use borrow.Author.Needs.{needs}
 use borrow.Author.Tests.{le-leb, lt-leb}
 use Rattle.walk.specs.declared.WalkAnswer.{WalkAnswer}
-use Rattle.words.specs.Words.{walkWords, filledWith}
+use Rattle.words.specs.Words.{wordsOfWalk, walkWords, filledWith}
 use Rattle.adqurim.specs.Laws.EntryLaws.{walk-unfilled, buffer-kept, buffer-changed}
 use Rattle.adqurim.proofs.adqurim_walk.Statement.{statement}
 use Rattle.adqurim.proofs.adqurim_walk.Tie as tie
@@ -30,10 +33,10 @@ same-length-2 c = search needs
 returns-2 : tie.Need-returns-2
 returns-2 c =
     let called = c .before .before .before .before .before .before in
-    let room = called .before .before .if1 .left in
+    let lent = called .before .before .before .before .before .before .args .answer .now in
+    let room : wordsOfWalk ≤ length lent = omega (arith, called .before .before .if1 .left) in
     let walked = called .walk-file .ensures in
-    let put = c .before .before .put-walk .ensures in
-    let lent = called .before .before .before .before .before .before .args .answer .now in (
+    let put = c .before .before .put-walk .ensures in (
       sym (le-leb _ _ room),
       (put ∙ ap (λ (x : WalkAnswer). filledWith (walkWords x) lent) (walked .0), walked .1 ∙ buffer-changed _ _ _ _ room),
     )

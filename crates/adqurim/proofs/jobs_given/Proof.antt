@@ -1,5 +1,6 @@
 -- `adqurim::jobs_given` meets its contract.
 -- Assumes nothing.
+use native.Mathlib.Omega.{arith}
 use borrow.Author.Needs.{needs}
 use Rattle.adqurim.specs.Laws.JobWordsLaws.{given-none, given-listed}
 use Rattle.adqurim.proofs.jobs_given.Statement.{statement}
@@ -15,7 +16,7 @@ jobs-for-requires : tie.Need-jobs-for-requires
 jobs-for-requires c κs = search needs
 
 returns-2 : tie.Need-returns-2
-returns-2 c = given-listed (c .before .if1 .left) (c .jobs-for .ensures)
+returns-2 c = given-listed (omega (arith, c .before .if1 .left)) (c .jobs-for .ensures)
 
 pub jobs-given-spec : {M : Type 1} → statement M
 jobs-given-spec = tie.close (tie.spec refused-list-requires returns jobs-for-requires returns-2)

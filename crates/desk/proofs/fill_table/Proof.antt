@@ -1,7 +1,9 @@
 -- `desk::fill_table` meets its contract: a file that is refused, memory that is too short, and a table that was filled in.
 -- Assumes nothing.
 use mathlib.Core.Path.{_∙_}
+use Prim.Native.Nat.{_≤_}
 use native.Mathlib.Omega.{arith}
+use lib.ListN.{length}
 use borrow.Author.Needs.{needs}
 use Rattle.writing.specs.Laws.WritingLaws.{appends-count}
 use Rattle.writer.specs.Memory.{memoryOf, tableBytes}
@@ -57,7 +59,9 @@ returns-3 c =
     let put = c .before .before in
     let told = put .before .before .before .before in
     let called = told .before .before in
-    made-done tableBytes memoryOf _ _ _ (called .accept-file .ensures) (told .enum-told .given .1) (put .before .before .before .if1 .left) (put .put-table .ensures .0)
+    let lent = called .before .before .before .args .memory .now in
+    let room : tableBytes ≤ length lent = omega (arith, put .before .before .before .if1 .left) in
+    made-done tableBytes memoryOf _ _ _ (called .accept-file .ensures) (told .enum-told .given .1) room (put .put-table .ensures .0)
     (omega (arith, put .put-table .ensures .1))
 
 pub fill-table-spec : {M : Type 1} → statement M

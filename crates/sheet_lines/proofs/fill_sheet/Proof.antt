@@ -7,7 +7,7 @@ use Rattle.sheet_lines.proofs.fill_sheet.Statement.{statement}
 use Rattle.sheet_lines.proofs.fill_sheet.Tie as tie
 
 returns : tie.Need-returns
-returns c = sheet-no-room _ _ (c .if1 .taken)
+returns c = sheet-no-room _ (c .before .before .before .args .text .now) (omega (arith, c .if1 .taken))
 
 put-sheet-requires : tie.Need-put-sheet-requires
 put-sheet-requires c κs = search needs

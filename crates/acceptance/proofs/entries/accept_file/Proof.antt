@@ -2,6 +2,7 @@
 -- Assumes nothing.
 use Prim.Native.Nat.{ℕ, _≤_}
 use mathlib.Core.Path.{refl, subst}
+use native.Mathlib.Omega.{arith}
 use Rattle.timing.specs.Laws.AcceptLaws.{answers-refused, answers-timeable, answers-overload, answers-within, answers-many, answers-accepted}
 use borrow.Author.Needs.{needs}
 use Rattle.acceptance.proofs.entries.accept_file.Statement.{statement}
@@ -64,7 +65,7 @@ jobs-of-requires c κs = (
 returns-4 : tie.Need-returns-4
 returns-4 c =
     answers-accepted _ _ (c .before .before .before .before .before .before .before .before .before .before .load-file .ensures) (c .before .before .before .before .before .before .before .enum-told .given .1) _ (c .before .before .before .before .before .before .responses-of .ensures) (c .before .before .before .enum-told2 .given .1) _
-    (c .before .before .job-total .ensures) (c .before .if1 .left) refl refl refl (c .jobs-of .ensures)
+    (c .before .before .job-total .ensures) (omega (arith, c .before .if1 .left)) refl refl refl (c .jobs-of .ensures)
 
 pub accept-file-spec : {M : Type 1} → statement M
 accept-file-spec =

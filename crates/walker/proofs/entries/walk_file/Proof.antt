@@ -33,7 +33,9 @@ refused-walk-requires-2 c κs = search needs
 
 returns-2 : tie.Need-returns-2
 returns-2 c =
-    let answer = entry-no-room _ _ _ _ (c .before .before .before .before .accept-file .ensures) (c .before .before .enum-told .given .1) (c .before .if1 .taken) in
+    let file = c .before .before .before .before in
+    let few = c .before .if1 .taken in
+    let answer = entry-no-room _ _ (file .before .before .before .args .out .now) _ (file .accept-file .ensures) (c .before .before .enum-told .given .1) (omega (arith, few)) in
     (c .refused-walk2 .ensures ∙ answer .0, answer .1)
 
 walk-table-requires : tie.Need-walk-table-requires
