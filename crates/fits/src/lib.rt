@@ -1,6 +1,7 @@
 // Where the tasks above a task meet their periods: the test whether an interval is long enough, by Bini and Buttazzo's
 // scheduling points, and the search for the response time by halving.
 use demands::demand_of;
+use demands::rounded_up;
 use taskfile::Table;
 use taskfile::Task;
 use taskfile::limits::TASKS;
@@ -15,9 +16,9 @@ ghost use Rattle.timing.specs.Response.{tasksAbove, responseOf};
 ghost use Rattle.timing.specs.Code.ResponseParts.{BoundedTimes, TimesOf, NeedOf, boundOf, LowerBound};
 ghost use Rattle.timing.specs.Code.ResponseParts.{AllFit, fitsFrom, fitsAlone};
 
-// Whether, in some interval of length 1 to b, base and the tasks from j on are done. Only the last multiple of each
-// period and b itself need a look, if each of those tasks meets its own period. It calls itself on the next task.
-// j is a position among the tasks and no task's number: past the last task there is none.
+// Whether, in some interval of length 1 to b, base and the tasks from j on are done. Only b itself and the last
+// multiple of each period before it need a look, if each of those tasks meets its own period. It calls itself on the
+// next task. j is a position among the tasks and no task's number: past the last task there is none.
 pub fn fits_from(
     executions: &[u64; TASKS],
     periods: &[u64; TASKS],
@@ -39,13 +40,16 @@ pub fn fits_from(
     let at = j as usize;
     let c = executions[at];
     let p = periods[at];
-    let f = b / p;
-    if b % p != 0 {
-        if fits_from(executions, periods, tasks, j + 1, base + (f + 1) * c, b) {
-            return true;
-        }
+    let windows = rounded_up(b, p);
+    let done = base + windows * c;
+    let whole = windows * p;
+    if whole == b {
+        return fits_from(executions, periods, tasks, j + 1, done, b);
     }
-    fits_from(executions, periods, tasks, j + 1, base + f * c, f * p)
+    if fits_from(executions, periods, tasks, j + 1, done, b) {
+        return true;
+    }
+    fits_from(executions, periods, tasks, j + 1, done - c, whole - p)
 }
 
 // Whether task i meets its period where it waits for no lock, and `above`, that those above it do. Then a holding

@@ -3,7 +3,7 @@
 -- the tasks' times are lent in, and the answers as declared types.
 -- Assumes nothing.
 use mathlib.Core.Path.{_≡_}
-use Prim.Native.Nat.{ℕ, _+_, _*_, _/_, _%_, _^_, _≤_, _<_}
+use Prim.Native.Nat.{ℕ, _+_, _-_, _*_, _^_, _≤_, _<_}
 use mathlib.Core.Bool.{Bool, not, _&&_, _||_}
 use mathlib.Core.List.{List, [], _∷_}
 use mathlib.Core.Option.{Option, none, some}
@@ -23,7 +23,7 @@ use Rattle.timing.specs.declared.Bound.{Bound}
 use Rattle.timing.specs.declared.Bound.the-variants.{Within, Overload}
 use Rattle.timing.specs.declared.Responses.{Responses}
 use Rattle.timing.specs.declared.Share.{Share}
-use Rattle.timing.specs.Response.{tasksAbove, interference, need, demand}
+use Rattle.timing.specs.Response.{roundedUp, tasksAbove, interference, need, demand}
 
 -- a table whose times can be worked out: its arrays are full, and each task has 1 ≤ C ≤ P
 pub record Timeable (t : Table) : Type 0 where
@@ -107,14 +107,16 @@ abbrev pub AllFit : List TaskEntry → Type 0
 AllFit [] = Unit {0}
 AllFit (e ∷ above) = Fits above (e .execution) (e .period) × AllFit above
 
--- the test for `Fits` by Bini and Buttazzo's scheduling points: of each period only the last multiple up to b, and
--- b itself
+-- the test for `Fits` by Bini and Buttazzo's scheduling points: b itself, up to which ceil(b / P) windows of the first
+-- task begin, and, where b is no multiple of P, the last multiple before b, up to which one window fewer begins
 unfoldable pub fitsFrom : List TaskEntry → ℕ → ℕ → Bool
 fitsFrom [] base b = leb base b
 fitsFrom (e ∷ above) base b =
+    let windows = roundedUp b (e .period) in
     leb base b
-    && (not (eqb (b % e .period) 0) && fitsFrom above (base + (b / e .period + 1) * e .execution) b
-    || fitsFrom above (base + b / e .period * e .execution) (b / e .period * e .period))
+    && (fitsFrom above (base + windows * e .execution) b
+    || not (eqb (windows * e .period) b)
+    && fitsFrom above (base + (windows - 1) * e .execution) ((windows - 1) * e .period))
 
 -- the test whether task i meets its period where it waits for no lock
 unfoldable pub fitsAlone : Table → Task → Bool

@@ -5,8 +5,8 @@
 -- Assumes nothing.
 use mathlib.Core.Path.{_≡_, refl, sym, ap}
 use mathlib.Core.Logic.{_↔_, _⊎_, inl, inr, ⊎-elim}
-use Prim.Native.Nat.{ℕ, zero, suc, _+_, _-_, _*_, _/_, _%_, _^_, _≤_, _<_, zero-le, suc-le-suc}
-use native.Mathlib.Nat.{zero-add, suc-add, add-mul, mul-le-mul-left, mul-le-mul-right, div-add-mod', mod-lt}
+use Prim.Native.Nat.{ℕ, zero, suc, _+_, _-_, _*_, _^_, _≤_, _<_, zero-le, suc-le-suc}
+use native.Mathlib.Nat.{le-trans, zero-add, suc-add, add-mul, mul-sub, mul-le-mul-left, mul-le-mul-right}
 use native.Mathlib.Decide.{decLt}
 use native.Mathlib.Omega.{arith}
 use mathlib.Core.Bool.{Bool, true, false, not, _&&_, _||_, false≢true}
@@ -20,7 +20,7 @@ use Rattle.taskfile.specs.Judgement.{numbered}
 use Rattle.notation.specs.Lists.{sum}
 use Rattle.taskfile.specs.Tables.{tasksOf}
 use Rattle.timing.specs.Response.{roundedUp, interference}
-use Rattle.timing.specs.Laws.ResponseLaws.{roundedUp-covers, roundedUp-below, roundedUp-by-zero, roundedUp-positive}
+use Rattle.timing.specs.Laws.ResponseLaws.{roundedUp-covers, roundedUp-tight, roundedUp-below, roundedUp-before, roundedUp-by-zero, roundedUp-positive, roundedUp-mono}
 use Rattle.timing.specs.Code.ResponseParts.{Timeable, Fits, AllFit, fitsFrom}
 use Rattle.timing.specs.Laws.TimeableLaws.{TimesRead, tasks-next, times-end}
 
@@ -79,6 +79,16 @@ pub slack-times : {above : List TaskEntry} {base b C P : ℕ} → Fits above C P
 slack-times own zero fits = fits-easier fits (omega arith) (omega arith)
 slack-times own (suc n) fits = fits-easier (slack (slack-times own n fits) own) (omega arith) (omega arith)
 
+-- as many as it takes to come from w windows to n
+slack-up : {above : List TaskEntry} {C P : ℕ} → Fits above C P → (base w n : ℕ) → Fits above (base + w * C) (w * P)
+    → w ≤ n → Fits above (base + n * C) (n * P)
+slack-up {C = C} {P = P} own base w n fits le =
+    let rest = n - w in
+    let split : n ≡ w + rest = omega arith in
+    fits-easier (slack-times own rest fits)
+    (omega (arith, ap (λ (m : ℕ). m * C) split, add-mul w rest C))
+    (omega (arith, ap (λ (m : ℕ). m * P) split, add-mul w rest P))
+
 -- ---- one task
 
 -- a task that meets its period has one
@@ -94,65 +104,59 @@ windows e above n x positive le =
     omega (arith, mul-le-mul-right {m = roundedUp x (e .period)} {n = n} (e .execution) (omega arith))
 
 module _ (e : TaskEntry) (above : List TaskEntry) (own : Fits above (e .execution) (e .period)) (base b : ℕ) where
-  -- where the last window that begins before b is counted too, any interval of length up to b may serve
-  pub fits-last : Fits above (base + (b / e .period + 1) * e .execution) b → Fits (e ∷ above) base b
+  -- where all windows that begin before b are counted, any interval of length up to b may serve
+  pub fits-last : Fits above (base + roundedUp b (e .period) * e .execution) b → Fits (e ∷ above) base b
   fits-last fits =
       let positive = fits-period own in
-      let long : fits .span ≤ (b / e .period + 1) * e .period = omega (arith, div-add-mod' b (e .period), mod-lt b positive) in
+      let long = le-trans (fits .within) (roundedUp-covers b (e .period) positive) in
       record {
         span = fits .span;
         positive = fits .positive;
         within = fits .within;
-        enough = omega (arith, windows e above (b / e .period + 1) (fits .span) positive long);
+        enough = omega (arith, windows e above (roundedUp b (e .period)) (fits .span) positive long);
       }
 
-  -- where it is not, any interval up to the last multiple of the period
-  pub fits-before : Fits above (base + b / e .period * e .execution) (b / e .period * e .period)
+  -- where the last of them is not, any interval up to its beginning
+  pub fits-before : Fits above (base + (roundedUp b (e .period) - 1) * e .execution) ((roundedUp b (e .period) - 1) * e .period)
       → Fits (e ∷ above) base b
   fits-before fits = record {
     span = fits .span;
     positive = fits .positive;
-    within = omega (arith, div-add-mod' b (e .period));
-    enough = omega (arith, windows e above (b / e .period) (fits .span) (fits-period own) (fits .within));
+    within = le-trans (fits .within) (roundedUp-before b (e .period) (fits-period own));
+    enough = omega (arith, windows e above (roundedUp b (e .period) - 1) (fits .span) (fits-period own) (fits .within));
   }
 
-  -- and one of the two does serve
+  -- and one of the two does serve: b itself, if it is a multiple of the period
   pub fits-cases : Fits (e ∷ above) base b
-      → ((b % e .period ≡ 0 → ⊥) × Fits above (base + (b / e .period + 1) * e .execution) b)
-      ⊎ Fits above (base + b / e .period * e .execution) (b / e .period * e .period)
+      → Fits above (base + roundedUp b (e .period) * e .execution) b
+      ⊎ ((roundedUp b (e .period) * e .period ≡ b → ⊥)
+      × Fits above (base + (roundedUp b (e .period) - 1) * e .execution) ((roundedUp b (e .period) - 1) * e .period))
   unfolding interference sum
   fits-cases fits =
       let positive = fits-period own in
       let x = fits .span in
-      let f = b / e .period in
+      let n = roundedUp b (e .period) in
       let w = roundedUp x (e .period) in
-      elim (decLt f w) [
-        | yes more ↦
-            let past = roundedUp-below x (e .period) f positive .0 more in
-            let over : f + 1 < w → ⊥ = λ l.
-            omega (arith, roundedUp-below x (e .period) (f + 1) positive .0 l, div-add-mod' b (e .period), mod-lt b positive) in
-            let last : w ≡ f + 1 = omega arith in
-            inl (
-              λ z. omega (arith, div-add-mod' b (e .period)),
-              record {
-                span = x;
-                positive = fits .positive;
-                within = fits .within;
-                enough = omega (arith, ap (λ (n : ℕ). n * e .execution) last);
-              },
-            )
-        | no few ↦
-            let rest = f - w in
-            let split : f ≡ w + rest = omega arith in
-            let first : Fits above (base + w * e .execution) (w * e .period) = record {
+      let begun : Fits above (base + w * e .execution) (w * e .period) = record {
+        span = x;
+        positive = fits .positive;
+        within = roundedUp-covers x (e .period) positive;
+        enough = omega arith;
+      } in
+      elim (decLt w n) [
+        | yes fewer ↦
+            elim (decLt b (n * e .period)) [
+              | yes part ↦ inr (λ whole. omega arith, slack-up own base w (n - 1) begun (omega arith))
+              | no whole ↦ inl (fits-easier (slack-up own base w n begun (omega arith)) (omega arith) (omega arith))
+            ]
+        | no all ↦
+            let same : w ≡ n = omega (arith, roundedUp-mono (e .period) (fits .within)) in
+            inl (record {
               span = x;
               positive = fits .positive;
-              within = roundedUp-covers x (e .period) positive;
-              enough = omega arith;
-            } in
-            inr (fits-easier (slack-times own rest first)
-            (omega (arith, ap (λ (n : ℕ). n * e .execution) split, add-mul w rest (e .execution)))
-            (omega (arith, ap (λ (n : ℕ). n * e .period) split, add-mul w rest (e .period))))
+              within = fits .within;
+              enough = omega (arith, ap (λ (m : ℕ). m * e .execution) same);
+            })
       ]
 
 -- ---- the test
@@ -166,52 +170,67 @@ fits-decided [] all base b one = (
   λ fits. le-leb base b (omega arith),
 )
 fits-decided (e ∷ above) all base b one =
-    go (leb base b) (eqb (b % e .period) 0) _ _ refl refl
-    (fits-decided above (all .1) (base + (b / e .period + 1) * e .execution) b (omega arith))
-    (fits-decided above (all .1) (base + b / e .period * e .execution) (b / e .period * e .period) (omega arith))
+    go (leb base b) _ (eqb (n * e .period) b) _ refl refl
+    (fits-decided above (all .1) (base + n * e .execution) b (omega arith))
+    (fits-decided above (all .1) (base + (n - 1) * e .execution) ((n - 1) * e .period) (omega arith))
   where
-    go : (long whole last before : Bool) → leb base b ≡ long → eqb (b % e .period) 0 ≡ whole
-        → (last ≡ true) ↔ Fits above (base + (b / e .period + 1) * e .execution) b
-        → (before ≡ true) ↔ Fits above (base + b / e .period * e .execution) (b / e .period * e .period)
-        → ((long && (not whole && last || before)) ≡ true) ↔ Fits (e ∷ above) base b
-    go false whole last before l w a z =
+    n : ℕ
+    n = roundedUp b (e .period)
+
+    go : (long last whole before : Bool) → leb base b ≡ long → eqb (n * e .period) b ≡ whole
+        → (last ≡ true) ↔ Fits above (base + n * e .execution) b
+        → (before ≡ true) ↔ Fits above (base + (n - 1) * e .execution) ((n - 1) * e .period)
+        → ((long && (last || not whole && before)) ≡ true) ↔ Fits (e ∷ above) base b
+    go false last whole before l w a z =
         (λ h. absurd (false≢true h), λ fits. absurd (omega (arith, leb-false base b l)))
-    go true true last before l w a z = (
-      λ h. fits-before e above (all .0) base b (z .0 h),
-      λ fits. ⊎-elim (λ h. absurd (h .0 (eqb-true _ _ w))) (z .1) (fits-cases e above (all .0) base b fits),
+    go true true whole before l w a z = (λ h. fits-last e above (all .0) base b (a .0 refl), λ fits. refl)
+    go true false true before l w a z = (
+      λ h. absurd (false≢true h),
+      λ fits. ⊎-elim (a .1) (λ h. absurd (h .0 (eqb-true _ _ w))) (fits-cases e above (all .0) base b fits),
     )
-    go true false true before l w a z = (λ h. fits-last e above (all .0) base b (a .0 refl), λ fits. refl)
     go true false false before l w a z = (
       λ h. fits-before e above (all .0) base b (z .0 h),
-      λ fits. ⊎-elim (λ h. absurd (false≢true (a .1 (h .1)))) (z .1) (fits-cases e above (all .0) base b fits),
+      λ fits. ⊎-elim (λ h. absurd (false≢true (a .1 h))) (λ h. z .1 (h .1)) (fits-cases e above (all .0) base b fits),
     )
 
 -- ---- the test from task j on
 
-module _ {t : Table} (timeable : Timeable t) {j C P base b : ℕ} (lt : j < t .tasks) (read : TimesRead t (numbered j) C P) (le : base ≤ b) where
+-- where b is no multiple of the period, a window begins before it
+pub from-some : {P b n : ℕ} → 1 ≤ P → n ≡ roundedUp b P → (n * P ≡ b → ⊥) → 1 ≤ n
+from-some {P} {b} {n = zero} positive same part = absurd (part (omega (arith, rw (← same) at (roundedUp-covers b P positive))))
+from-some {n = suc n} positive same part = suc-le-suc zero-le
+
+module _ {t : Table} (timeable : Timeable t) {j C P base b n : ℕ} (lt : j < t .tasks) (read : TimesRead t (numbered j) C P) (le : base ≤ b) (same : n ≡ roundedUp b P) where
   -- one step of the test, with the times as read
   from-step : fitsFrom (drop j (tasksOf t)) base b
-      ≡ (not (eqb (b % P) 0) && fitsFrom (drop (j + 1) (tasksOf t)) (base + (b / P + 1) * C) b
-      || fitsFrom (drop (j + 1) (tasksOf t)) (base + b / P * C) (b / P * P))
+      ≡ (fitsFrom (drop (j + 1) (tasksOf t)) (base + n * C) b
+      || not (eqb (n * P) b) && fitsFrom (drop (j + 1) (tasksOf t)) (base + (n - 1) * C) ((n - 1) * P))
   unfolding fitsFrom
-  from-step = rw (tasks-next (timeable .shaped) j lt, le-leb base b le, read .execution, read .period)
+  from-step = rw (tasks-next (timeable .shaped) j lt, le-leb base b le, ← read .execution, ← read .period, ← same)
 
-  -- where the last window that begins before b is counted, and all is done
-  pub from-last : (b % P ≡ 0 → ⊥) → true ≡ fitsFrom (drop (j + 1) (tasksOf t)) (base + (b / P + 1) * C) b
+  -- where all is done by b
+  pub from-last : true ≡ fitsFrom (drop (j + 1) (tasksOf t)) (base + n * C) b
       → true ≡ fitsFrom (drop j (tasksOf t)) base b
-  from-last part done = rw (from-step, ne-eqb (b % P) 0 part, ← done)
+  from-last done = rw (from-step, ← done)
 
-  -- where there is none, or not all is done with it
-  pub from-before : {r : Bool}
-      → (b % P ≡ 0) ⊎ (false ≡ fitsFrom (drop (j + 1) (tasksOf t)) (base + (b / P + 1) * C) b)
-      → r ≡ fitsFrom (drop (j + 1) (tasksOf t)) (base + b / P * C) (b / P * P)
+  -- where b is a multiple of the period, by b alone
+  pub from-whole : {r : Bool} → n * P ≡ b → r ≡ fitsFrom (drop (j + 1) (tasksOf t)) (base + n * C) b
       → r ≡ fitsFrom (drop j (tasksOf t)) base b
-  from-before (inl none) done = rw (from-step, eq-eqb (b % P) 0 none) done
-  from-before (inr short) done = rw (from-step, ← short) (go (eqb (b % P) 0) done)
+  from-whole {r} whole done = rw (from-step, eq-eqb (n * P) b whole, ← done) (go r)
     where
-      go : {r before : Bool} (whole : Bool) → r ≡ before → r ≡ (not whole && false || before)
-      go true e = e
-      go false e = e
+      go : (r : Bool) → r ≡ (r || false)
+      go true = refl
+      go false = refl
+
+  -- where it is none and not all is done by b, by the last multiple before b
+  pub from-before : {r : Bool} → (n * P ≡ b → ⊥) → false ≡ fitsFrom (drop (j + 1) (tasksOf t)) (base + n * C) b
+      → r ≡ fitsFrom (drop (j + 1) (tasksOf t)) (base + n * C - C) (n * P - P)
+      → r ≡ fitsFrom (drop j (tasksOf t)) base b
+  from-before part short done =
+      let some = from-some (omega arith) same part in
+      let done-less : base + n * C - C ≡ base + (n - 1) * C = omega (arith, mul-sub C n 1, mul-le-mul-right C some) in
+      let whole-less : n * P - P ≡ (n - 1) * P = omega (arith, mul-sub P n 1) in
+      rw (from-step, ← short, ne-eqb (n * P) b part, ← done-less, ← whole-less) done
 
 -- where base takes longer than b
 pub from-short : (above : List TaskEntry) (base b : ℕ) → b < base → false ≡ fitsFrom above base b
@@ -226,6 +245,7 @@ unfolding fitsFrom
 from-end timeable j {base} {b} end le = rw (times-end (timeable .shaped) j end, le-leb base b le)
 
 -- what the code works out fits
-pub from-fits : {C P b : ℕ} → C ≤ P → P < 2 ^ 32 → b < 2 ^ 32
-    → ((b / P + 1) * C < 2 ^ 33) × (b / P * C < 2 ^ 32) × (b / P * P ≤ b)
-from-fits {C} {P} {b} le narrow small = omega (arith, div-add-mod' b P, mul-le-mul-left (b / P) le, add-mul (b / P) 1 C)
+pub from-fits : {C P b n : ℕ} → 1 ≤ P → C ≤ P → P < 2 ^ 32 → b < 2 ^ 32 → n ≡ roundedUp b P
+    → (n * C < 2 ^ 33) × (n * P < b + P)
+from-fits {C} {P} {b} {n} positive le narrow small same =
+    omega (arith, rw (← same) at (roundedUp-tight b P positive), mul-le-mul-left n le)

@@ -3,8 +3,8 @@
 -- Assumes nothing.
 use mathlib.Core.Path.{_≡_, refl, ap, subst}
 use mathlib.Core.Logic.{_↔_}
-use Prim.Native.Nat.{ℕ, zero, suc, _+_, _*_, _/_, _%_, _≤_, _<_, zero-le, suc-le-suc}
-use native.Mathlib.Nat.{le-antisymm, le-trans, le-refl, not-suc-le-zero, le-of-suc-le-suc, add-zero, add-le-add, zero-mul, suc-mul, mul-le-mul-right, lt-of-mul-lt-mul-right, div-add-mod', mod-lt, div-zero, mod-zero}
+use Prim.Native.Nat.{ℕ, zero, suc, _+_, _-_, _*_, _/_, _%_, _≤_, _<_, zero-le, suc-le-suc}
+use native.Mathlib.Nat.{le-antisymm, le-trans, le-refl, not-suc-le-zero, le-of-suc-le-suc, add-zero, add-le-add, zero-mul, suc-mul, mul-sub, mul-le-mul-right, lt-of-mul-lt-mul-right, div-add-mod', mod-lt, div-zero, mod-zero}
 use native.Mathlib.Numerals.{add-one}
 use native.Mathlib.Omega.{arith}
 use mathlib.Core.Bool.{Bool, true, false}
@@ -46,6 +46,10 @@ roundedUp-below n d k h = (
   λ l. omega (arith, roundedUp-tight n d h, simp suc-mul at (mul-le-mul-right d l)),
   λ l. lt-of-mul-lt-mul-right d (le-trans l (roundedUp-covers n d h)),
 )
+
+-- one less than the rounded-up quotient times the divisor is at most the number
+pub roundedUp-before : (n d : ℕ) → 1 ≤ d → (roundedUp n d - 1) * d ≤ n
+roundedUp-before n d h = omega (arith, roundedUp-tight n d h, mul-sub d (roundedUp n d) 1)
 
 -- divided by 0, a positive number gives 1
 pub roundedUp-by-zero : (n : ℕ) → roundedUp (suc n) 0 ≡ 1
