@@ -1,4 +1,5 @@
-// The demand of a task: quotients rounded up, the tasks' times in arrays to be lent, interference, and demand.
+// The demand of a task: the tasks' times in arrays to be lent, interference, and demand.
+use rounding::rounded_up;
 use taskfile::Table;
 use taskfile::Task;
 use taskfile::limits::TASKS;
@@ -6,7 +7,7 @@ use timing::TaskTimes;
 ghost use mathlib.Core.Path.{_≡_};
 ghost use Prim.Native.Nat.{_^_, _≤_, _<_};
 ghost use Rattle.taskfile.specs.declared.Table.{Table};
-ghost use Rattle.timing.specs.Response.{roundedUp, tasksAbove, interference, need, demand};
+ghost use Rattle.timing.specs.Response.{tasksAbove, interference, need, demand};
 ghost use Rattle.timing.specs.Code.ResponseParts.{Timeable, BoundedTimes, TimesOf};
 
 // A number of 32 bits as one of 64.
@@ -14,15 +15,6 @@ pub fn wide(x: u32) -> u64
     ensures { λ r. ⌜ (r ≡ x) × (r < 2 ^ 32) ⌝ }
 {
     x as u64
-}
-
-// The quotient, rounded up.
-pub fn rounded_up(n: u64, d: u64) -> u64
-    requires { ⌜ 1 ≤ d ⌝ }
-    ensures { λ r. ⌜ r ≡ roundedUp n d ⌝ }
-{
-    let q = n / d;
-    if n % d == 0 { q } else { q + 1 }
 }
 
 // The execution times and periods of a table's tasks, to be lent.

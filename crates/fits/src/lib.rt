@@ -1,7 +1,7 @@
 // Where the tasks above a task meet their periods: the test whether an interval is long enough, by Bini and Buttazzo's
 // scheduling points, and the search for the response time by halving.
 use demands::demand_of;
-use demands::rounded_up;
+use rounding::rounded_up;
 use taskfile::Table;
 use taskfile::Task;
 use taskfile::limits::TASKS;

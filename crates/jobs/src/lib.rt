@@ -1,6 +1,6 @@
 // The jobs of a table, by task, then by arrival.
-use demands::rounded_up;
 use demands::wide;
+use rounding::rounded_up;
 use taskfile::Table;
 use taskfile::Task;
 use taskfile::TaskEntry;

@@ -2,10 +2,10 @@
 use blocking::blocking_of;
 use climbs::climb;
 use climbs::climb_some;
-use demands::rounded_up;
 use demands::times_of;
 use fits::fits_alone;
 use fits::search;
+use rounding::wide_rounded_up;
 use shares::share_above;
 use taskfile::Judged;
 use taskfile::Site;
@@ -50,7 +50,7 @@ pub fn response_of(
     if s.whole <= s.part {
         return Bound::Overload;
     }
-    let start = rounded_up(own * s.whole, s.whole - s.part);
+    let start = wide_rounded_up(own * s.whole, s.whole - s.part);
     if fit {
         let higher = climb_some(t, executions, periods, i, own, start, SHORT_CLIMB);
         return search(t, executions, periods, i, own, higher);

@@ -1,5 +1,5 @@
 // The share of the processor that the tasks above a task need at least.
-use demands::rounded_up;
+use rounding::wide_rounded_up;
 use taskfile::Task;
 use taskfile::limits::TASKS;
 use timing::Share;
@@ -31,8 +31,8 @@ pub fn with_rounded(s: Share, c: u64, p: u64, cap: u64) -> Share
     requires { ⌜ SumFits s c p cap ⌝ }
     ensures { λ r. ⌜ WithTask s c p cap r ⌝ }
 {
-    let unit = rounded_up(s.whole, LARGEST / c);
-    let whole = rounded_up(s.whole, unit);
+    let unit = wide_rounded_up(s.whole, LARGEST / c);
+    let whole = wide_rounded_up(s.whole, unit);
     let kept = s.part / unit;
     let added = c * whole / p;
     Share {

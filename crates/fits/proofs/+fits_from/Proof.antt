@@ -11,7 +11,7 @@ use Rattle.timing.specs.Laws.FitLaws.{from-last, from-whole, from-before, from-
 use Rattle.timing.specs.Laws.LentTimesLaws.{lent-read}
 use borrow.Fn.Kinds.{In}
 use borrow.Fn.PlainCycle.{Measures, is, falls, and}
-use Rattle.demands.proofs.rounded_up.Reads as rounded-up-reads
+use Rattle.rounding.proofs.rounded_up.Reads as rounded-up-reads
 use Rattle.fits.proofs.fits_from.Reads as fits-from
 use Rattle.fits.proofs.fits_from.Kinds as fits-from-kinds
 use Rattle.fits.proofs.+fits_from.Lts-fits_from as fits-from-lts

@@ -4,7 +4,7 @@
 -- Assumes nothing.
 use mathlib.Core.Path.{sym, ap, subst, _∙_}
 use Prim.Native.Nat.{ℕ, _+_, _-_, _*_, _^_, _≤_}
-use native.Mathlib.Nat.{le-div-iff-mul-le, div-le-self, mul-div-le, mul-le-mul-left}
+use native.Mathlib.Nat.{one-le-mul, le-div-iff-mul-le, div-le-self, mul-div-le, mul-le-mul-left}
 use native.Mathlib.Omega.{arith}
 use lib.ListN.{getD}
 use borrow.Author.Needs.{needs}
@@ -19,7 +19,7 @@ use Rattle.response.proofs.response_of.Tie as tie
 abbrev entry : tie.After-blocking-of → tie.Start
 entry c = c .before .before .before
 
-abbrev waited : tie.After-rounded-up → tie.After-blocking-of
+abbrev waited : tie.After-wide-rounded-up → tie.After-blocking-of
 waited c = c .before .before .before .before .before .before
 
 -- its execution time and how long it may wait
@@ -34,12 +34,12 @@ positive : (c : tie.After-blocking-of) → 1 ≤ need (entry c .args .t) (entry 
 positive c = omega (arith, known c .same, known c .positive)
 
 -- the start is a lower bound of the solutions
-started : (c : tie.After-rounded-up)
-    → LowerBound (entry (waited c) .args .t) (entry (waited c) .args .i) (c .rounded-up .result)
+started : (c : tie.After-wide-rounded-up)
+    → LowerBound (entry (waited c) .args .t) (entry (waited c) .args .i) (c .wide-rounded-up .result)
 started c =
     let found = c .before .before .before .before .before in
     let s = found .share-above .result in
-    let is = c .rounded-up .ensures ∙ ap (λ (n : ℕ). roundedUp (n * s .whole) (s .whole - s .part)) (known (waited c) .same) in
+    let is = c .wide-rounded-up .ensures ∙ ap (λ (n : ℕ). roundedUp (n * s .whole) (s .whole - s .part)) (known (waited c) .same) in
     subst (LowerBound _ _) (sym is)
     (start-bound _ _ (positive (waited c)) (found .share-above .ensures _ (entry (waited c) .pre .0)) (omega arith))
 
@@ -77,17 +77,18 @@ returns c =
     let needed = found .share-above .ensures _ (entry (found .before) .pre .0) in
     sym (ap boundOf (overloaded _ _ (positive (found .before)) needed (omega arith)))
 
-mul-rounded-up : tie.Need-mul-rounded-up
-mul-rounded-up c =
+mul-wide-rounded-up : tie.Need-mul-wide-rounded-up
+mul-wide-rounded-up c =
     let found = c .before .before .before in
     let C = own (found .before) in
     omega (arith, mul-le-mul-left C (found .share-above .ensures _ (entry (found .before) .pre .0) .few), mul-div-le (2 ^ 63 - 1) C)
 
-sub-rounded-up : tie.Need-sub-rounded-up
-sub-rounded-up c = search needs
+sub-wide-rounded-up : tie.Need-sub-wide-rounded-up
+sub-wide-rounded-up c = search needs
 
-rounded-up-requires : tie.Need-rounded-up-requires
-rounded-up-requires c κs = search needs
+wide-rounded-up-requires : tie.Need-wide-rounded-up-requires
+wide-rounded-up-requires c κs =
+    (one-le-mul (known (c .before .before .before .before .before) .positive) (omega arith), omega arith)
 
 climb-some-requires : tie.Need-climb-some-requires
 climb-some-requires c κs =
@@ -123,9 +124,9 @@ response-of-spec =
     div-share-above
     share-above-requires
     returns
-    mul-rounded-up
-    sub-rounded-up
-    rounded-up-requires
+    mul-wide-rounded-up
+    sub-wide-rounded-up
+    wide-rounded-up-requires
     climb-some-requires
     search-requires
     returns-2

@@ -17,18 +17,18 @@ room c = le-div-iff-mul-le (c .pre .positive) .1 (omega arith)
 -- the whole as the function groups it
 group : (c : tie.After-struct-known)
     → Grouped (c .before .before .before .args .s .whole) ((2 ^ 64 - 1) / c .before .before .before .args .c)
-    (c .before .before .rounded-up .result) (c .before .rounded-up2 .result)
+    (c .before .before .wide-rounded-up .result) (c .before .wide-rounded-up2 .result)
 group c =
-    quotient-grouped _ _ (omega arith) (room (c .before .before .before)) (c .before .before .rounded-up .ensures) (c .before .rounded-up2 .ensures)
+    quotient-grouped _ _ (omega arith) (room (c .before .before .before)) (c .before .before .wide-rounded-up .ensures) (c .before .wide-rounded-up2 .ensures)
 
-div-rounded-up : tie.Need-div-rounded-up
-div-rounded-up c = search needs
+div-wide-rounded-up : tie.Need-div-wide-rounded-up
+div-wide-rounded-up c = search needs
 
-rounded-up-requires : tie.Need-rounded-up-requires
-rounded-up-requires c κs = room c
+wide-rounded-up-requires : tie.Need-wide-rounded-up-requires
+wide-rounded-up-requires c κs = (omega arith, room c)
 
-rounded-up-requires-2 : tie.Need-rounded-up-requires-2
-rounded-up-requires-2 c κs = rw (c .rounded-up .ensures) (roundedUp-positive _ _ (omega arith))
+wide-rounded-up-requires-2 : tie.Need-wide-rounded-up-requires-2
+wide-rounded-up-requires-2 c κs = (omega arith, rw (c .wide-rounded-up .ensures) (roundedUp-positive _ _ (omega arith)))
 
 div-kept : tie.Need-div-kept
 div-kept c = group c .unit
@@ -49,9 +49,9 @@ pub with-rounded-spec : {M : Type 1} → statement M
 with-rounded-spec =
     tie.close
     (tie.spec
-    div-rounded-up
-    rounded-up-requires
-    rounded-up-requires-2
+    div-wide-rounded-up
+    wide-rounded-up-requires
+    wide-rounded-up-requires-2
     div-kept
     mul-added
     div-added

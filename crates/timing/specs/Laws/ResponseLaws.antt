@@ -47,6 +47,20 @@ roundedUp-below n d k h = (
   λ l. lt-of-mul-lt-mul-right d (le-trans l (roundedUp-covers n d h)),
 )
 
+-- it is the only number with both
+roundedUp-only : (n d q : ℕ) → 1 ≤ d → n ≤ q * d → q * d < n + d → q ≡ roundedUp n d
+roundedUp-only n d q h covers tight =
+    le-antisymm
+    (le-of-suc-le-suc (lt-of-mul-lt-mul-right d (simp suc-mul (omega (arith, roundedUp-covers n d h)))))
+    (le-of-suc-le-suc (lt-of-mul-lt-mul-right d (simp suc-mul (omega (arith, roundedUp-tight n d h)))))
+
+-- of a positive number, one more than the quotient of the number less one is the rounded-up quotient
+pub roundedUp-lessened : (n d : ℕ) → 1 ≤ n → 1 ≤ d → (n - 1) / d + 1 ≡ roundedUp n d
+roundedUp-lessened n d positive h =
+    let whole = div-add-mod' (n - 1) d in
+    let rest = mod-lt (n - 1) h in
+    roundedUp-only n d _ h (simp (add-one, suc-mul) (omega arith)) (simp (add-one, suc-mul) (omega arith))
+
 -- one less than the rounded-up quotient times the divisor is at most the number
 pub roundedUp-before : (n d : ℕ) → 1 ≤ d → (roundedUp n d - 1) * d ≤ n
 roundedUp-before n d h = omega (arith, roundedUp-tight n d h, mul-sub d (roundedUp n d) 1)

@@ -1,4 +1,4 @@
--- `demands::rounded_up` meets its contract: the branch is the definition's own, and where a remainder is left, the
+-- `rounding::rounded_up` meets its contract: the branch is the definition's own, and where a remainder is left, the
 -- quotient is below the number, so that one more fits.
 -- Assumes nothing.
 use Prim.Native.Nat.{_/_}
@@ -8,8 +8,8 @@ use borrow.Author.Needs.{needs}
 use borrow.Author.Tests.{eq-eqb, ne-eqb}
 use Rattle.notation.specs.Lists.{if_then_else_}
 use Rattle.timing.specs.Response.{roundedUp}
-use Rattle.demands.proofs.rounded_up.Statement.{statement}
-use Rattle.demands.proofs.rounded_up.Tie as tie
+use Rattle.rounding.proofs.rounded_up.Statement.{statement}
+use Rattle.rounding.proofs.rounded_up.Tie as tie
 
 div-q : tie.Need-div-q
 div-q c = search needs
