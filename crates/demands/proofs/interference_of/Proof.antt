@@ -51,9 +51,10 @@ element-copy-out-rounded-up c = omega arith
 
 rounded-up-requires : tie.Need-rounded-up-requires Inv-loop μ-loop
 rounded-up-requires c κs =
-    let times = c .before .before .before .before .pre .0 in
+    let given = c .before .before .before .before .pre in
+    let times = given .0 in
     let below = c .before .loop-test .taken in
-    omega (arith, times .positive _ below, times .within _ below)
+    (given .2, omega (arith, times .positive _ below, times .within _ below), times .narrow _ below)
 
 mul-total : tie.Need-mul-total Inv-loop μ-loop
 mul-total c = omega arith

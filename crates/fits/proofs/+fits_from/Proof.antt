@@ -89,7 +89,7 @@ fits-from-element-copy-out-p : (t : ℕ) → fits-from-lts.Need-element-copy-out
 fits-from-element-copy-out-p t c = omega arith
 
 fits-from-rounded-up-requires : (t : ℕ) → fits-from-lts.Need-rounded-up-requires (claims t) (fits-from-at t) fits-from.Post
-fits-from-rounded-up-requires t c κs = positive t c
+fits-from-rounded-up-requires t c κs = (entry t c .pre .1 .3, positive t c, narrow t c)
 
 fits-from-mul-done : (t : ℕ) → fits-from-lts.Need-mul-done (claims t) (fits-from-at t) fits-from.Post
 fits-from-mul-done t c = omega (arith, sizes t c)

@@ -54,7 +54,14 @@ roundedUp-only n d q h covers tight =
     (le-of-suc-le-suc (lt-of-mul-lt-mul-right d (simp suc-mul (omega (arith, roundedUp-covers n d h)))))
     (le-of-suc-le-suc (lt-of-mul-lt-mul-right d (simp suc-mul (omega (arith, roundedUp-tight n d h)))))
 
--- of a positive number, one more than the quotient of the number less one is the rounded-up quotient
+-- the sum with the divisor less one, divided once, is the rounded-up quotient
+pub roundedUp-summed : (n d : ℕ) → 1 ≤ d → (n + (d - 1)) / d ≡ roundedUp n d
+roundedUp-summed n d h =
+    let whole = div-add-mod' (n + (d - 1)) d in
+    let rest = mod-lt (n + (d - 1)) h in
+    roundedUp-only n d _ h (omega arith) (omega arith)
+
+-- so is, of a positive number, one more than the quotient of the number less one
 pub roundedUp-lessened : (n d : ℕ) → 1 ≤ n → 1 ≤ d → (n - 1) / d + 1 ≡ roundedUp n d
 roundedUp-lessened n d positive h =
     let whole = div-add-mod' (n - 1) d in

@@ -26,6 +26,7 @@ mod replay_differential;
 mod response_times;
 mod rewritten;
 mod robustness;
+mod rounding;
 mod samples;
 mod sheet_differential;
 mod sheets;
