@@ -1,12 +1,12 @@
 -- One instruction of one job on one store. Document 01, "Instructions".
 -- Assumes nothing.
-use Prim.Native.Nat.{ℕ, suc, _+_, _-_, _%_}
+use Prim.Native.Nat.{ℕ, _+_, _-_, _%_}
 use mathlib.Core.Bool.{true, false}
 use mathlib.Core.List.{List, [], _∷_}
 use lib.ListN.{getD, set, replicate}
-use lib.Dec.{leb, ltb, eqb}
+use lib.Dec.{ltb, eqb}
 use Rattle.taskfile.specs.declared.Instruction.{Instruction}
-use Rattle.notation.specs.Lists.{if_then_else_, upTo}
+use Rattle.notation.specs.Lists.{if_then_else_, fromTo}
 use Rattle.machine.specs.declared.Effect.{Effect}
 use Rattle.machine.specs.declared.Local.{Local}
 use Rattle.machine.specs.Held.{acquire, release, noLocks}
@@ -21,7 +21,7 @@ fresh = record { next = 0; registers = replicate 4 0; held = noLocks }
 
 -- The values on offer: "8 Pick, a takes any value 0 to b"; "the value being the Pick's choice, else 0".
 unfoldable pub values : Instruction → List ℕ
-values i = if eqb (i .operation) 8 then upTo (suc (i .b)) else 0 ∷ []
+values i = if eqb (i .operation) 8 then fromTo 0 (i .b) else 0 ∷ []
 
 unfoldable pub register : Local → ℕ → ℕ
 register l r = getD (l .registers) r 0

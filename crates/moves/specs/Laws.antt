@@ -1,4 +1,5 @@
 pub mod DueLaws
 pub mod FirstLaws
 pub mod NextLaws
+pub mod OfferLaws
 pub mod StateLaws

@@ -1,5 +1,7 @@
 // The moves of a state, one after the other.
-use order::Frame;
+use locals::values::highest;
+use locals::values::lowest;
+use machine::POSITIONS;
 use programs::instruction_at;
 use programs::owned_by;
 use snapshots::DEPTH;
@@ -17,16 +19,15 @@ use snapshots::UPCOMING;
 use snapshots::VALUES;
 use starts::no_turn;
 use taskfile::Ceilings;
+use taskfile::Instruction;
 use taskfile::Task;
 use taskfile::limits::MOST_TASKS;
-use taskfile::operations::PICK;
 use timing::Job;
-use turns::offered;
 use turns::turn_of;
 ghost use mathlib.Core.Path.{_≡_};
 ghost use Prim.Native.Nat.{_≤_, _<_};
 ghost use Rattle.states.specs.Code.StateBytes.{snapshotIn, IsState};
-ghost use Rattle.moves.specs.Code.MoveParts.{NextStep, firstByte, maybeDue, topJob, valueAfter};
+ghost use Rattle.moves.specs.Code.MoveParts.{NextStep, firstByte, firstFrom, maybeDue, topJob, valueAfter};
 
 // A move: its order byte, or `NO_MOVE`, the byte from which on the next move is looked for, and whose turn it is.
 pub struct Candidate {
@@ -35,20 +36,29 @@ pub struct Candidate {
     pub turn: Due,
 }
 
-// The byte from which on the next move is looked for after a step of task i at this byte: the next value of a Pick, or
-// the next task's first byte.
-pub fn byte_after(program: &[u8; PROGRAM], f: Frame, byte: u8) -> u8
-    requires { ⌜ (byte < 128) × (f .local .next < 16) ⌝ }
-    ensures { λ r. ⌜ r ≡ valueAfter (now (program .entry)) f byte ⌝ }
+// The first value from v on that is on offer at an instruction, or `VALUES`. None above 15 fits an order's byte.
+pub fn first_from(o: Instruction, v: u8) -> u8
+    ensures { λ r. ⌜ r ≡ firstFrom o v ⌝ }
 {
-    let i = Task(byte / VALUES);
-    let local = f.local;
-    let o = instruction_at(program, i, local.next);
-    let next_task = VALUES * (i.0 + 1);
-    if o.operation != PICK {
-        return next_task;
+    let least = lowest(o);
+    let first = if v < least { least } else { v };
+    if highest(o) < first {
+        return VALUES;
     }
-    if o.b <= byte % VALUES {
+    if LAST_VALUE < first {
+        return VALUES;
+    }
+    first
+}
+
+// The byte from which on the next move is looked for after a step at this byte, which is one of this instruction: the
+// next value, or the next task's first byte where that was the last.
+pub fn byte_after(o: Instruction, byte: u8) -> u8
+    requires { ⌜ byte < 128 ⌝ }
+    ensures { λ r. ⌜ r ≡ valueAfter o byte ⌝ }
+{
+    let next_task = VALUES * (byte / VALUES + 1);
+    if highest(o) <= byte % VALUES {
         return next_task;
     }
     if byte % VALUES == LAST_VALUE {
@@ -107,12 +117,19 @@ pub fn next_move(
             let d = turn_of(program, times, locks, s, i);
             if d.due {
                 let f = d.frame;
-                if offered(program, f, i, at % VALUES) {
-                    return Candidate {
-                        byte: at,
-                        next: byte_after(program, f, at),
-                        turn: d,
-                    };
+                let local = f.local;
+                let next = local.next;
+                if next < POSITIONS {
+                    let o = instruction_at(program, i, next);
+                    let v = first_from(o, at % VALUES);
+                    if v < VALUES {
+                        let found = VALUES * i.0 + v;
+                        return Candidate {
+                            byte: found,
+                            next: byte_after(o, found),
+                            turn: d,
+                        };
+                    }
                 }
             }
         }

@@ -1,7 +1,7 @@
 -- Short words for lists and choices that the definitions of every section use.
 -- The tests are the library's: `leb a b` says that a is at most b, `ltb` below, `eqb` equal.
 -- Assumes nothing.
-use Prim.Native.Nat.{ℕ, zero, suc, max, _+_}
+use Prim.Native.Nat.{ℕ, zero, suc, max, _+_, _-_}
 use mathlib.Core.Bool.{Bool, true, false, _&&_, _||_}
 use mathlib.Core.List.{List, [], _∷_, _++_, map}
 use mathlib.Core.Option.{Option, none, some}
@@ -21,6 +21,10 @@ from start (suc n) = start ∷ from (suc start) n
 -- 0 to n - 1
 unfoldable pub upTo : ℕ → List ℕ
 upTo n = from 0 n
+
+-- `first` to `last`, both among them; none where `last` is below `first`
+unfoldable pub fromTo : ℕ → ℕ → List ℕ
+fromTo first last = from first (suc last - first)
 
 -- is the number in the list?
 unfoldable pub member : ℕ → List ℕ → Bool

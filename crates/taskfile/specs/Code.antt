@@ -1,3 +1,4 @@
+pub mod Choices
 pub mod JudgingParts
 pub mod Reading
 pub mod ReadingParts

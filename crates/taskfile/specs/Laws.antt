@@ -3,6 +3,7 @@ pub mod ChainExamples
 pub mod ChainLaws
 pub mod ChainReading
 pub mod CheckSteps
+pub mod ChoiceLaws
 pub mod JudgementLaws
 pub mod JudgingLaws
 pub mod LinkedLaws

@@ -225,4 +225,4 @@ module _ {a : Accepted} (ok : IsAccepted a) (plan : Plan) {runs : JobRuns} (lega
   unfolding job jobTotal
   next-due =
       turn-due a s p (next-turn .turn) (next-turn .due) (next-turn .whose) turn-offered
-      (job-offered ok (job (p .number)) next-job _ (p .mark .value) (cut-offered a (guessesOf a plan) (legal-back ok plan legal .whole) cut))
+      (job-offered ok (job (p .number)) _ (p .mark .value) (cut-offered a (guessesOf a plan) (legal-back ok plan legal .whole) cut))

@@ -1,16 +1,15 @@
 -- `moves::next_move` meets its contract. The loop's invariant: no byte from `byte` up to `at` is a step. The measure
 -- is the number of bytes left.
 -- Assumes nothing.
-use mathlib.Core.Path.{refl, sym, _∙_}
+use mathlib.Core.Path.{refl}
 use mathlib.Core.Logic.{inl, inr}
 use Prim.Native.Nat.{_≤_, _-_}
 use native.Mathlib.Omega.{arith}
 use Rattle.states.specs.Code.StateBytes.{snapshotIn}
 use Rattle.moves.specs.Laws.DueLaws.{not-due}
 use Rattle.moves.specs.Laws.FirstLaws.{first-passed}
-use Rattle.moves.specs.Laws.NextLaws.{passed-idle, passed-refused, step-found, no-move}
+use Rattle.moves.specs.Laws.NextLaws.{passed-idle, passed-past, passed-refused, step-found, no-move}
 use Rattle.states.specs.Laws.StateReads.{stack-length}
-use Rattle.snapshots.specs.Laws.StepPartLaws.{offered-inside}
 use Rattle.moves.specs.Laws.StateLaws.{few-deep}
 use Rattle.moves.specs.Code.MoveParts.{NoStep}
 use Rattle.moves.proofs.next_move.Statement.{statement}
@@ -36,18 +35,31 @@ may-be-due-requires c κs = omega arith
 turn-of-requires : tie.Need-turn-of-requires Inv-loop μ-loop
 turn-of-requires c κs = let given = c .before .before .before .before .before .pre in (given .0, given .1)
 
-offered-requires : tie.Need-offered-requires Inv-loop μ-loop
-offered-requires c κs = omega arith
+instruction-at-requires : tie.Need-instruction-at-requires Inv-loop μ-loop
+instruction-at-requires c κs = (omega arith, c .if3 .taken)
+
+first-from-requires : tie.Need-first-from-requires Inv-loop μ-loop
+first-from-requires c κs = tt
+
+mul-found : tie.Need-mul-found Inv-loop μ-loop
+mul-found c = omega arith
+
+add-found : tie.Need-add-found Inv-loop μ-loop
+add-found c = omega arith
 
 byte-after-requires : tie.Need-byte-after-requires Inv-loop μ-loop
-byte-after-requires c κs = (omega arith, offered-inside _ _ _ _ (sym (c .before .offered .ensures) ∙ c .if3 .taken))
+byte-after-requires c κs = omega (arith, c .before .if4 .taken)
 
 returns : tie.Need-returns Inv-loop μ-loop
 returns c =
-    let due = c .before .before .before .before in
+    let value = c .before .before in
+    let instruction = value .before .before in
+    let inside = instruction .before in
+    let due = inside .before .before .before in
     let head = due .before .before .before .before in
-    step-found _ _ _ _ _ (due .before .turn-of .ensures .0) (due .if2 .taken) (c .before .before .offered .ensures) _
-    (head .loop-test .taken) (head .before .loop .inv .0) (head .before .loop .inv .2) (c .before .if3 .taken) (c .byte-after .ensures)
+    step-found _ _ _ _ _ (due .before .turn-of .ensures .0) (due .if2 .taken) (inside .if3 .taken)
+    (instruction .instruction-at .ensures) (value .before .first-from .ensures) _ (head .loop-test .taken)
+    (head .before .loop .inv .0) (head .before .loop .inv .2) (value .if4 .taken) (c .byte-after .ensures)
 
 add-at : tie.Need-add-at Inv-loop μ-loop
 add-at c = omega arith
@@ -65,9 +77,13 @@ loop-again c =
       omega arith,
       omega arith,
       elim (c .if1 .came) [
-        | inl refusal ↦ passed-refused _ _ _ _ _ (refusal .1 .ensures .0) (refusal .2 .taken) (refusal .4 .ensures) _ (head .2) (refusal .5 .left)
-        | inr (inl idle) ↦ passed-idle _ _ _ _ _ (idle .1 .ensures .0) _ (head .2) (idle .2 .left)
-        | inr (inr skipped) ↦
+        | inl none ↦
+            passed-refused _ _ _ _ _ (none .1 .ensures .0) (none .2 .taken) (none .5 .taken) (none .6 .ensures)
+            (none .7 .ensures) _ (head .2) (none .8 .left)
+        | inr (inl past) ↦
+            passed-past _ _ _ _ _ (past .1 .ensures .0) (past .2 .taken) _ (head .2) (past .5 .left)
+        | inr (inr (inl idle)) ↦ passed-idle _ _ _ _ _ (idle .1 .ensures .0) _ (head .2) (idle .2 .left)
+        | inr (inr (inr skipped)) ↦
             passed-idle _ _ _ _ _ refl _ (head .2)
             (not-due _ _ _ _ _ (few-deep (start .pre .1)) (stack-length _) (start .pre .3) (c .before .may-be-due .ensures) (skipped .left))
       ],
@@ -90,7 +106,10 @@ next-move-spec =
     loop-holds
     may-be-due-requires
     turn-of-requires
-    offered-requires
+    instruction-at-requires
+    first-from-requires
+    mul-found
+    add-found
     byte-after-requires
     returns
     add-at

@@ -4,13 +4,14 @@ use mathlib.Core.Path.{_≡_}
 use Prim.Native.Nat.{ℕ, _+_, _*_, _/_, _%_, _≤_, _<_}
 use mathlib.Core.Bool.{Bool, true, false, _&&_, _||_}
 use mathlib.Core.List.{List}
-use lib.Dec.{ltb, eqb}
+use lib.Dec.{leb, ltb, eqb}
 use lib.ListN.{getD}
 use Rattle.taskfile.specs.declared.Ceilings.{Ceilings}
+use Rattle.taskfile.specs.declared.Instruction.{Instruction}
+use Rattle.taskfile.specs.Code.Choices.{lowest, highest}
 use Rattle.notation.specs.Lists.{if_then_else_}
-use Rattle.order.specs.declared.Frame.{Frame}
 use Rattle.snapshots.specs.Code.Snapshots.{Snapshot}
-use Rattle.snapshots.specs.Code.SnapshotSteps.{ownerIn, ownedBy, instructionIn, topOf, turnIn, stepIn, offeredIn}
+use Rattle.snapshots.specs.Code.SnapshotSteps.{ownerIn, ownedBy, topOf, turnIn, stepIn, offeredIn}
 use Rattle.moves.specs.declared.Candidate.{Candidate}
 
 -- no byte from `first` up to `last` is a step
@@ -46,8 +47,15 @@ firstByte program top byte =
     let first = 16 * ownerIn program top in
     if ltb top 32 && ltb (ownerIn program top) 8 && ltb byte first then first else byte
 
--- where the next value is looked for after a step at this byte
-unfoldable pub valueAfter : List ℕ → Frame → ℕ → ℕ
-valueAfter program f byte =
-    let o = instructionIn program (byte / 16) (f .local .next) in
-    if eqb (o .operation) 8 && ltb (byte % 16) (o .b) && ltb (byte % 16) 15 then byte + 1 else 16 * (byte / 16 + 1)
+-- v, or the lowest value where v is below it
+unfoldable pub raised : ℕ → ℕ → ℕ
+raised v least = if ltb v least then least else v
+
+-- the first value from v on that is on offer at an instruction, or 16
+unfoldable pub firstFrom : Instruction → ℕ → ℕ
+firstFrom o v = let first = raised v (lowest o) in if leb first (highest o) && ltb first 16 then first else 16
+
+-- where the next value is looked for after a step at this byte, which is one of this instruction
+unfoldable pub valueAfter : Instruction → ℕ → ℕ
+valueAfter o byte =
+    if ltb (byte % 16) (highest o) && ltb (byte % 16) 15 then byte + 1 else 16 * (byte / 16 + 1)

@@ -1,15 +1,15 @@
 -- Laws of membership: what `member` says of a number, of numbers from a start on, and of lists joined.
 -- Assumes nothing.
 use mathlib.Core.Path.{_≡_, refl}
-use Prim.Native.Nat.{ℕ, zero, suc, _+_, _≤_, _<_}
-use mathlib.Core.Bool.{true, _||_, or-assoc, or-comm, false, false≢true}
+use Prim.Native.Nat.{ℕ, zero, suc, _+_, _-_, _≤_, _<_}
+use mathlib.Core.Bool.{true, _&&_, _||_, or-assoc, or-comm, false, false≢true}
 use mathlib.Core.List.{List, [], _∷_, _++_, List·Memᴰ, List·Memᴰ·head, List·Memᴰ·tail, List·Memᴰ·not-nil, List·Memᴰ·cases-cons}
-use borrow.Author.Tests.{eq-eqb, ne-eqb, eqb-true}
-use Rattle.notation.specs.Lists.{member, from}
-use native.Mathlib.Decide.{ℕ-discrete}
+use borrow.Author.Tests.{eq-eqb, ne-eqb, eqb-true, le-leb, lt-leb}
+use Rattle.notation.specs.Lists.{member, from, fromTo}
+use native.Mathlib.Decide.{ℕ-discrete, decLe}
 use native.Mathlib.Omega.{arith}
 use mathlib.Core.Logic.{inl, inr}
-use lib.Dec.{eqb}
+use lib.Dec.{leb, eqb}
 use Rattle.notation.specs.Laws.TestLaws.{or-either, or-left, or-right}
 
 -- what is in two lists joined is in one of them
@@ -47,6 +47,25 @@ pub member-above : (v start n : ℕ) → start + n ≤ v → member v (from star
 unfolding member from
 member-above v start zero le = refl
 member-above v start (suc n) le = rw (ne-eqb v start (λ same. omega arith)) (member-above v (suc start) n (omega arith))
+
+pub member-below : (v start n : ℕ) → v < start → member v (from start n) ≡ false
+unfolding member from
+member-below v start zero lt = refl
+member-below v start (suc n) lt = rw (ne-eqb v start (λ same. omega arith)) (member-below v (suc start) n (omega arith))
+
+-- and one of those from `first` to `last` exactly if it is at least the first and at most the last
+pub member-between : (v first last : ℕ) → member v (fromTo first last) ≡ (leb first v && leb v last)
+unfolding fromTo
+member-between v first last =
+    let n = suc last - first in
+    elim (decLe first v) [
+      | yes low ↦
+          elim (decLe v last) [
+            | yes high ↦ rw (le-leb first v low, le-leb v last high) (member-inside v first n low (omega arith))
+            | no past ↦ rw (le-leb first v low, lt-leb v last (omega arith)) (member-above v first n (omega arith))
+          ]
+      | no short ↦ rw (lt-leb first v (omega arith)) (member-below v first n (omega arith))
+    ]
 
 -- membership as a test, and the other way round
 pub member-holds : (x : ℕ) (ys : List ℕ) → List·Memᴰ x ys → member x ys ≡ true

@@ -15,6 +15,12 @@ every-at P [] k d h lt = absurd (not-suc-le-zero lt)
 every-at P (x ∷ xs) zero d h lt = h .0
 every-at P (x ∷ xs) (suc k) d h lt = every-at P xs k d (h .1) (le-of-suc-le-suc lt)
 
+-- of an element, and of what stands in for one past the last
+pub every-getD : {A : Type 0} (P : A → Type 0) (xs : List A) (k : ℕ) (d : A) → Every P xs → P d → P (getD xs k d)
+every-getD P [] k d h past = past
+every-getD P (x ∷ xs) zero d h past = h .0
+every-getD P (x ∷ xs) (suc k) d h past = every-getD P xs k d (h .1) past
+
 pub ordered-at : {A : Type 0} (R : A → A → Type 0) (xs : List A) (j k : ℕ) (d : A) → Ordered R xs → j < k
     → k < length xs → R (getD xs j d) (getD xs k d)
 ordered-at R [] j k d h lt below = absurd (not-suc-le-zero below)

@@ -13,15 +13,16 @@ use mathlib.Core.Option.{some, bind}
 use lib.ListN.{length, getD}
 use lib.Dec.{eqb}
 use borrow.Author.Tests.{eq-eqb, not-true, not-false}
-use Rattle.taskfile.specs.declared.Instruction.{Instruction}
+use Rattle.taskfile.specs.Code.Choices.{lowest}
 use Rattle.taskfile.specs.Laws.JudgingLaws.{tasks-length}
-use Rattle.notation.specs.Lists.{if_then_else_, from, upTo, member, all, any, firstWith}
+use Rattle.notation.specs.Lists.{if_then_else_, member, all, any, firstWith}
 use Rattle.notation.specs.Laws.TestLaws.{and-holds, test-decided, not-both}
 use Rattle.timing.specs.declared.Job.{Job}
 use Rattle.timing.specs.Accepted.{Accepted}
 use Rattle.timing.specs.Laws.RelationLaws.{before-raises}
 use Rattle.timing.specs.Relations.{IsJob, base, before, jobAt, jobNumbers}
 use Rattle.machine.specs.Instructions.{fresh, values}
+use Rattle.machine.specs.Laws.ValueLaws.{lowest-offered}
 use Rattle.order.specs.declared.Frame.{Frame}
 use Rattle.order.specs.Code.Invariant.{Invariant}
 use Rattle.timing.specs.Laws.JobFacts.{job-task}
@@ -48,10 +49,14 @@ unfolding turnOf turnAmong if_then_else_
 running-turn a s f under same =
     ap (turnAmong a s (base a (f .job))) same ∙ rw (eq-eqb (base a (f .job)) (base a (f .job)) refl) refl
 
--- the value 0 is always on offer
-pub values-zero : (i : Instruction) → member 0 (values i) ≡ true
-unfolding values member upTo from if_then_else_
-values-zero i = elim (test-decided (eqb (i .operation) 8)) [ inl e ↦ rw e refl | inr e ↦ rw e refl ]
+-- the lowest value on offer makes a turn a step
+lowest-step : {a : Accepted} → IsAccepted a → (s : State) (i : ℕ) {turn : Turn} → turnOf a s i ≡ some turn
+    → (byte : ℕ) × (after : State) × (step a s byte ≡ some after)
+unfolding nextOf
+lowest-step {a} ok s i {turn} due =
+    let made = ok .isMade .choices (jobAt a (turn .frame .job) .task) (turn .frame .local .next) in
+    let v = lowest (nextOf a (turn .frame)) in
+    (_, _, turn-step a s i v due (omega (arith, made .some, made .few)) (lowest-offered (nextOf a (turn .frame)) made))
 
 -- ---- the least of some numbers
 
@@ -195,4 +200,4 @@ pub state-progresses : {a : Accepted} → IsAccepted a → {s : State} → Invar
     → (byte : ℕ) × (after : State) × (step a s byte ≡ some after)
 state-progresses {a} ok {s} inv undone =
     let found = turn-found ok s (s .active) refl undone in
-    (_, _, turn-step a s (found .0) 0 (found .2) (omega arith) (values-zero _))
+    lowest-step ok s (found .0) (found .2)

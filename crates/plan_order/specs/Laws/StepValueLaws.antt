@@ -1,24 +1,22 @@
 -- The values of a plan's steps are below 16, where its run passed: each is on offer at its instruction.
 -- Assumes nothing.
 use mathlib.Core.Path.{_≡_, subst}
-use Prim.Native.Nat.{ℕ, zero, suc, _+_, _*_, _≤_, _<_}
-use native.Mathlib.Omega.{arith}
+use Prim.Native.Nat.{ℕ, zero, suc, _+_, _*_, _<_}
 use mathlib.Core.Bool.{Bool, true, false, _&&_}
 use mathlib.Core.List.{List, [], _∷_}
 use lib.ListN.{length, getD}
 use lib.Dec.{leb, ltb, eqb}
 use Rattle.notation.specs.Checked.{Checked, passed, require}
 use Rattle.notation.specs.Laws.CheckedLaws.{passed-same, bind-passed, then-passed, require-passed}
-use Rattle.notation.specs.Laws.PairLaws.{every-imp, every-map, from-within}
 use Rattle.notation.specs.Laws.TestLaws.{test-holds}
-use Rattle.notation.specs.Lists.{if_then_else_, from, upTo, member}
+use Rattle.notation.specs.Lists.{if_then_else_, member}
 use Rattle.notation.specs.Ordered.{Every}
 use Rattle.taskfile.specs.Chains.{mostInstructions}
 use Rattle.taskfile.specs.Judgement.{instructionOf}
 use Rattle.timing.specs.declared.Job.{Job}
 use Rattle.timing.specs.Accepted.{Accepted}
 use Rattle.timing.specs.Code.IsAccepted.{IsAccepted}
-use Rattle.timing.specs.Relations.{IsJob, jobAt, jobNumbers}
+use Rattle.timing.specs.Relations.{jobAt, jobNumbers}
 use Rattle.machine.specs.declared.Effect.{Effect}
 use Rattle.machine.specs.declared.Local.{Local}
 use Rattle.machine.specs.Instructions.{fresh, values}
@@ -35,16 +33,16 @@ Small step = step .value < 16
 
 module _ {a : Accepted} (ok : IsAccepted a) (plan : Plan) where
   -- a value that passed is on offer
-  bytes-small : (x : Job) → IsJob a x → (local : Local) (previous : Round) (offset : ℕ) {u : Unit {0}}
+  bytes-small : (x : Job) (local : Local) (previous : Round) (offset : ℕ) {u : Unit {0}}
       → stepBytes a plan x local previous offset ≡ passed u → getD plan (offset + 1) 0 < 16
   unfolding stepBytes stepBytesFor
-  bytes-small x isJob local previous offset e =
+  bytes-small x local previous offset e =
       let first = then-passed (require (ltb (offset + 1) (length plan)) 40 (length plan)) _ e in
       let second = then-passed
       (require (ltb (roundAt plan offset .0) (jobTotal a) && notLater previous (roundAt plan offset)) 42 offset) _ (first .2) in
       let offered = test-holds _ (require-passed
       (member (getD plan (offset + 1) 0) (values (instructionOf (a .table) (jobAt a x .task) (local .next)))) 41 (offset + 1) (second .2)) in
-      job-offered ok x isJob (local .next) (getD plan (offset + 1) 0) offered
+      job-offered ok x (local .next) (getD plan (offset + 1) 0) offered
 
   -- nothing more after an End, and the job's further steps otherwise
   onward-small : (ended : Bool) (next : RunState) (further : Checked ℕ JobRun) {rest : JobRun}
@@ -63,12 +61,12 @@ module _ {a : Accepted} (ok : IsAccepted a) (plan : Plan) where
   before-small step rest small others e =
       subst (λ (run : JobRun). Every Small (run .steps)) (passed-same {P = ℕ} e) (small, others)
 
-  job-small : (x : Job) → IsJob a x → (left : ℕ) (local : Local) (previous : Round) (running : RunState) {run : JobRun}
+  job-small : (x : Job) (left : ℕ) (local : Local) (previous : Round) (running : RunState) {run : JobRun}
       → runJob a plan x left local previous running ≡ passed run → Every Small (run .steps)
   unfolding runJob runs.stepMade
-  job-small x isJob zero local previous running e =
+  job-small x zero local previous running e =
       subst (λ (run : JobRun). Every Small (run .steps)) (passed-same {P = ℕ} e) tt
-  job-small x isJob (suc left) local previous running {run} e =
+  job-small x (suc left) local previous running {run} e =
       let effect : Effect = runs.stepEffect a plan x local running in
       let step = runs.stepMade a plan x running effect in
       let next : RunState = runs.runningAfter plan x running effect in
@@ -78,28 +76,20 @@ module _ {a : Accepted} (ok : IsAccepted a) (plan : Plan) where
       let after = bind-passed onward
       (λ rest. passed (record { steps = step ∷ rest .steps; running = rest .running })) (checks .2) in
       let rest = onward-small (effect .ended) next further
-      (λ h. job-small x isJob left (effect .local) (step .round) next h) (after .1) in
-      before-small step (after .0) (bytes-small x isJob local previous (running .offset) (checks .1)) rest (after .2)
+      (λ h. job-small x left (effect .local) (step .round) next h) (after .1) in
+      before-small step (after .0) (bytes-small x local previous (running .offset) (checks .1)) rest (after .2)
 
-  jobs-small : (xs : List Job) → Every (IsJob a) xs → (running : RunState) {all : JobRuns}
+  jobs-small : (xs : List Job) (running : RunState) {all : JobRuns}
       → runJobs a plan xs running ≡ passed all → Every (Every Small) (all .steps)
   unfolding runJobs
-  jobs-small [] are running e =
+  jobs-small [] running e =
       subst (λ (all : JobRuns). Every (Every Small) (all .steps)) (passed-same {P = ℕ} e) tt
-  jobs-small (x ∷ xs) are running e =
+  jobs-small (x ∷ xs) running e =
       let first = bind-passed (runJob a plan x mostInstructions fresh firstRound running) _ e in
       let second = bind-passed (runJobs a plan xs (first .0 .running)) _ (first .2) in
-      let one = job-small x (are .0) mostInstructions fresh firstRound running (first .1) in
-      let others = jobs-small xs (are .1) (first .0 .running) (second .1) in
+      let one = job-small x mostInstructions fresh firstRound running (first .1) in
+      let others = jobs-small xs (first .0 .running) (second .1) in
       subst (λ (all : JobRuns). Every (Every Small) (all .steps)) (passed-same {P = ℕ} (second .2)) (one, others)
-
-  -- the jobs that are numbered are jobs
-  numbered : Every (IsJob a) (jobNumbers a)
-  unfolding jobNumbers upTo
-  numbered =
-      every-map (IsJob a) (λ n. record { 0 = n }) (from 0 (length (a .jobs)))
-      (every-imp (λ k. (0 ≤ k) × (k < 0 + length (a .jobs))) (λ k. k < length (a .jobs)) (λ k h. omega (arith, h .1))
-      (from 0 (length (a .jobs))) (from-within 0 (length (a .jobs))))
 
   plan-small : {all : JobRuns} → runPlan a plan ≡ passed all → Every (Every Small) (all .steps)
   unfolding runPlan
@@ -110,7 +100,7 @@ module _ {a : Accepted} (ok : IsAccepted a) (plan : Plan) where
       let ending = jobs .0 .running .offset in
       let last = then-passed (require (eqb ending (length plan)) 40 ending) _ (jobs .2) in
       subst (λ (all : JobRuns). Every (Every Small) (all .steps)) (passed-same {P = ℕ} (last .2))
-      (jobs-small (jobNumbers a) numbered (runStart a plan) (jobs .1))
+      (jobs-small (jobNumbers a) (runStart a plan) (jobs .1))
 
   -- the values of a legal plan's steps
   pub steps-small : {all : JobRuns} → Legal a plan all → Every (Every Small) (all .steps)

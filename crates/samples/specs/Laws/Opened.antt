@@ -22,7 +22,7 @@ use Rattle.machine.specs.Instructions
 
 unfoldable pub notationOpened : Unit {0}
 unfolding Checked._>>=_ Checked._>>_ Checked.require Checked.given Checked.noneOf Checked.placedBy Lists.if_then_else_
-    Lists.from Lists.upTo Lists.member Lists.all Lists.any Lists.only Lists.firstWith Lists.each Lists.same
+    Lists.from Lists.upTo Lists.fromTo Lists.member Lists.all Lists.any Lists.only Lists.firstWith Lists.each Lists.same
     Lists.firstOr Lists.lastOr Lists.sum Lists.largest Lists.padded
 notationOpened = tt
 

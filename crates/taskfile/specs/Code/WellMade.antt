@@ -1,5 +1,5 @@
--- What a table that was loaded is like: its arrays are full, its store has eight bytes, no body is empty, and a Pick
--- offers at most 16 values.
+-- What a table that was loaded is like: its arrays are full, its store has eight bytes, no body is empty, and each
+-- instruction offers some value and none above 15.
 -- Assumes nothing.
 use mathlib.Core.Path.{_≡_}
 use Prim.Native.Nat.{ℕ, _≤_, _<_}
@@ -7,6 +7,7 @@ use lib.ListN.{length}
 use Rattle.taskfile.specs.declared.Table.{Table}
 use Rattle.taskfile.specs.declared.Task.{Task}
 use Rattle.taskfile.specs.Judgement.{instructionOf}
+use Rattle.taskfile.specs.Code.Choices.{Chooses}
 use Rattle.taskfile.specs.Code.JudgingParts.{Shaped}
 use Rattle.taskfile.specs.Tables.{tasksOf, taskOf, bodyOf}
 
@@ -15,5 +16,4 @@ pub record WellMade (t : Table) : Type 0 where
   pub shaped : Shaped t
   pub store : length (t .store) ≡ 8
   pub bodies : (i : Task) → i .0 < length (tasksOf t) → 1 ≤ length (bodyOf (taskOf t i))
-  pub picks : (i : Task) (p : ℕ) → i .0 < length (tasksOf t) → p < length (bodyOf (taskOf t i))
-      → instructionOf t i p .operation ≡ 8 → instructionOf t i p .b ≤ 15
+  pub choices : (i : Task) (p : ℕ) → Chooses (instructionOf t i p)

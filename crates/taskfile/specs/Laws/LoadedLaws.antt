@@ -1,17 +1,17 @@
--- What a table that was loaded is like: its arrays are full, its store has eight bytes, no body is empty, and a Pick
--- offers at most sixteen values.
+-- What a table that was loaded is like: its arrays are full, its store has eight bytes, no body is empty, and each
+-- instruction offers some value and none above 15.
 -- Assumes nothing.
 use mathlib.Core.Path.{_≡_, sym, ap, subst, _∙_}
 use mathlib.Core.Logic.{_≢_}
 use Prim.Native.Nat.{ℕ, zero, suc, _≤_, _<_}
+use native.Mathlib.Decide.{decLt}
 use native.Mathlib.Omega.{arith}
-use mathlib.Core.Bool.{true, not, _&&_}
+use mathlib.Core.Bool.{true, not}
 use mathlib.Core.List.{List, _∷_}
-use lib.ListN.{length, drop, length-map, length-drop}
+use lib.ListN.{length, getD, drop, length-map, length-drop, List·getD-eq-default}
 use lib.Seq.{length-take-le}
-use lib.Dec.{ltb, eqb}
-use borrow.Author.Tests.{leb-true, eqb-false, not-true}
-use Rattle.taskfile.specs.declared.Instruction.{Instruction}
+use lib.Dec.{eqb}
+use borrow.Author.Tests.{eqb-false, not-true}
 use Rattle.taskfile.specs.declared.Kind.{Kind}
 use Rattle.taskfile.specs.declared.Kind.the-variants.{InstructionRecord}
 use Rattle.taskfile.specs.declared.Task.{Task}
@@ -22,16 +22,18 @@ use Rattle.notation.specs.Checked.{passed, require}
 use Rattle.notation.specs.Laws.CheckedLaws.{passed-same, bind-passed, then-passed, require-passed}
 use Rattle.taskfile.specs.File.{Loaded, load, sized}
 use Rattle.taskfile.specs.Judgement.{instructionOf}
+use Rattle.taskfile.specs.Code.Choices.{Chooses}
 use Rattle.taskfile.specs.Code.JudgingParts.{Shaped}
+use Rattle.taskfile.specs.Laws.ChoiceLaws.{ranged-chooses, end-chooses}
 use Rattle.taskfile.specs.Laws.LinkedLaws.{linked-length, linked-more}
 use Rattle.notation.specs.Lists.{member}
 use Rattle.taskfile.specs.Laws.LoadLaws.{load-parts, sized-within}
-use Rattle.notation.specs.Laws.PairLaws.{every-at, every-imp, every-map}
+use Rattle.notation.specs.Laws.PairLaws.{every-getD, every-imp, every-map}
 use Rattle.notation.specs.Ordered.{Every}
 use Rattle.taskfile.specs.Code.Reading.{linked}
-use Rattle.taskfile.specs.Records.{File, byteAt, next, inRange, operationUses, usesOf, fieldInRange, instructionAt, instructionInRange}
-use Rattle.taskfile.specs.Tables.{tasksOf, taskOf, bodyOf, endInstruction, entryAt, tableAt}
-use Rattle.notation.specs.Laws.TestLaws.{and-both, test-holds}
+use Rattle.taskfile.specs.Records.{File, byteAt, next, inRange, instructionAt}
+use Rattle.taskfile.specs.Tables.{tasksOf, taskOf, bodyOf, noTask, endInstruction, entryAt, tableAt}
+use Rattle.notation.specs.Laws.TestLaws.{test-holds}
 use Rattle.taskfile.specs.Laws.TimesLaws.{follow-in-range, reached-held}
 use Rattle.taskfile.specs.Code.WellMade.{WellMade}
 
@@ -62,27 +64,14 @@ chain-in-range kind (suc allowed) f reached holder (suc i) e =
       chain-in-range kind allowed f (suc i ∷ reached) (suc i) (next f (suc i)) (others .1),
     )
 
--- a Pick offers at most sixteen values
-abbrev PicksFew : Instruction → Type 0
-PicksFew x = x .operation ≡ 8 → x .b ≤ 15
-
-instruction-picks : (x : Instruction) → instructionInRange x ≡ true → PicksFew x
-unfolding instructionInRange usesOf operationUses fieldInRange
-instruction-picks x h e =
-    let u = usesOf (x .operation) in
-    let known = ltb (x .operation) (length operationUses) in
-    let parts = and-both (known && fieldInRange (u .a) (x .a) && fieldInRange (u .b) (x .b)) _ h in
-    let inB = and-both (known && fieldInRange (u .a) (x .a)) _ (parts .0) .1 in
-    leb-true (x .b) 15 (subst (λ (o : ℕ). fieldInRange (usesOf o .b) (x .b) ≡ true) e inB)
-
 -- what an entry's body is like
 record BodyMade (e : TaskEntry) : Type 0 where
   some : 1 ≤ length (bodyOf e)
-  few : Every PicksFew (bodyOf e)
+  choices : Every Chooses (bodyOf e)
 
-record-picks : (f : File) (r : ℕ) → inRange f r InstructionRecord ≡ true → PicksFew (instructionAt f r)
+record-chooses : (f : File) (r : ℕ) → inRange f r InstructionRecord ≡ true → Chooses (instructionAt f r)
 unfolding inRange
-record-picks f r h = instruction-picks (instructionAt f r) h
+record-chooses f r h = ranged-chooses (instructionAt f r) h
 
 -- a body that passed has a first instruction, and its records are in range
 body-made : (f : File) (reached : List ℕ) (r : ℕ) (body : List ℕ) → bodyChain f reached r ≡ passed body
@@ -98,17 +87,27 @@ body-made f reached r body e =
     let held = body-held f (record { taskRecord = r; body = body }) few in
     record {
       some = rw (held, length-map body (instructionAt f)) (omega arith);
-      few =
+      choices =
           rw held
-          (every-map PicksFew (instructionAt f) body
-          (every-imp (λ r. inRange f r InstructionRecord ≡ true) (λ r. PicksFew (instructionAt f r)) (record-picks f) body
+          (every-map Chooses (instructionAt f) body
+          (every-imp (λ r. inRange f r InstructionRecord ≡ true) (λ r. Chooses (instructionAt f r)) (record-chooses f) body
           (chain-in-range InstructionRecord mostInstructions f reached r first (parts .2))));
     }
+
+-- behind a body's end stands End, and behind the tasks a task without a body
+body-chooses : (tasks : List TaskEntry) (i : ℕ) → (i < length tasks → Every Chooses (bodyOf (getD tasks i noTask)))
+    → Every Chooses (bodyOf (getD tasks i noTask))
+unfolding bodyOf noTask
+body-chooses tasks i inside =
+    elim (decLt i (length tasks)) [
+      | yes lt ↦ inside lt
+      | no past ↦ rw (List·getD-eq-default tasks noTask {n = i} (omega arith)) tt
+    ]
 
 -- ---- the table
 
 pub loaded-well : (f : File) {l : Loaded} → load f ≡ passed l → WellMade (l .table)
-unfolding instructionOf
+unfolding instructionOf taskOf
 loaded-well f {l} e =
     let parts = load-parts f e in
     let t = tableAt f (l .chains) in
@@ -119,6 +118,8 @@ loaded-well f {l} e =
       shaped = subst (λ (c : Chains). Shaped (tableAt f c)) (sym (chains-linked f (parts .0))) (table-shaped f);
       store = store-full f (l .chains) (load-sized f e);
       bodies = λ i lt. body i lt .some;
-      picks = λ i p lt within. every-at PicksFew (bodyOf (taskOf t i)) p endInstruction (body i lt .few) within;
+      choices = λ i p.
+          every-getD Chooses (bodyOf (taskOf t i)) p endInstruction
+          (body-chooses (tasksOf t) (i .0) (λ lt. body i lt .choices)) end-chooses;
     } in
     subst WellMade (sym (parts .1)) made

@@ -10,9 +10,11 @@ use mathlib.Core.List.{List, [], _∷_}
 use lib.ListN.{length, getD, List·getD-eq-default}
 use lib.Dec.{leb, ltb}
 use borrow.Author.Tests.{eq-eqb, ne-eqb, le-leb, ltb-true}
+use Rattle.taskfile.specs.declared.Instruction.{Instruction}
 use Rattle.notation.specs.Lists.{from, all, each}
 use Rattle.taskfile.specs.Code.RecordFields.{fieldOf, limitOf}
-use Rattle.taskfile.specs.Records.{File, byteAt, zeroFrom, Use, unused, most, lockNumber, Uses, uses, operationUses, usesOf, tidyField, fieldInRange}
+use Rattle.taskfile.specs.Records.{File, byteAt, zeroFrom, Use, unused, most, lockNumber, Uses, uses, operationUses, usesOf, tidyField}
+use Rattle.taskfile.specs.Records.{fieldInRange, instructionInRange}
 use Rattle.notation.specs.Laws.TestLaws.{and-both}
 use Rattle.notation.specs.Laws.QuantifierLaws.{all-getD}
 
@@ -114,3 +116,20 @@ unfolding fieldInRange limitOf
 fieldInRange-used unused x b h = absurd (h refl)
 fieldInRange-used (most n) x b h = refl
 fieldInRange-used lockNumber x b h = sym (le-leb x 255 (omega arith))
+
+-- what an instruction in range is like: its operation is known, and each field in range
+pub record Ranged (i : Instruction) : Type 0 where
+  pub known : i .operation < 12
+  pub inA : fieldInRange (usesOf (i .operation) .a) (i .a) ≡ true
+  pub inB : fieldInRange (usesOf (i .operation) .b) (i .b) ≡ true
+  pub inC : fieldInRange (usesOf (i .operation) .c) (i .c) ≡ true
+
+pub instruction-ranged : (i : Instruction) → instructionInRange i ≡ true → Ranged i
+unfolding instructionInRange operationUses
+instruction-ranged i inside =
+    let u = usesOf (i .operation) in
+    let known = ltb (i .operation) 12 in
+    let third = and-both (known && fieldInRange (u .a) (i .a) && fieldInRange (u .b) (i .b)) _ inside in
+    let second = and-both (known && fieldInRange (u .a) (i .a)) _ (third .0) in
+    let first = and-both known _ (second .0) in
+    record { known = ltb-true (i .operation) 12 (first .0); inA = first .1; inB = second .1; inC = third .1 }

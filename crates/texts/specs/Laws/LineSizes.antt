@@ -4,18 +4,18 @@
 use mathlib.Core.Path.{_≡_, refl, ap, _∙_}
 use Prim.Native.Nat.{ℕ, zero, suc, _+_, _*_, _^_, _≤_, _<_}
 use native.Mathlib.Omega.{arith}
-use mathlib.Core.Bool.{Bool, true, false, _&&_}
+use mathlib.Core.Bool.{Bool, true, false}
 use mathlib.Core.List.{List, [], _∷_, _++_, map}
 use lib.ListN.{length, getD, take, length-append, length-take}
 use lib.Dec.{leb, ltb}
 use borrow.Author.Tests.{leb-true, ltb-true, eqb-true}
 use Rattle.notation.specs.Laws.ListLaws.{each-append}
-use Rattle.notation.specs.Laws.TestLaws.{and-both}
 use Rattle.notation.specs.Lists.{if_then_else_, from, upTo, all, each, sum}
 use Rattle.notation.specs.Ordered.{Every}
 use Rattle.taskfile.specs.declared.Instruction.{Instruction}
 use Rattle.taskfile.specs.declared.TaskEntry.{TaskEntry}
 use Rattle.taskfile.specs.Judgement.{isEnd}
+use Rattle.taskfile.specs.Laws.RecordLaws.{instruction-ranged}
 use Rattle.taskfile.specs.Records.{Use, unused, most, lockNumber, operationUses, usesOf, fieldInRange}
 use Rattle.taskfile.specs.Records.{instructionInRange}
 use Rattle.taskfile.specs.Tables.{bodyOf, endInstruction}
@@ -127,24 +127,21 @@ operation-most o known =
 -- the fields of an instruction are bytes
 pub instruction-line-most : (i : Instruction) → ByteFields i → instructionInRange i ≡ true
     → length (lineText (instructionLine i)) ≤ 13
-unfolding instructionLine instructionInRange operationUses operationMost
+unfolding instructionLine operationMost
 instruction-line-most i bytes inside =
     let u = usesOf (i .operation) in
-    let known = ltb (i .operation) (length operationUses) in
-    let inC = and-both (known && fieldInRange (u .a) (i .a) && fieldInRange (u .b) (i .b)) _ inside in
-    let inB = and-both (known && fieldInRange (u .a) (i .a)) _ (inC .0) in
-    let inA = and-both known _ (inB .0) in
+    let ranged = instruction-ranged i inside in
     let used = length (rowOf (InstructionLine (i .operation)) .fields) in
     let most = fieldMost (u .a) ∷ fieldMost (u .b) ∷ fieldMost (u .c) ∷ [] in
     let widths = first-width used (i .a ∷ i .b ∷ i .c ∷ []) most (
-      field-most (u .a) (i .a) (bytes .0) (inA .1),
-      (field-most (u .b) (i .b) (bytes .1) (inB .1), (field-most (u .c) (i .c) (bytes .2) (inC .1), tt)),
+      field-most (u .a) (i .a) (bytes .0) (ranged .inA),
+      (field-most (u .b) (i .b) (bytes .1) (ranged .inB), (field-most (u .c) (i .c) (bytes .2) (ranged .inC), tt)),
     ) in
     omega (
       arith,
       line-long (instructionLine i),
       widths,
-      operation-most (i .operation) (ltb-true (i .operation) 12 (inA .0)),
+      operation-most (i .operation) (ranged .known),
     )
 
 -- "end"

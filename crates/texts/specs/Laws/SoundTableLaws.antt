@@ -7,7 +7,7 @@ use mathlib.Core.Bool.{true, not, _&&_}
 use mathlib.Core.List.{List, [], _∷_, _++_, map, append-assoc}
 use lib.ListN.{length, take, replicate}
 use lib.Dec.{ltb, eqb}
-use borrow.Author.Tests.{lt-ltb, ltb-true, leb-true, le-leb}
+use borrow.Author.Tests.{lt-ltb, leb-true, le-leb}
 use Rattle.notation.specs.Checked.{passed, require}
 use Rattle.notation.specs.Laws.CheckedLaws.{then-passed, require-passed}
 use Rattle.notation.specs.Laws.PaddedLaws.{every-take}
@@ -21,8 +21,8 @@ use Rattle.taskfile.specs.declared.Table.{Table}
 use Rattle.taskfile.specs.declared.TaskEntry.{TaskEntry}
 use Rattle.taskfile.specs.Chains.{mostTasks, mostLocks, mostInstructions}
 use Rattle.taskfile.specs.Judgement.{numbered}
-use Rattle.taskfile.specs.Records.{timesInRange, ceilingInRange, tidyInstruction, instructionInRange, operationUses}
-use Rattle.taskfile.specs.Records.{usesOf, fieldInRange}
+use Rattle.taskfile.specs.Laws.RecordLaws.{instruction-ranged}
+use Rattle.taskfile.specs.Records.{timesInRange, ceilingInRange, tidyInstruction, instructionInRange}
 use Rattle.taskfile.specs.Tables.{tasksOf, bodyOf}
 use Rattle.writer.specs.declared.Lock.{Lock}
 use Rattle.writer.specs.Claims.{claimedTasks, claimedBody, claimedLocks, lockArray, noLock, ByteFields, FitsEntry, Fits}
@@ -47,18 +47,9 @@ pub record Sound (i : Instruction) : Type 0 where
   pub clean : tidyInstruction i ≡ true
 
 sound-tested : (i : Instruction) → (tidyInstruction i && instructionInRange i) ≡ true → Sound i
-unfolding instructionInRange operationUses
 sound-tested i test =
     let both = and-both (tidyInstruction i) (instructionInRange i) test in
-    let u = usesOf (i .operation) in
-    let front =
-    and-both (ltb (i .operation) 12 && fieldInRange (u .a) (i .a) && fieldInRange (u .b) (i .b)) _ (both .1) in
-    let first = and-both (ltb (i .operation) 12 && fieldInRange (u .a) (i .a)) _ (front .0) in
-    record {
-      operation = ltb-true (i .operation) 12 (and-both (ltb (i .operation) 12) _ (first .0) .0);
-      ranged = both .1;
-      clean = both .0;
-    }
+    record { operation = instruction-ranged i (both .1) .known; ranged = both .1; clean = both .0 }
 
 instructions-sound : (i p : ℕ) (body : List Instruction) {u : Unit {0}} → bodyFields i p body ≡ passed u
     → Every Sound body

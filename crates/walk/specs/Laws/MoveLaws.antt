@@ -3,26 +3,26 @@
 -- Assumes nothing.
 use mathlib.Core.Path.{_≡_, refl, sym, ap, ap₂, subst, _∙_}
 use mathlib.Core.Logic.{inl, inr}
-use Prim.Native.Nat.{ℕ, suc, _+_, _*_, _/_, _%_, _≤_, _<_}
+use Prim.Native.Nat.{ℕ, _+_, _*_, _/_, _%_, _≤_, _<_}
 use native.Mathlib.Omega.{arith}
 use mathlib.Core.Bool.{Bool, true, false, _&&_}
 use mathlib.Core.List.{List, [], _∷_, _++_, List·Memᴰ, List·Memᴰ·not-nil, List·Memᴰ·append-cases, Memᴰ·cast, Memᴰ·append-left, Memᴰ·append-right, Memᴰ·map, Memᴰ·of-map}
 use mathlib.Core.Option.{Option, none, some}
 use lib.Dec.{eqb}
-use borrow.Author.Tests.{eqb-true, ne-eqb}
-use Rattle.taskfile.specs.declared.Instruction.{Instruction}
+use borrow.Author.Tests.{ne-eqb}
 use Rattle.taskfile.specs.declared.Task.{Task}
 use Rattle.taskfile.specs.Judgement.{numbered, taskNumbers}
 use Rattle.taskfile.specs.Laws.JudgementLaws.{task-listed}
 use Rattle.notation.specs.Laws.ListLaws.{each-member, member-each}
-use Rattle.notation.specs.Lists.{if_then_else_, from, upTo, firstWith, each}
-use Rattle.notation.specs.Laws.PairLaws.{every-of, every-imp, every-map, every-each, ordered-imp, ordered-map, ordered-append, ordered-each, from-within, from-rises, every-member}
+use Rattle.notation.specs.Lists.{if_then_else_, firstWith, each}
+use Rattle.notation.specs.Laws.PairLaws.{every-of, every-imp, every-map, every-each, ordered-imp, ordered-map, ordered-append, ordered-each, every-member}
 use Rattle.notation.specs.Ordered.{Every, Ordered}
 use Rattle.taskfile.specs.Laws.TableLaws.{tasks-rise}
 use Rattle.timing.specs.Accepted.{Accepted}
 use Rattle.timing.specs.Laws.RelationLaws.{preempt-says}
 use Rattle.timing.specs.Relations.{base, jobAt, jobNumbers}
 use Rattle.machine.specs.Instructions.{values}
+use Rattle.machine.specs.Laws.ValueLaws.{values-rise, values-small}
 use Rattle.order.specs.declared.Frame.{Frame}
 use Rattle.order.specs.Code.Invariant.{Over, Invariant}
 use Rattle.timing.specs.Laws.JobFacts.{job-task}
@@ -30,31 +30,9 @@ use Rattle.order.specs.Orders.{Turn, startOf, turnAmong, turnOf, nextOf, perfor
 use Rattle.order.specs.Laws.ProgressLaws.{turn-step, running-turn}
 use Rattle.timing.specs.Code.IsAccepted.{IsAccepted}
 use Rattle.order.specs.States.{State, mayStart}
-use Rattle.order.specs.Laws.StepLaws.{GoodTurn, map-some, good-start, good-turn, step-says}
+use Rattle.order.specs.Laws.StepLaws.{map-some, good-start, good-turn, step-says}
 use Rattle.walk.specs.Moves.{Move, turnMoves, runningMoves, startMoves, moves}
 use Rattle.notation.specs.Laws.MemberLaws.{member-holds, member-says}
-
--- ---- values
-
--- the values on offer ascend
-values-rise : (i : Instruction) → Ordered _<_ (values i)
-unfolding values if_then_else_ upTo
-values-rise i = go (eqb (i .operation) 8)
-  where
-    go : (b : Bool) → Ordered _<_ (if b then upTo (suc (i .b)) else 0 ∷ [])
-    go true = from-rises 0 (suc (i .b))
-    go false = (tt, tt)
-
--- and are below 16, where a Pick's field is at most 15
-values-small : (i : Instruction) → (i .operation ≡ 8 → i .b ≤ 15) → Every (λ v. v < 16) (values i)
-unfolding values if_then_else_ upTo
-values-small i most = go (eqb (i .operation) 8) refl
-  where
-    go : (b : Bool) → eqb (i .operation) 8 ≡ b → Every (λ v. v < 16) (if b then upTo (suc (i .b)) else 0 ∷ [])
-    go true e =
-        let bound = most (eqb-true _ _ e) in
-        every-imp (λ v. (0 ≤ v) × (v < 0 + suc (i .b))) (λ v. v < 16) (λ v h. omega arith) (from 0 (suc (i .b))) (from-within 0 (suc (i .b)))
-    go false e = (omega arith, tt)
 
 -- ---- the moves of one turn
 
@@ -65,13 +43,12 @@ OfTask i m = (16 * i ≤ m .byte) × (m .byte < 16 * i + 16)
 abbrev Ascending : Move → Move → Type 0
 Ascending m n = m .byte < n .byte
 
-module _ {a : Accepted} (ok : IsAccepted a) {s : State} {turn : Turn} (good : GoodTurn a s turn) where
+module _ {a : Accepted} (ok : IsAccepted a) (s : State) (turn : Turn) where
   turn-values : Every (λ v. v < 16) (values (nextOf a (turn .frame)))
-  unfolding nextOf base
+  unfolding nextOf
   turn-values =
       values-small (nextOf a (turn .frame))
-      (ok .isMade .picks (jobAt a (turn .frame .job) .task) (turn .frame .local .next)
-      (job-task (ok .isTimed) (turn .frame .job) (good .running .job)) (good .running .inside))
+      (ok .isMade .choices (jobAt a (turn .frame .job) .task) (turn .frame .local .next))
 
   turn-bytes : Every (OfTask (base a (turn .frame .job))) (turnMoves a s turn)
   unfolding turnMoves
@@ -125,7 +102,7 @@ module _ {a : Accepted} (ok : IsAccepted a) {s : State} (inv : Invariant a s) wh
       go none e = tt
       go (some turn) e =
           let good = good-start ok inv i e in
-          subst (λ (n : ℕ). Every (OfTask n) (turnMoves a s turn)) (good .1) (turn-bytes ok (good .0))
+          subst (λ (n : ℕ). Every (OfTask n) (turnMoves a s turn)) (good .1) (turn-bytes ok s turn)
 
   start-ascends : (o : Option Turn) → Ordered Ascending (startMoves a s o)
   unfolding startMoves
@@ -159,7 +136,7 @@ module _ {a : Accepted} (ok : IsAccepted a) {s : State} (inv : Invariant a s) wh
   among-ascend [] same = starts-ascend
   among-ascend (f ∷ under) same =
       let turn : Turn = record { frame = f; under = under } in
-      let bytes = turn-bytes ok (good-turn ok inv (base a (f .job)) (running-turn a s f under same) .0) in
+      let bytes = turn-bytes ok s turn in
       ordered-append Ascending (turnMoves a s turn) (allStarts a s) (turn-ascends a s turn) starts-ascend
       (every-imp (OfTask (base a (f .job))) _ (λ m h. every-imp _ (Ascending m) (λ n above. omega arith) (allStarts a s) (starts-above f under same)) (turnMoves a s turn) bytes)
 
@@ -185,7 +162,7 @@ module _ {a : Accepted} (ok : IsAccepted a) {s : State} (inv : Invariant a s) wh
   turn-steps i {turn} due {m} here =
       let good = good-turn ok inv i due in
       let at = Memᴰ·of-map _ (values (nextOf a (turn .frame))) here in
-      let small = every-member (λ v. v < 16) _ (turn-values ok (good .0)) (at .1) in
+      let small = every-member (λ v. v < 16) _ (turn-values ok s turn) (at .1) in
       subst (λ (m : Move). step a s (m .byte) ≡ some (m .after)) (at .2)
       (ap (λ (n : ℕ). step a s (16 * n + at .0)) (good .1) ∙ turn-step a s i (at .0) due small (member-holds _ _ (at .1)))
 
