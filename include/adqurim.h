@@ -103,8 +103,8 @@ enum adqurim_number {
     ADQURIM_SHORT = 31, /* bytes end with jobs unfinished; the order's length */
     ADQURIM_EXTRA = 32, /* bytes remain after all jobs ended; the first of them */
     ADQURIM_TASK = 33,  /* the task is not in the table; that step */
-    ADQURIM_OFFER = 34, /* the value is not on offer: above a Pick's largest, or not 0 where there
-                           is no Pick; that step */
+    ADQURIM_OFFER = 34, /* the value is not on offer: outside a Pick's values, c to b, or not 0
+                           where there is no Pick; that step */
 
     /* The author of a plan. */
     ADQURIM_SHAPE = 40, /* first byte not the number of jobs, bytes run out, or bytes left over;
@@ -192,7 +192,10 @@ typedef struct adqurim_jobs_answer {
     uint64_t jobs;   /* how many records were written */
 } adqurim_jobs_answer;
 
-/* An instruction of a table in memory: the operation and its fields. Unused fields are zero. */
+/*
+ * An instruction of a table in memory: the operation and its fields. Unused fields are zero. A Pick
+ * has its highest value in b and its lowest in c.
+ */
 typedef struct adqurim_instruction {
     uint8_t operation;
     uint8_t a;
@@ -493,7 +496,7 @@ bool adqurim_write(const uint8_t *table, size_t table_len, uint8_t *file, size_t
  *   start V V V V V V V V            the initial values of variables 0 to 7
  *   task C P A                       for each task, then its instructions by name:
  *     end, load a b, store a b, set a b, add a b, subtract a b, less a b c, equal a b c,
- *     pick a b, acquire a, release a, assert a
+ *     pick a b c, acquire a, release a, assert a
  *   lock CEILING H                   for each lock, after all tasks
  *
  * A line stands at the left, without a space before its word. The grammar sets no counts of tasks,

@@ -8,10 +8,12 @@ use taskfile::limits::HIGHEST_CEILING;
 use taskfile::limits::MOST_OPERATIONS;
 use taskfile::limits::OPERATIONS;
 use taskfile::offsets;
+use taskfile::operations::PICK;
 ghost use mathlib.Core.Path.{_≡_};
 ghost use Prim.Native.Nat.{_+_, _≤_};
 ghost use Rattle.taskfile.specs.Records.{zeroFrom, usesOf, tidyField, fieldInRange};
-ghost use Rattle.taskfile.specs.Records.{tidyInstruction, instructionInRange, tidy, inRange};
+ghost use Rattle.taskfile.specs.Records.{tidyInstruction, fieldsInRange, choiceInRange, instructionInRange};
+ghost use Rattle.taskfile.specs.Records.{tidy, inRange};
 ghost use Rattle.taskfile.specs.Code.RecordFields.{limitOf, fieldOf};
 
 // Are the n bytes of record r from byte k on zero?
@@ -60,7 +62,7 @@ const LIMITS: [u8; 36] = [
     15,
     3,
     15,
-    0,
+    15,
     255,
     0,
     0,
@@ -117,8 +119,8 @@ pub fn tidy_instruction(i: Instruction) -> bool
     tidy_field(i.operation, 2, i.c)
 }
 
-pub fn instruction_in_range(i: Instruction) -> bool
-    ensures { λ b. ⌜ b ≡ instructionInRange i ⌝ }
+pub fn fields_in_range(i: Instruction) -> bool
+    ensures { λ b. ⌜ b ≡ fieldsInRange i ⌝ }
 {
     if MOST_OPERATIONS <= i.operation {
         return false;
@@ -130,6 +132,26 @@ pub fn instruction_in_range(i: Instruction) -> bool
         return false;
     }
     field_in_range(i.operation, 2, i.c)
+}
+
+// Is a Pick's lowest value c at most its highest value b?
+pub fn choice_in_range(i: Instruction) -> bool
+    ensures { λ b. ⌜ b ≡ choiceInRange i ⌝ }
+{
+    if i.operation == PICK {
+        i.c <= i.b
+    } else {
+        true
+    }
+}
+
+pub fn instruction_in_range(i: Instruction) -> bool
+    ensures { λ b. ⌜ b ≡ instructionInRange i ⌝ }
+{
+    if !fields_in_range(i) {
+        return false;
+    }
+    choice_in_range(i)
 }
 
 // Are the unused bytes of a record of this kind zero?

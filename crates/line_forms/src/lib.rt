@@ -35,7 +35,7 @@ const TASK_FIELDS: usize = 3;
 const LOCK_FIELDS: usize = 2;
 
 // The same of each operation's line.
-const OPERATION_FIELDS: [usize; OPERATIONS] = [0, 2, 2, 2, 2, 2, 3, 3, 2, 1, 1, 1];
+const OPERATION_FIELDS: [usize; OPERATIONS] = [0, 2, 2, 2, 2, 2, 3, 3, 3, 1, 1, 1];
 
 // A field holds numbers below its limit: a byte, or 32 bits.
 const BYTE_FIELD: u64 = 256;

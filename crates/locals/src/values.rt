@@ -6,11 +6,11 @@ ghost use Rattle.notation.specs.Lists.{member};
 ghost use Rattle.machine.specs.Instructions.{values};
 ghost use Rattle.taskfile.specs.Code.Choices as choices;
 
-// The lowest value on offer: every choice starts at 0.
+// The lowest value on offer: c of a Pick, and 0 of any other instruction.
 pub fn lowest(i: Instruction) -> u8
     ensures { λ r. ⌜ r ≡ choices.lowest i ⌝ }
 {
-    0
+    if i.operation == PICK { i.c } else { 0 }
 }
 
 // The highest value on offer: b of a Pick, and 0 of any other instruction.

@@ -19,9 +19,10 @@ Store = List ℕ
 unfoldable pub fresh : Local
 fresh = record { next = 0; registers = replicate 4 0; held = noLocks }
 
--- The values on offer: "8 Pick, a takes any value 0 to b"; "the value being the Pick's choice, else 0".
+-- The values on offer: "8 Pick, a takes any value 0 to b", and document 02, E7: "Field c of Pick becomes the lowest
+-- value, c ≤ b ≤ 15, so the choice runs c to b"; "the value being the Pick's choice, else 0".
 unfoldable pub values : Instruction → List ℕ
-values i = if eqb (i .operation) 8 then fromTo 0 (i .b) else 0 ∷ []
+values i = if eqb (i .operation) 8 then fromTo (i .c) (i .b) else 0 ∷ []
 
 unfoldable pub register : Local → ℕ → ℕ
 register l r = getD (l .registers) r 0
@@ -83,7 +84,7 @@ skipLess i v l s = goesOn (skipping (if ltb (register l (i .a)) (register l (i .
 unfoldable pub skipEqual : Operation
 skipEqual i v l s = goesOn (skipping (if eqb (register l (i .a)) (register l (i .b)) then i .c else 0) l) s
 
--- "8 Pick, a takes any value 0 to b"
+-- "8 Pick, a takes any value 0 to b"; document 02, E7: "so the choice runs c to b"
 unfoldable pub pick : Operation
 pick i v l s = goesOn (skipping 0 (withRegister (i .a) v l)) s
 

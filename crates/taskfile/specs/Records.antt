@@ -2,6 +2,7 @@
 -- of 16 bytes, a kind in byte 0, the index of the next record of the chain in byte 1. Which bytes are unused and
 -- which values are in range stand apart, since a file may be tidied for the one and not the other.
 -- Document 02, E4: "Lock bytes 4-7 become the longest holding time H, no longer unused bytes." Any H is in range.
+-- Document 02, E7: "Field c of Pick becomes the lowest value, c ≤ b ≤ 15"; "4 for c above b".
 -- Assumes nothing.
 use Prim.Native.Nat.{ℕ, _+_, _*_, _/_}
 use mathlib.Core.Bool.{Bool, true, _&&_}
@@ -11,7 +12,7 @@ use lib.Dec.{leb, ltb, eqb}
 use Rattle.taskfile.specs.declared.Instruction.{Instruction}
 use Rattle.taskfile.specs.declared.Kind.{Kind}
 use Rattle.taskfile.specs.declared.Kind.the-variants.{Header, TaskRecord, LockRecord, InstructionRecord}
-use Rattle.notation.specs.Lists.{from, all}
+use Rattle.notation.specs.Lists.{if_then_else_, from, all}
 
 -- a task file is any bytes
 abbrev pub File : Type 0
@@ -78,7 +79,7 @@ operationUses =
     ∷ uses registerNumber registerNumber unused  -- 5 Subtract register b from register a
     ∷ uses registerNumber registerNumber small  -- 6 skip c instructions if register a is less than register b
     ∷ uses registerNumber registerNumber small  -- 7 the same if equal
-    ∷ uses registerNumber small unused  -- 8 Pick, a takes any value 0 to b
+    ∷ uses registerNumber small small  -- 8 Pick, a takes any value c to b
     ∷ uses lockNumber unused unused  -- 9 Acquire lock a
     ∷ uses lockNumber unused unused  -- 10 Release lock a
     ∷ uses registerNumber unused unused  -- 11 Assert, fails if register a is 0
@@ -106,11 +107,18 @@ tidyInstruction i =
     let u = usesOf (i .operation) in
     tidyField (u .a) (i .a) && tidyField (u .b) (i .b) && tidyField (u .c) (i .c)
 
-unfoldable pub instructionInRange : Instruction → Bool
-instructionInRange i =
+unfoldable pub fieldsInRange : Instruction → Bool
+fieldsInRange i =
     let u = usesOf (i .operation) in
     ltb (i .operation) (length operationUses)
     && fieldInRange (u .a) (i .a) && fieldInRange (u .b) (i .b) && fieldInRange (u .c) (i .c)
+
+-- a Pick's lowest value is not above its highest: "c ≤ b"
+unfoldable pub choiceInRange : Instruction → Bool
+choiceInRange i = if eqb (i .operation) 8 then leb (i .c) (i .b) else true
+
+unfoldable pub instructionInRange : Instruction → Bool
+instructionInRange i = fieldsInRange i && choiceInRange i
 
 -- n bytes of record r from byte k on are zero
 unfoldable pub zeroFrom : File → ℕ → ℕ → ℕ → Bool

@@ -1,7 +1,8 @@
 -- The texts of tables. Document 02, E5: "a `window` line, a `start` line with eight values, then each task line
 -- followed by its instruction lines by lower-case name (6 `less`, 7 `equal`) and used fields in a, b, c order, then
 -- lock lines: `task` C P A, `lock` ceiling H. One space between words, no leading zeros, each line ended by a newline.
--- The grammar sets no counts of task, instruction and lock lines, even none".
+-- The grammar sets no counts of task, instruction and lock lines, even none". E7: "The text always writes c, so an old
+-- text's `pick` line with two numbers earns 60."
 -- Assumes nothing.
 use mathlib.Core.Path.{_≡_}
 use Prim.Native.Nat.{ℕ, _^_}
@@ -71,7 +72,7 @@ operationRows =
     ∷ operationRow subtractWord 2
     ∷ operationRow lessWord 3
     ∷ operationRow equalWord 3
-    ∷ operationRow pickWord 2
+    ∷ operationRow pickWord 3
     ∷ operationRow acquireWord 1
     ∷ operationRow releaseWord 1
     ∷ operationRow assertWord 1

@@ -228,8 +228,9 @@ impl Walk<'_> {
         for task in 0..TASKS {
             let Some((frame, under)) = self.lent.turn(state, task) else { continue };
             let instruction = self.lent.instruction(task, frame.next);
-            let most = if instruction[0] == PICK { instruction[2] } else { 0 };
-            for value in 0..=most {
+            let [operation, _, b, c] = instruction;
+            let (lowest, highest) = if operation == PICK { (c, b) } else { (0, 0) };
+            for value in lowest..=highest {
                 if self.count == self.allowance {
                     return Err(Stop::Undecided);
                 }

@@ -60,12 +60,7 @@ impl InTable<'_> {
                 format!("the execution time {execution} is not from 1 to the period {period}")
             }
             Site::Instruction { task, position } => {
-                match self.instruction(task, position).operation {
-                    known @ 0..=LAST_OPERATION => {
-                        format!("a field of operation {known} is out of range or unused and not 0")
-                    }
-                    other => format!("there is no operation {other}"),
-                }
+                instruction_field(self.instruction(task, position))
             }
             Site::Lock(lock) => format!("the ceiling {} is above 7", self.table.ceilings[lock]),
         }
@@ -101,6 +96,17 @@ impl InTable<'_> {
             None => format!("lock {lock} is not in the table"),
             Some(ceiling) => format!("lock {lock} has the ceiling {ceiling}, below base {task}"),
         }
+    }
+}
+
+/// Number 4 at an instruction.
+fn instruction_field(instruction: Instruction) -> String {
+    match instruction.operation {
+        known @ 0..=LAST_OPERATION => {
+            let says = format!("a field of operation {known} is out of range or unused and not 0");
+            instruction.without_values().unwrap_or(says)
+        }
+        other => format!("there is no operation {other}"),
     }
 }
 

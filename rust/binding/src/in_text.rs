@@ -27,7 +27,7 @@ const INSTRUCTIONS: [&str; 12] = [
     "subtract a b",
     "less a b c",
     "equal a b c",
-    "pick a b",
+    "pick a b c",
     "acquire a",
     "release a",
     "assert a",
@@ -156,7 +156,10 @@ impl InText<'_> {
         let table = table_of(self.text);
         let (rule, site, says) = self.at_record().in_table(&table).fault()?;
         let says = match (rule, site) {
-            (Rule::Field, Site::Instruction { .. }) => "a field is out of range".to_string(),
+            (Rule::Field, Site::Instruction { task, position }) => {
+                let without_values = table.tasks[task].body[position].without_values();
+                without_values.unwrap_or("a field is out of range".to_string())
+            }
             _ => says,
         };
         Some((site, says))

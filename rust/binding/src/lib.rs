@@ -4,8 +4,9 @@
 //! [`table`], [`write`], [`text_to_file`] and [`file_to_text`] give a value or a [`Refusal`], which
 //! prints as a sentence; [`sheet`] gives one for every file. [`Refusal::in_order`] also names a wrong
 //! step's task or value, [`Refusal::in_table`] the task, instruction or lock of a table that is not
-//! written, and [`Refusal::in_text`] shows the line of a text that is not converted. The module
-//! [`raw`] has the same entries with their numbers, places and lent memory.
+//! written, and [`Refusal::in_text`] shows the line of a text that is not converted;
+//! [`Refusal::on_offer`] gives the values that could stand in place of a wrong one. The module [`raw`]
+//! has the same entries with their numbers, places and lent memory.
 //!
 //! ```
 //! let refusal = binding::read(&[1; 7]).unwrap_err();
@@ -15,6 +16,7 @@
 
 mod in_table;
 mod in_text;
+mod on_offer;
 pub mod raw;
 mod refusal;
 mod table;

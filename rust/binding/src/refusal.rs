@@ -111,11 +111,12 @@ const ENTRIES: [Entry; 27] = [
     (Rule::Task, "TASK", Place::Step,
         "names a task that does not exist"),
     (Rule::Offer, "OFFER", Place::Step,
-        "names a value that is not on offer"),
+        "names a value that is not on offer: a Pick offers c to b, any other instruction 0"),
     (Rule::Shape, "SHAPE", Place::Offset,
         "of the plan has the first wrong, missing or extra byte"),
     (Rule::Value, "VALUE", Place::Offset,
-        "of the plan has a value that its instruction does not allow"),
+        "of the plan has a value that its instruction does not allow: a Pick allows c to b, \
+         any other instruction 0"),
     (Rule::Round, "ROUND", Place::Offset,
         "of the plan has a round that is not below the number of jobs, \
          or is below that of the job's previous step"),

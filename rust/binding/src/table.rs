@@ -3,7 +3,8 @@
 use crate::words::{MOST_INSTRUCTIONS, MOST_LOCKS, MOST_TASKS, TABLE_ROOM, VARIABLES};
 use std::fmt;
 
-/// An instruction: the operation and its fields. Unused fields are zero.
+/// An instruction: the operation and its fields. Unused fields are zero. A Pick has its highest value
+/// in `b` and its lowest in `c`.
 #[derive(Debug, Clone, Copy, PartialEq, Eq, Hash, Default)]
 pub struct Instruction {
     pub operation: u8,
@@ -61,6 +62,8 @@ const BODY: usize = 16;
 /// An instruction has as many bytes as a wide field.
 const WIDE: usize = 4;
 
+/// The operation that has a choice of values.
+const PICK: u8 = 8;
 /// The operation that names a lock to wait for.
 const ACQUIRE: u8 = 9;
 
@@ -86,6 +89,16 @@ fn wide(bytes: &[u8], at: usize) -> u32 {
 /// Where a lock's holding time is.
 fn holding_at(lock: usize) -> usize {
     HOLDINGS + WIDE * lock
+}
+
+impl Instruction {
+    /// What is wrong with a Pick whose lowest value is above its highest; none with any other
+    /// instruction.
+    pub(crate) fn without_values(&self) -> Option<String> {
+        let Instruction { operation, b, c, .. } = self;
+        let none = *operation == PICK && c > b;
+        none.then(|| format!("c {c}, the lowest value, is above b {b}, the highest"))
+    }
 }
 
 impl TaskEntry {

@@ -6,6 +6,7 @@ use crate::rounds::{parts, Parts};
 use crate::sheet::{finding, totals, Finding};
 use crate::{progress, records, sources, Problem, Status, Streams};
 use binding::{Ending, Job, Place, Refusal, Verdict};
+use std::ops::RangeInclusive;
 
 /// An answer's lines and its status.
 type Answer = Result<(String, Status), Refusal>;
@@ -49,8 +50,9 @@ fn tell(says: &str, streams: &mut Streams) -> Result<Status, Problem> {
     Ok(Status::Refused)
 }
 
-/// Says on standard error what a refusal means; if it names a step, which task or value is wrong,
-/// and if it names a record, what that record is. Where it names a step, the numbers are an order's.
+/// Says on standard error what a refusal means; if it names a step, which task or value is wrong; if
+/// a value is wrong, which are on offer; and if it names a record, what that record is. The numbers
+/// are an order's or a plan's: an order's where the refusal names a step.
 fn explain(
     refusal: &Refusal,
     file: &[u8],
@@ -58,6 +60,9 @@ fn explain(
     streams: &mut Streams,
 ) -> Result<Status, Problem> {
     let mut text = format!("adqurim: {}\n", refusal.in_order(numbers));
+    if let Some(values) = refusal.on_offer(file, numbers) {
+        text += &on_offer(refusal, values);
+    }
     if refusal.rule().map(|rule| rule.place()) == Some(Place::Record) {
         let record = refusal.place as usize;
         let (first, last) = records::extent(record);
@@ -65,6 +70,18 @@ fn explain(
         text += &format!("adqurim: record {record}, bytes {first} to {last}, is {is}\n");
     }
     tell(&text, streams)
+}
+
+/// Says which values could stand at a refusal's place.
+fn on_offer(refusal: &Refusal, values: RangeInclusive<u8>) -> String {
+    let noun = refusal.rule().and_then(|rule| rule.place().noun()).unwrap_or("place");
+    let at = format!("on offer at {noun} {}", refusal.place);
+    match values.into_inner() {
+        (lowest, highest) if lowest < highest => {
+            format!("adqurim: the values {at} are {lowest} to {highest}\n")
+        }
+        (only, _) => format!("adqurim: the only value {at} is {only}\n"),
+    }
 }
 
 /// The sheet, as its proved entry writes it.

@@ -66,7 +66,8 @@ Runs the steps of an order, each 16 * task + value. Prints `accepted`, the faile
 left. An order with failed jobs is accepted too, with status 0.
 
 A wrong step is refused by 33 if there is no such task, else by 30 if no job of the task has its
-turn, else by 34 if the value is not on offer; standard error names the task or the value.
+turn, else by 34 if the value is not on offer: a Pick offers its lowest to its highest, any other
+instruction 0. Standard error names the task or the value, and the values on offer.
 ";
 
 const PLAN: &str = "\
@@ -81,7 +82,7 @@ adqurim check-plan FILE PLAN..
 
 Checks a plan's bytes: the number of jobs, each round's starting store, then each step's round and
 value. Prints `accepted`, the failed jobs and the store left. A plan with failed jobs is accepted
-too, with status 0.
+too, with status 0. Of a value that is refused by 41 standard error says which are on offer.
 ";
 
 const ORDER: &str = "\
@@ -119,8 +120,8 @@ Writes the file of a table's text to standard output, with its records in walk o
 
 A line begins with its word: there is no space before it, one between words, and none after the
 last. Numbers have no leading zeros, and each line is ended by a newline. The instructions are end;
-acquire a, release a, assert a; load a b, store a b, set a b, add a b, subtract a b, pick a b;
-less a b c, equal a b c.
+acquire a, release a, assert a; load a b, store a b, set a b, add a b, subtract a b; less a b c,
+equal a b c, pick a b c. A Pick takes a value from c to b: `pick 0 6 3` one from 3 to 6.
 
 A line that is not of this form, or is out of place or missing, is refused by 60, a number too large
 for its field by 61, a text above 8,192 bytes by 62; then the table itself is judged. A place is a

@@ -3,14 +3,17 @@
 use command::{allowances, run, Status, Streams};
 use conformance::cases::{accepted, edited, table_x, tasks};
 use conformance::families::{any, crowded, long, nest_of_four, refused_files, small};
+use conformance::lifting::{instruction_at, instructions_of_plan};
 use conformance::orders::{random_order, variants};
 use generator::files::{damaged, random_bytes, random_records};
-use generator::{code, texts, Random, TableDescription};
+use generator::{code, random_lifted, random_lifted_picks, texts, Random, TableDescription};
+use interpreter::machine::values_on_offer;
 use interpreter::timing::accept;
 use interpreter::{conversion, plan, sheet, JobRecord};
 use std::ffi::OsString;
 use std::fmt::Display;
 use std::io::{self, Read, Write};
+use std::ops::RangeInclusive;
 
 /// How a run ends, and what it writes.
 struct Ran<Output = String> {
@@ -60,7 +63,7 @@ fn assert_sheet(file: &[u8]) -> Status {
 fn sheets_of_random_tables() {
     let mut random = Random::new(0x5EE7);
     let mut seen = [0; 4];
-    for make in [small, long, nest_of_four] {
+    for make in [small, long, nest_of_four, random_lifted_picks] {
         for _ in 0..150 {
             seen[assert_sheet(&make(&mut random).write()) as usize] += 1;
         }
@@ -168,7 +171,7 @@ fn accepted_file(random: &mut Random, make: Make) -> Vec<u8> {
 fn plans_of_random_orders_and_back() {
     let mut random = Random::new(0x91A2);
     let mut with_values = 0;
-    for make in [small, nest_of_four, crowded, any] {
+    for make in [small, nest_of_four, crowded, any, random_lifted, random_lifted_picks] {
         for _ in 0..60 {
             let file = accepted_file(&mut random, make);
             let order = random_order(&mut random, &accepted(&file));
@@ -196,23 +199,39 @@ fn assert_there_and_back(file: &[u8], order: &[u8], ending: &str) {
 }
 
 /// What standard error has to say of a refused order.
-fn order_refused(number: u8, place: usize, order: &[u8]) -> String {
+fn order_refused(number: u8, place: usize, order: &[u8], file: &[u8]) -> String {
     let [task, value] = order.get(place).map_or([0, 0], |byte| [byte / 16, byte % 16]);
     let says = match number {
         30 => format!(": task {task} has no turn here (30 STEP)"),
         31 => " is missing: the order ends with jobs unfinished (31 SHORT)".to_string(),
         32 => " is one too many: all jobs ended before it (32 EXTRA)".to_string(),
         33 => format!(": task {task} does not exist (33 TASK)"),
-        _ => format!(": value {value} is not on offer (34 OFFER)"),
+        _ => {
+            let values = values_on_offer(instruction_at(&accepted(file), order, place));
+            let offer = offered(values, &format!("step {place}"));
+            format!(": value {value} is not on offer (34 OFFER)\n{offer}")
+        }
     };
     format!("adqurim: step {place}{says}\n")
+}
+
+/// What it has to say of the values on offer at a place.
+fn offered(values: RangeInclusive<u8>, place: &str) -> String {
+    match values.into_inner() {
+        (only, highest) if only == highest => {
+            format!("adqurim: the only value on offer at {place} is {only}")
+        }
+        (lowest, highest) => {
+            format!("adqurim: the values on offer at {place} are {lowest} to {highest}")
+        }
+    }
 }
 
 #[test]
 fn refusals_of_random_orders() {
     let mut random = Random::new(0x0DD5);
     let mut seen = [0; 35];
-    for make in [small, nest_of_four, crowded, any] {
+    for make in [small, nest_of_four, crowded, any, random_lifted, random_lifted_picks] {
         for _ in 0..60 {
             let file = accepted_file(&mut random, make);
             let order = random_order(&mut random, &accepted(&file));
@@ -223,12 +242,37 @@ fn refusals_of_random_orders() {
                 for subcommand in ["replay", "plan"].into_iter().filter(|_| number != 0) {
                     let ran = run_with_numbers(subcommand, &file, &order);
                     assert_eq!(ran.output, format!("refused {number} {place}\n"));
-                    assert_eq!(ran.errors, order_refused(number, place, &order));
+                    assert_eq!(ran.errors, order_refused(number, place, &order, &file));
                 }
             }
         }
     }
     assert!(seen[30..].iter().all(|times| *times >= 50), "{seen:?}");
+}
+
+/// Of a plan with a wrong value at any of its steps, the values on offer there are told.
+#[test]
+fn wrong_values_of_random_plans() {
+    let mut random = Random::new(0x41);
+    let mut of_picks = 0;
+    for make in [small, random_lifted, random_lifted_picks] {
+        for _ in 0..40 {
+            let file = accepted_file(&mut random, make);
+            let order = random_order(&mut random, &accepted(&file));
+            let converted = conversion::order_to_plan(&accepted(&file), &order);
+            let (plan, _) = converted.expect("the order is complete");
+            for (at, instruction) in instructions_of_plan(&accepted(&file), &plan) {
+                let values = values_on_offer(instruction);
+                let wrong = [values.start().wrapping_sub(1), values.end() + 1][random.index(2)];
+                let ran = run_with_numbers("order", &file, &edited(&plan, &[(at, wrong)]));
+                assert_eq!(ran.output, format!("refused 41 {at}\n"));
+                of_picks += u32::from(*values.end() > 0);
+                let says = format!("(41 VALUE)\n{}\n", offered(values, &format!("offset {at}")));
+                assert!(ran.errors.ends_with(&says), "{}", ran.errors);
+            }
+        }
+    }
+    assert!(of_picks >= 100, "{of_picks}");
 }
 
 #[test]

@@ -58,7 +58,8 @@ fn with_numbers(subcommand: &str, file: &str, bytes: &[u8]) -> Vec<String> {
 
 #[test]
 fn check_prints_the_sheet_of_every_sample() {
-    let statuses = [FAILS, ACCEPTED, ACCEPTED, FAILS, ACCEPTED, FAILS, REFUSED, REFUSED];
+    let holds = ACCEPTED;
+    let statuses = [FAILS, holds, holds, FAILS, holds, FAILS, holds, REFUSED, REFUSED];
     for (sample, status) in iter::zip(samples::all(), statuses) {
         let path = samples::path(sample.name, "task");
         let sheet = fs::read_to_string(samples::path(sample.name, "sheet")).expect("it is there");
@@ -148,6 +149,10 @@ fn texts_that_are_refused_are_explained() {
     #[rustfmt::skip]
     let cases = [
         ("load 0", "lod 0", "line 3, `lod 0 0`: no line begins with `lod` (60 LINE)"),
+        ("load 0 0", "pick 0 6", "line 3, `pick 0 6`: it is not `pick a b c` in plain numbers, with one \
+            space between words (60 LINE)"),
+        ("load 0 0", "pick 0 3 6", "line 3, `pick 0 3 6` (instruction 0 of task 0): c 6, the lowest \
+            value, is above b 3, the highest (4 FIELD)"),
         ("load 0", "load 256", "line 3, `load 256 0`: the number `256` is above 255 (61 LARGE)"),
         ("load 0", "load 4", "line 3, `load 4 0` (instruction 0 of task 0): a field is out of range \
             (4 FIELD)"),
@@ -213,12 +218,40 @@ fn wrong_steps_are_explained_with_their_task_or_value() {
         ("0 16 16 16 0 0 0 0 80", "refused 32 8\n",
             "step 8 is one too many: all jobs ended before it (32 EXTRA)"),
         ("0 16 80", "refused 33 2\n", "step 2: task 5 does not exist (33 TASK)"),
-        ("0 23", "refused 34 1\n", "step 1: value 7 is not on offer (34 OFFER)"),
+        ("0 23", "refused 34 1\n", "step 1: value 7 is not on offer (34 OFFER)\n\
+            adqurim: the only value on offer at step 1 is 0"),
     ];
     for (order, answer, says) in orders {
         for subcommand in ["replay", "plan"] {
             let errors = format!("adqurim: {says}\n");
             assert_run(&[subcommand, "-", order], &x, REFUSED, answer, &errors);
+        }
+    }
+}
+
+/// Wrong values of the lane sensor's Pick, in an order and in its plan.
+#[test]
+fn wrong_values_of_a_pick_are_explained_with_those_on_offer() {
+    let path = samples::path("lane-sensor", "task");
+    let path = path.to_str().expect("a plain path");
+    for value in ["0", "2", "7", "15"] {
+        let says = format!(
+            "adqurim: step 0: value {value} is not on offer (34 OFFER)\n\
+             adqurim: the values on offer at step 0 are 3 to 6\n"
+        );
+        for subcommand in ["replay", "plan"] {
+            assert_run(&[subcommand, path, value, "0"], &[], REFUSED, "refused 34 0\n", &says);
+        }
+    }
+    // The number of jobs, three stores, the round of the first step; then its value.
+    let before = "3 3 0 0 0 0 0 0 0 4 0 0 0 0 0 0 0 4 1 0 0 0 0 0 0 0";
+    let says = "adqurim: offset 26 of the plan has a value that its instruction does not allow: \
+        a Pick allows c to b, any other instruction 0 (41 VALUE)\n\
+        adqurim: the values on offer at offset 26 are 3 to 6\n";
+    for value in ["0", "2", "7", "255"] {
+        for subcommand in ["check-plan", "order"] {
+            let words = [subcommand, path, before, value];
+            assert_run(&words, &[], REFUSED, "refused 41 26\n", says);
         }
     }
 }

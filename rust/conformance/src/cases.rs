@@ -34,7 +34,7 @@ add 1 2
 subtract 2 1
 less 0 1 7
 equal 3 2 6
-pick 1 15
+pick 1 15 0
 acquire 0
 acquire 2
 release 2

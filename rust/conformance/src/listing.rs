@@ -1,11 +1,12 @@
 //! Listings of every complete order and every legal plan of a small table.
 
 use interpreter::file::MOST_LOCKS;
-use interpreter::machine::{largest_value, perform, Instruction, Local, LockCounts, Store};
+use interpreter::machine::{perform, values_on_offer, Instruction, Local, LockCounts, Store};
 use interpreter::order::{Ending, State};
 use interpreter::timing::Accepted;
 use interpreter::{plan, JobNumber};
 use std::collections::BTreeMap;
+use std::ops::RangeInclusive;
 
 /// The counts of a job that holds no lock.
 const NONE_HELD: LockCounts = [0; MOST_LOCKS];
@@ -157,8 +158,8 @@ fn job_choices(accepted: &Accepted, job: JobNumber) -> Vec<Choice> {
     let mut rounds: Vec<Vec<u8>> = vec![Vec::new()];
     let mut values: Vec<Vec<u8>> = vec![Vec::new()];
     for placed in body {
-        rounds = extend(rounds, |so_far| so_far.last().copied().unwrap_or(0)..k);
-        values = extend(values, |_| 0..largest_value(placed.instruction) + 1);
+        rounds = extend(rounds, |so_far| so_far.last().copied().unwrap_or(0)..=k - 1);
+        values = extend(values, |_| values_on_offer(placed.instruction));
     }
     let all = |rounds: &Vec<u8>| -> Vec<Choice> {
         let one = |values: &Vec<u8>| Choice { rounds: rounds.clone(), values: values.clone() };
@@ -168,7 +169,7 @@ fn job_choices(accepted: &Accepted, job: JobNumber) -> Vec<Choice> {
 }
 
 /// Each list with each of its possible next bytes at its end.
-fn extend(lists: Vec<Vec<u8>>, next: impl Fn(&[u8]) -> std::ops::Range<u8>) -> Vec<Vec<u8>> {
+fn extend(lists: Vec<Vec<u8>>, next: impl Fn(&[u8]) -> RangeInclusive<u8>) -> Vec<Vec<u8>> {
     let longer = |list: Vec<u8>| -> Vec<Vec<u8>> {
         next(&list).map(|byte| [&list[..], &[byte]].concat()).collect()
     };

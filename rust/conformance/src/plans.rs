@@ -3,7 +3,7 @@
 use crate::listing::{forced_plan, Choice};
 use crate::orders::random_order;
 use generator::Random;
-use interpreter::machine::largest_value;
+use interpreter::machine::values_on_offer;
 use interpreter::{conversion, plan, Accepted, JobNumber};
 
 /// A plan and how it was made.
@@ -51,7 +51,8 @@ fn drawn_choice(random: &mut Random, accepted: &Accepted, job: JobNumber, end: u
     for placed in body {
         let early = random.chance(1, 3);
         rounds.push(if early { random.between(0, end.into()) as u8 } else { end });
-        values.push(random.between(0, largest_value(placed.instruction).into()) as u8);
+        let offer = values_on_offer(placed.instruction);
+        values.push(random.between((*offer.start()).into(), (*offer.end()).into()) as u8);
     }
     rounds.sort_unstable();
     Choice { rounds, values }

@@ -62,8 +62,13 @@ pub mod code {
     pub fn skip_if_equal(left: u8, right: u8, count: u8) -> InstructionDescription {
         instruction(7, left, right, count)
     }
-    pub fn pick(register: u8, most: u8) -> InstructionDescription {
-        instruction(8, register, most, 0)
+    /// A Pick of any value from 0 to the highest.
+    pub fn pick(register: u8, highest: u8) -> InstructionDescription {
+        pick_between(register, 0, highest)
+    }
+    /// A Pick of any value from the lowest, its field c, to the highest, its field b.
+    pub fn pick_between(register: u8, lowest: u8, highest: u8) -> InstructionDescription {
+        instruction(8, register, highest, lowest)
     }
     pub fn acquire(lock: u8) -> InstructionDescription {
         instruction(9, lock, 0, 0)

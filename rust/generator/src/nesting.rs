@@ -49,14 +49,14 @@ const SHORT: usize = 4;
 const LOCKS: u8 = 2;
 
 /// How the jobs meet: the window, and C, P and A of each task, lowest first.
-type Meeting = (u32, &'static [[u32; 3]]);
+pub(crate) type Meeting = (u32, &'static [[u32; 3]]);
 
 /// Two jobs, the upper of which may preempt the lower. Its tree is small, so bodies may be long.
-const TWO_JOBS: Meeting = (4, &[[2, 8, 0], [1, 4, 1]]);
+pub(crate) const TWO_JOBS: Meeting = (4, &[[2, 8, 0], [1, 4, 1]]);
 
 /// Meetings with larger trees: a job that may be preempted twice; three jobs, each of which may
 /// preempt those below it; two jobs of a task, each with one that may preempt it.
-const MORE_JOBS: [Meeting; 3] = [
+pub(crate) const MORE_JOBS: [Meeting; 3] = [
     (6, &[[4, 20, 0], [1, 4, 1]]),
     (3, &[[3, 20, 0], [2, 10, 1], [1, 5, 2]]),
     (10, &[[2, 8, 0], [1, 8, 1]]),

@@ -19,7 +19,7 @@ const OPERATIONS: [(&str, usize); 12] = [
     ("subtract", 2),
     ("less", 3),
     ("equal", 3),
-    ("pick", 2),
+    ("pick", 3),
     ("acquire", 1),
     ("release", 1),
     ("assert", 1),

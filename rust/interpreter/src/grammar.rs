@@ -26,6 +26,7 @@ use Width::{Byte, Wide};
 type Form = (Kind, &'static str, &'static [Width]);
 
 /// Each kind of line, "by lower-case name (6 `less`, 7 `equal`) and used fields in a, b, c order".
+/// 02, E7: "The text always writes c, so an old text's `pick` line with two numbers earns 60."
 const FORMS: [Form; 16] = [
     (Kind::Window, "window", &[Wide]),
     (Kind::Start, "start", &[Byte; 8]),
@@ -38,7 +39,7 @@ const FORMS: [Form; 16] = [
     (Kind::Instruction(5), "subtract", &[Byte; 2]),
     (Kind::Instruction(6), "less", &[Byte; 3]),
     (Kind::Instruction(7), "equal", &[Byte; 3]),
-    (Kind::Instruction(8), "pick", &[Byte; 2]),
+    (Kind::Instruction(8), "pick", &[Byte; 3]),
     (Kind::Instruction(9), "acquire", &[Byte]),
     (Kind::Instruction(10), "release", &[Byte]),
     (Kind::Instruction(11), "assert", &[Byte]),

@@ -1,5 +1,5 @@
-//! An interpreter of document 01, as E1 to E5 of document 02 change it. It is written from their
-//! texts alone and used as a second opinion in tests.
+//! An interpreter of document 01, as E1 to E5 and E7 of document 02 change it. It is written from
+//! their texts alone and used as a second opinion in tests.
 //!
 //! One module renders one section of document 01; [`memory`] and [`writer`] render E2, [`grammar`]
 //! and [`text`] E5, and [`claims`] what these two share. The entries, one for each thing a caller

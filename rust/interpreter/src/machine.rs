@@ -1,7 +1,8 @@
-//! The section "Instructions", with the lock counts of document 02, E3.
+//! The section "Instructions", with the lock counts of document 02, E3, and its Picks of E7.
 
 use crate::file::MOST_LOCKS;
 use crate::numbers::TaskNumber;
+use std::ops::RangeInclusive;
 
 /// The shared variables 0 to 7. "Values are bytes."
 pub type Store = [u8; 8];
@@ -17,7 +18,7 @@ pub enum Instruction {
     Subtract { to: usize, from: usize },
     SkipIfLess { left: usize, right: usize, count: usize },
     SkipIfEqual { left: usize, right: usize, count: usize },
-    Pick { register: usize, most: u8 },
+    Pick { register: usize, lowest: u8, highest: u8 },
     Acquire { lock: usize },
     Release { lock: usize },
     Assert { register: usize },
@@ -33,11 +34,12 @@ fn variable(field: u8) -> Option<usize> {
     (field < 8).then_some(field as usize)
 }
 
-/// The list of operations, with "Unused fields are zero", "b at most 15" and "c is 0 to 15".
+/// The list of operations, with "Unused fields are zero", "b at most 15" and "c is 0 to 15". 02, E7:
+/// "Field c of Pick becomes the lowest value, c ≤ b ≤ 15", and "4 for c above b".
 /// None is a value out of range or an unused field that is not zero (number 4).
 pub fn decode(operation: u8, a: u8, b: u8, c: u8) -> Option<Instruction> {
     let uses_b = (1..=8).contains(&operation);
-    let uses_c = operation == 6 || operation == 7;
+    let uses_c = (6..=8).contains(&operation);
     if (!uses_b && b != 0) || (!uses_c && c != 0) || c > 15 {
         return None;
     }
@@ -51,7 +53,9 @@ pub fn decode(operation: u8, a: u8, b: u8, c: u8) -> Option<Instruction> {
         5 => Instruction::Subtract { to: register(a)?, from: register(b)? },
         6 => Instruction::SkipIfLess { left: register(a)?, right: register(b)?, count },
         7 => Instruction::SkipIfEqual { left: register(a)?, right: register(b)?, count },
-        8 if b <= 15 => Instruction::Pick { register: register(a)?, most: b },
+        8 if c <= b && b <= 15 => {
+            Instruction::Pick { register: register(a)?, lowest: c, highest: b }
+        }
         9 => Instruction::Acquire { lock: a as usize },
         10 => Instruction::Release { lock: a as usize },
         11 => Instruction::Assert { register: register(a)? },
@@ -75,7 +79,7 @@ pub fn encode(instruction: Instruction) -> [u8; 4] {
         Instruction::SkipIfEqual { left, right, count } => {
             [7, byte(left), byte(right), byte(count)]
         }
-        Instruction::Pick { register, most } => [8, byte(register), most, 0],
+        Instruction::Pick { register, lowest, highest } => [8, byte(register), highest, lowest],
         Instruction::Acquire { lock } => [9, byte(lock), 0, 0],
         Instruction::Release { lock } => [10, byte(lock), 0, 0],
         Instruction::Assert { register } => [11, byte(register), 0, 0],
@@ -90,11 +94,12 @@ pub fn skip_count(instruction: Instruction) -> Option<usize> {
     }
 }
 
-/// The values a step may carry: "the value being the Pick's choice, else 0".
-pub fn largest_value(instruction: Instruction) -> u8 {
+/// The values a step may carry: "the value being the Pick's choice, else 0". 02, E7: "so the choice
+/// runs c to b".
+pub fn values_on_offer(instruction: Instruction) -> RangeInclusive<u8> {
     match instruction {
-        Instruction::Pick { most, .. } => most,
-        _ => 0,
+        Instruction::Pick { lowest, highest, .. } => lowest..=highest,
+        _ => 0..=0,
     }
 }
 

@@ -1,7 +1,7 @@
 //! The section "Orders of steps" up to the walk, with numbers 30 to 34: document 01's 30 to 32, and
 //! 33 and 34 by document 02, E1.
 
-use crate::machine::{largest_value, perform, priority, Instruction, Local, Store};
+use crate::machine::{perform, priority, values_on_offer, Instruction, Local, Store};
 use crate::numbers::{refuse, JobNumber, Refusal, TaskNumber};
 use crate::timing::Accepted;
 
@@ -22,7 +22,7 @@ pub enum Slip {
     Task = 33,
     /// "the job has no turn"
     Turn = 30,
-    /// "the chosen value isn't on offer"
+    /// "the chosen value isn't on offer". 02, E7: "34 and 41 speak of the new range."
     Value = 34,
 }
 
@@ -113,7 +113,7 @@ impl State {
         }
         let job = self.turn(accepted, task).ok_or(Slip::Turn)?;
         let instruction = self.next_instruction(accepted, job);
-        if value > largest_value(instruction) {
+        if !values_on_offer(instruction).contains(&value) {
             return Err(Slip::Value);
         }
         // "Starting performs its first instruction."

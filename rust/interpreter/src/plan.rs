@@ -1,6 +1,6 @@
 //! The section "Round plans", with numbers 40 to 45.
 
-use crate::machine::{largest_value, perform, priority, Local, Store};
+use crate::machine::{perform, priority, values_on_offer, Local, Store};
 use crate::numbers::{refuse, JobNumber, Refusal, RoundNumber};
 use crate::order::Ending;
 use crate::timing::Accepted;
@@ -102,9 +102,10 @@ fn run_job(
         if round.0 >= accepted.jobs.len() || round < previous {
             return refuse(42, at);
         }
-        // Number 41: "not a value its instruction allows; offset."
+        // Number 41: "not a value its instruction allows; offset." 02, E7: "34 and 41 speak of the
+        // new range."
         let instruction = accepted.task(job).body[local.position].instruction;
-        if value > largest_value(instruction) {
+        if !values_on_offer(instruction).contains(&value) {
             return refuse(41, at + 1);
         }
         perform(&mut local, &mut run.left[round.0], instruction, value);

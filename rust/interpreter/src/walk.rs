@@ -1,6 +1,6 @@
 //! The walk of the section "Orders of steps", with number 21.
 
-use crate::machine::largest_value;
+use crate::machine::values_on_offer;
 use crate::numbers::{JobNumber, TaskNumber};
 use crate::order::{Ending, State};
 use crate::timing::Accepted;
@@ -68,7 +68,7 @@ impl Walk<'_> {
 }
 
 /// "at a state it tries the running job's step, then each start by ascending task, and Pick values
-/// ascending."
+/// ascending." 02, E7: "The first failing order is over the new lists."
 pub fn moves(accepted: &Accepted, state: &State) -> Vec<u8> {
     let running = state.active.last().copied();
     let mut candidates: Vec<JobNumber> = running.into_iter().collect();
@@ -78,8 +78,8 @@ pub fn moves(accepted: &Accepted, state: &State) -> Vec<u8> {
     }
     let mut bytes = Vec::new();
     for job in candidates {
-        let most = largest_value(state.next_instruction(accepted, job));
-        bytes.extend((0..=most).map(|value| 16 * accepted.base(job).0 + value));
+        let values = values_on_offer(state.next_instruction(accepted, job));
+        bytes.extend(values.map(|value| 16 * accepted.base(job).0 + value));
     }
     bytes
 }

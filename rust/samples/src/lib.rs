@@ -14,13 +14,14 @@ pub struct Sample {
 }
 
 /// Every sample's name, in the order in which they are explained.
-pub const NAMES: [&str; 8] = [
+pub const NAMES: [&str; 9] = [
     "lost-update",
     "lost-update-locked",
     "nested-lock",
     "half-changed-lane",
     "lane-kept-apart",
     "long-hold",
+    "lane-sensor",
     "slow-sorter",
     "too-many-orders",
 ];

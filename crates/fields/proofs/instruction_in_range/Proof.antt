@@ -1,78 +1,31 @@
--- `instruction_in_range` meets its contract: it tests the operation and then the three fields in the definition's
--- order, up to the first that fails.
+-- `instruction_in_range` meets its contract: it asks for the fields, and then for a Pick's choice.
 -- Assumes nothing.
-use borrow.Author.Needs.{needs}
-use borrow.Author.Tests.{not-true, not-false, lt-ltb, le-ltb}
-use Rattle.taskfile.specs.Code.RecordFields.{fieldOf}
-use Rattle.taskfile.specs.Records.{operationUses, instructionInRange}
+use mathlib.Core.Path.{sym, _∙_}
+use borrow.Author.Tests.{not-true, not-false}
+use Rattle.notation.specs.Laws.TestLaws.{and-first, and-second}
+use Rattle.taskfile.specs.Records.{instructionInRange}
 use Rattle.fields.proofs.instruction_in_range.Statement.{statement}
 use Rattle.fields.proofs.instruction_in_range.Tie as tie
 
-returns : tie.Need-returns
-unfolding instructionInRange fieldOf operationUses
-returns c =
-    let i = c .before .before .args .i in
-    rw (le-ltb (i .operation) 12 (c .if1 .taken))
+fields-in-range-requires : tie.Need-fields-in-range-requires
+fields-in-range-requires c κs = tt
 
-field-in-range-requires : tie.Need-field-in-range-requires
-field-in-range-requires c κs = search needs
+returns : tie.Need-returns
+unfolding instructionInRange
+returns c =
+    let fields = c .before .fields-in-range in
+    sym (and-first _ _ (sym (fields .ensures) ∙ not-true (fields .result) (c .if1 .taken)))
+
+choice-in-range-requires : tie.Need-choice-in-range-requires
+choice-in-range-requires c κs = tt
 
 returns-2 : tie.Need-returns-2
-unfolding instructionInRange fieldOf operationUses
+unfolding instructionInRange
 returns-2 c =
-    let known = c .before .before in
-    let i = known .before .before .args .i in
-    let a = c .before .field-in-range in
-    rw (lt-ltb (i .operation) 12 (known .if1 .left), ← a .ensures, not-true (a .result) (c .if2 .taken))
-
-field-in-range-requires-2 : tie.Need-field-in-range-requires-2
-field-in-range-requires-2 c κs = search needs
-
-returns-3 : tie.Need-returns-3
-unfolding instructionInRange fieldOf operationUses
-returns-3 c =
-    let first = c .before .before in
-    let known = first .before .before in
-    let i = known .before .before .args .i in
-    let a = first .before .field-in-range in
-    let b = c .before .field-in-range2 in
-    rw (
-      lt-ltb (i .operation) 12 (known .if1 .left),
-      ← a .ensures,
-      not-false (a .result) (first .if2 .left),
-      ← b .ensures,
-      not-true (b .result) (c .if3 .taken),
-    )
-
-field-in-range-requires-3 : tie.Need-field-in-range-requires-3
-field-in-range-requires-3 c κs = search needs
-
-returns-4 : tie.Need-returns-4
-unfolding instructionInRange fieldOf operationUses
-returns-4 c =
-    let second = c .before in
-    let first = second .before .before in
-    let known = first .before .before in
-    let i = known .before .before .args .i in
-    let a = first .before .field-in-range in
-    let b = second .before .field-in-range2 in
-    rw (
-      lt-ltb (i .operation) 12 (known .if1 .left),
-      ← a .ensures,
-      not-false (a .result) (first .if2 .left),
-      ← b .ensures,
-      not-false (b .result) (second .if3 .left),
-      c .field-in-range3 .ensures,
-    )
+    let fields = c .before .before .fields-in-range in
+    c .choice-in-range .ensures
+    ∙ sym (and-second _ _ (sym (fields .ensures) ∙ not-false (fields .result) (c .before .if1 .left)))
 
 pub instruction-in-range-spec : {M : Type 1} → statement M
 instruction-in-range-spec =
-    tie.close
-    (tie.spec
-    returns
-    field-in-range-requires
-    returns-2
-    field-in-range-requires-2
-    returns-3
-    field-in-range-requires-3
-    returns-4)
+    tie.close (tie.spec fields-in-range-requires returns choice-in-range-requires returns-2)

@@ -2,6 +2,7 @@
 -- there is End's, which is 0.
 -- Assumes nothing.
 use borrow.Author.Needs.{needs}
+use Rattle.texts.specs.Grammar.{operationRows}
 use Rattle.line_forms.specs.Laws.RowOfLaws.{operation-counts, fields-past}
 use Rattle.line_forms.proofs.operation_fields.Statement.{statement}
 use Rattle.line_forms.proofs.operation_fields.Tie as tie
@@ -13,6 +14,7 @@ array-read-result : tie.Need-array-read-result
 array-read-result c = search needs
 
 returns : tie.Need-returns
+unfolding operationRows
 returns c = operation-counts _
 
 returns-2 : tie.Need-returns-2

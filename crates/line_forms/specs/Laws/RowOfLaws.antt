@@ -5,7 +5,7 @@ use mathlib.Core.Path.{_≡_, refl, sym, ap, _∙_}
 use Prim.Native.Nat.{ℕ, zero, suc, _≤_, _<_}
 use native.Mathlib.Omega.{arith}
 use mathlib.Core.Bool.{true, false}
-use mathlib.Core.List.{[], _∷_}
+use mathlib.Core.List.{map}
 use lib.Dec.{leb, eqb}
 use lib.ListN.{length, getD, List·getD-eq-default, List·getD-map}
 use borrow.Author.Tests.{eqb-true, le-leb, lt-leb}
@@ -47,8 +47,8 @@ operation-other o word none = ap (λ (r : Row). same (r .word) word) (sym (opera
 
 -- how many fields each has, as an array
 pub operation-counts : (o : ℕ)
-    → getD (0 ∷ 2 ∷ 2 ∷ 2 ∷ 2 ∷ 2 ∷ 3 ∷ 3 ∷ 2 ∷ 1 ∷ 1 ∷ 1 ∷ []) o 0 ≡ length (rowOf (InstructionLine o) .fields)
-unfolding rowOf operationRows
+    → getD (map (λ r. length (r .fields)) operationRows) o 0 ≡ length (rowOf (InstructionLine o) .fields)
+unfolding rowOf
 operation-counts o = List·getD-map (λ (r : Row). length (r .fields)) operationRows o _
 
 pub fields-past : (o : ℕ) → 12 ≤ o → 0 ≡ length (rowOf (InstructionLine o) .fields)

@@ -8,7 +8,7 @@ use Rattle.notation.specs.Checked.{Checked, refused, passed}
 use Rattle.machine.specs.Ends.{Flags, End, noFlags, noStore}
 use Rattle.machine.specs.Instructions.{Store}
 use Rattle.samples.specs.Laws.Opened.{opened}
-use Rattle.samples.specs.Laws.Samples.{nest, pair, idle, twice, samplesOpened, twoSet, firstFailed}
+use Rattle.samples.specs.Laws.Samples.{nest, pair, idle, twice, sensor, samplesOpened, twoSet, firstFailed}
 use Rattle.order.specs.Laws.Opened.{ordersOpened}
 use Rattle.order.specs.Replay.{replay}
 
@@ -50,6 +50,11 @@ pub record OrderExamples : Type 0 where
   -- "34 for a value": the Pick offers 0 to 3, an Acquire 0 alone
   pub valuePicked : replay nest (0 ∷ 0 ∷ 36 ∷ []) ≡ refused 34 2
   pub valueAcquire : replay nest (1 ∷ []) ≡ refused 34 0
+  -- document 02, E7: a Pick of 3 to 6
+  pub valueBelow : replay sensor (2 ∷ 0 ∷ 0 ∷ 0 ∷ []) ≡ refused 34 0
+  pub valueLowest : replay sensor (3 ∷ 0 ∷ 0 ∷ 0 ∷ []) ≡ endsWith noStore noFlags
+  pub valueHighest : replay sensor (6 ∷ 0 ∷ 0 ∷ 0 ∷ 0 ∷ []) ≡ endsWith noStore firstFailed
+  pub valueAbove : replay sensor (7 ∷ 0 ∷ 0 ∷ 0 ∷ 0 ∷ []) ≡ refused 34 0
   -- 33 before 30, and 30 before 34: no task 3 has a turn, and job 0 under job 1 has none, whatever the value
   pub taskBeforeTurn : replay nest (0 ∷ 0 ∷ 16 ∷ 63 ∷ []) ≡ refused 33 3
   pub turnBeforeValue : replay nest (0 ∷ 0 ∷ 16 ∷ 15 ∷ []) ≡ refused 30 3
@@ -83,6 +88,10 @@ order-examples =
       taskHighest = refl;
       valuePicked = refl;
       valueAcquire = refl;
+      valueBelow = refl;
+      valueLowest = refl;
+      valueHighest = refl;
+      valueAbove = refl;
       taskBeforeTurn = refl;
       turnBeforeValue = refl;
       shortEmpty = refl;

@@ -9,7 +9,7 @@ use Rattle.notation.specs.Lists.{each}
 use Rattle.machine.specs.Ends.{Flags, End, noFlags, noStore}
 use Rattle.machine.specs.Instructions.{Store}
 use Rattle.samples.specs.Laws.Opened.{opened}
-use Rattle.samples.specs.Laws.Samples.{nest, pair, idle, twice, samplesOpened, twoSet, firstFailed}
+use Rattle.samples.specs.Laws.Samples.{nest, pair, idle, twice, sensor, samplesOpened, twoSet, firstFailed}
 use Rattle.plan.specs.Laws.Opened.{plansOpened}
 use Rattle.plan.specs.Plans.{checkPlan}
 use Rattle.plan.specs.Runs.{Plan}
@@ -54,6 +54,10 @@ pairPlan x y = 2 ∷ noStore ++ noStore ++ steps (x ∷ y ∷ [])
 abbrev twicePlan : List ℕ → Plan
 twicePlan rounds = 2 ∷ noStore ++ noStore ++ steps rounds ++ steps (0 ∷ [])
 
+-- a plan of the table `sensor`: what its job picks, and the rounds of its other steps
+abbrev sensorPlan : ℕ → List ℕ → List ℕ
+sensorPlan picked rounds = 1 ∷ noStore ++ 0 ∷ picked ∷ steps rounds
+
 abbrev endsWith : Store → Flags → Checked ℕ End
 endsWith store failed = passed (record { store = store; failed = failed })
 
@@ -80,6 +84,11 @@ pub record PlanExamples : Type 0 where
   -- "41 VALUE: not a value its instruction allows": an Acquire has the value 0 alone, the Pick 0 to 3
   pub valueFixed : checkPlan nest (take 25 nested ++ (0 ∷ 1 ∷ []) ++ steps (0 ∷ [])) ≡ refused 41 26
   pub valuePicked : checkPlan nest (nestedWith guesses 4) ≡ refused 41 42
+  -- document 02, E7: a Pick of 3 to 6
+  pub valueBelow : checkPlan sensor (sensorPlan 2 (0 ∷ 0 ∷ 0 ∷ [])) ≡ refused 41 10
+  pub valueLowest : checkPlan sensor (sensorPlan 3 (0 ∷ 0 ∷ 0 ∷ [])) ≡ endsWith noStore noFlags
+  pub valueHighest : checkPlan sensor (sensorPlan 6 (0 ∷ 0 ∷ 0 ∷ 0 ∷ [])) ≡ endsWith noStore firstFailed
+  pub valueAbove : checkPlan sensor (sensorPlan 7 (0 ∷ 0 ∷ 0 ∷ 0 ∷ [])) ≡ refused 41 10
   -- "42 ROUND: at least k, or below the job's previous step"
   pub roundMany : checkPlan nest (withFirst (0 ∷ 0 ∷ 2 ∷ 2 ∷ 3 ∷ [])) ≡ refused 42 33
   pub roundBack : checkPlan nest (withFirst (0 ∷ 0 ∷ 2 ∷ 1 ∷ 2 ∷ [])) ≡ refused 42 31
@@ -119,6 +128,10 @@ plan-examples =
       shapeLeft = refl;
       valueFixed = refl;
       valuePicked = refl;
+      valueBelow = refl;
+      valueLowest = refl;
+      valueHighest = refl;
+      valueAbove = refl;
       roundMany = refl;
       roundBack = refl;
       roundFirst = refl;

@@ -29,7 +29,7 @@ notationOpened = tt
 unfoldable pub recordsOpened : Unit {0}
 unfolding Records.records Records.byteAt Records.wideAt Records.next Records.kindNumber Records.operationUses
     Records.usesOf Records.tidyField Records.fieldInRange Records.instructionAt Records.tidyInstruction
-    Records.instructionInRange Records.zeroFrom Records.tidy Records.inRange
+    Records.fieldsInRange Records.choiceInRange Records.instructionInRange Records.zeroFrom Records.tidy Records.inRange
 recordsOpened = tt
 
 unfoldable pub chainsOpened : Unit {0}

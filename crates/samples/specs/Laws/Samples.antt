@@ -105,10 +105,22 @@ waitTable = slowTable 4
 unfoldable pub wait : Accepted
 wait = record { table = waitTable; responses = 3 ∷ 6 ∷ 1 ∷ []; jobs = job 1 0 6 ∷ job 2 3 4 ∷ [] }
 
+-- Document 02, E7: one task with one job, Pick 0 of 3 to 6, Set 1 to 5, skip 1 if register 0 is less than register 1,
+-- Assert 2, End. It fails unless it picks 3 or 4.
+unfoldable pub sensorTable : Table
+sensorTable =
+    table 1 0
+    (task 1 1 0
+    (instruction 8 0 6 3 ∷ instruction 3 1 5 0 ∷ instruction 6 0 1 1 ∷ instruction 11 2 0 0 ∷ endInstruction ∷ []) ∷ [])
+    []
+
+unfoldable pub sensor : Accepted
+sensor = record { table = sensorTable; responses = 1 ∷ []; jobs = job 0 0 1 ∷ [] }
+
 -- one name for all of them
 unfoldable pub samplesOpened : Unit {0}
 unfolding nestTable nest pairTable pair pickTable pickUpTo idleTable idle twiceTable twice apartTable
-    apart waitTable wait
+    apart waitTable wait sensorTable sensor
 samplesOpened = tt
 
 -- these are the accepted tables that their tables' own times and jobs make
@@ -120,6 +132,7 @@ pub record TimedAs : Type 0 where
   pub twiceTimed : timed twiceTable ≡ passed twice
   pub apartTimed : timed apartTable ≡ passed apart
   pub waitTimed : timed waitTable ≡ passed wait
+  pub sensorTimed : timed sensorTable ≡ passed sensor
 
 pub all-timed : TimedAs
 unfolding opened responseOf samplesOpened
@@ -132,4 +145,5 @@ all-timed =
       twiceTimed = refl;
       apartTimed = refl;
       waitTimed = refl;
+      sensorTimed = refl;
     }

@@ -6,9 +6,9 @@ use lib.Dec.{eqb}
 use Rattle.notation.specs.Lists.{if_then_else_}
 use Rattle.taskfile.specs.declared.Instruction.{Instruction}
 
--- every choice starts at 0
+-- c of a Pick, and 0 of any other
 unfoldable pub lowest : Instruction → ℕ
-lowest i = 0
+lowest i = if eqb (i .operation) 8 then i .c else 0
 
 -- b of a Pick, and 0 of any other
 unfoldable pub highest : Instruction → ℕ

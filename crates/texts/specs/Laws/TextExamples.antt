@@ -5,13 +5,15 @@ use mathlib.Core.List.{[], _∷_}
 use Rattle.notation.specs.Checked.{refused, passed, require, given, placedBy, _>>=_, _>>_}
 use Rattle.notation.specs.Lists.{if_then_else_, upTo, from, all, firstWith, firstOr, same, each, bytesAt, padded, sum}
 use Rattle.sheets.specs.Texts.{digit, digits, decimal, spaced, line, taskWord}
-use Rattle.taskfile.specs.Records.{tidyInstruction, instructionInRange, usesOf, operationUses, tidyField, fieldInRange}
+use Rattle.taskfile.specs.Records.{tidyInstruction, fieldsInRange, choiceInRange, instructionInRange, usesOf, operationUses}
+use Rattle.taskfile.specs.Records.{tidyField, fieldInRange}
 use Rattle.taskfile.specs.Tables.{tasksOf, bodyOf, noTask, emptyTable}
 use Rattle.writer.specs.Claims.{claimed, claimedTasks, claimedBody, lockByLock, claimedLocks, recordTotal, indexOf}
 use Rattle.writer.specs.Fields.{bodyFields, taskFields, fields, judgedWhole, acceptTable}
 use Rattle.writer.specs.WriteEntries.{written}
 use Rattle.writer.specs.Laws.WriterExamples.{small}
-use Rattle.texts.specs.Grammar.{rowOf, operationRows, lineText, joined, fits, mayCome}
+use Rattle.texts.specs.declared.Form.the-variants.{InstructionLine}
+use Rattle.texts.specs.Grammar.{rowOf, operationRows, lineWith, lineText, joined, fits, mayCome, inBody}
 use Rattle.texts.specs.Reading.{begins, parts, isDigit, isEmpty, isNumeral, valueAfter, valueOf, forms}
 use Rattle.texts.specs.Reading.{formNamed, lineRead, linesRead, textRead}
 use Rattle.texts.specs.TextEntries.{filed, lineOfRecord}
@@ -80,6 +82,16 @@ pub text-large-words : textRead (119 ∷ 105 ∷ 110 ∷ 100 ∷ 111 ∷ 119 ∷
 unfolding opened
 text-large-words = refl
 
+-- document 02, E7: a Pick's line has c too, "so an old text's `pick` line with two numbers earns 60"
+pub pick-three : lineRead 4 inBody (112 ∷ 105 ∷ 99 ∷ 107 ∷ 32 ∷ 48 ∷ 32 ∷ 54 ∷ 32 ∷ 51 ∷ [])
+    ≡ passed (lineWith (InstructionLine 8) (0 ∷ 6 ∷ 3 ∷ []))
+unfolding opened
+pick-three = refl
+
+pub pick-two : lineRead 4 inBody (112 ∷ 105 ∷ 99 ∷ 107 ∷ 32 ∷ 48 ∷ 32 ∷ 54 ∷ []) ≡ refused 60 4
+unfolding opened
+pick-two = refl
+
 -- ---- the places of the table's own numbers
 
 -- all that judging a text's table rests on
@@ -87,7 +99,7 @@ unfoldable judging : Unit {0}
 unfolding opened filed lineOfRecord tableOf addLines addPart withWindow withStore withTasks counted bareTask addTask
     longerTask addInstruction addLock instructionWith emptyTable written acceptTable judgedWhole placedBy indexOf fields
     taskFields bodyFields recordTotal claimedTasks claimedBody claimedLocks claimed sum tidyInstruction
-    instructionInRange usesOf operationUses tidyField fieldInRange
+    fieldsInRange choiceInRange instructionInRange usesOf operationUses tidyField fieldInRange
 judging = tt
 
 -- a window of 0 stands in the header, whose line is 0

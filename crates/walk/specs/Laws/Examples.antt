@@ -8,7 +8,8 @@ use Rattle.notation.specs.Checked.{refused, passed}
 use Rattle.timing.specs.Accepted.{Accepted}
 use Rattle.machine.specs.Ends.{End, noStore}
 use Rattle.samples.specs.Laws.Opened.{opened}
-use Rattle.samples.specs.Laws.Samples.{nest, pair, pickUpTo, idle, twice, apart, wait, samplesOpened, twoSet, firstFailed}
+use Rattle.samples.specs.Laws.Samples.{nest, pair, pickUpTo, idle, twice, apart, wait, sensor, samplesOpened}
+use Rattle.samples.specs.Laws.Samples.{twoSet, firstFailed}
 use Rattle.order.specs.Laws.Opened.{ordersOpened}
 use Rattle.order.specs.Orders.{run}
 use Rattle.order.specs.States.{State, initial}
@@ -59,6 +60,11 @@ pub record WalkExamples : Type 0 where
         failing = some (record { bytes = 16 ∷ 32 ∷ 32 ∷ 32 ∷ 16 ∷ 16 ∷ 16 ∷ 16 ∷ []; ending = storedFails });
         count = 23;
       }
+  -- Document 02, E7: a Pick of 3 to 6. The orders that pick 3 and 4 hold after four moves each; that which picks 5 fails
+  -- after five more, and 6 is not tried.
+  pub picked : movesAfter sensor [] ≡ 3 ∷ 4 ∷ 5 ∷ 6 ∷ []
+  pub pickedFails : walk sensor
+      ≡ record { failing = some (record { bytes = 5 ∷ 0 ∷ 0 ∷ 0 ∷ 0 ∷ []; ending = firstFails }); count = 13 }
 
 pub walk-examples : WalkExamples
 unfolding opened samplesOpened ordersOpened walksOpened movesAt
@@ -76,4 +82,6 @@ walk-examples =
       counting = refl;
       apartHolds = refl;
       waitFails = refl;
+      picked = refl;
+      pickedFails = refl;
     }

@@ -5,11 +5,12 @@ use Prim.Native.Nat.{ℕ}
 use mathlib.Core.List.{[], _∷_}
 use lib.ListN.{length, replicate}
 use Rattle.notation.specs.Checked.{refused, placedBy, require, _>>_}
-use Rattle.notation.specs.Lists.{sum, padded}
+use Rattle.notation.specs.Lists.{if_then_else_, sum, padded}
 use Rattle.taskfile.specs.declared.Instruction.{Instruction}
 use Rattle.taskfile.specs.declared.Table.{Table}
 use Rattle.taskfile.specs.declared.TaskEntry.{TaskEntry}
-use Rattle.taskfile.specs.Records.{tidyInstruction, instructionInRange, usesOf, operationUses, tidyField, fieldInRange}
+use Rattle.taskfile.specs.Records.{tidyInstruction, fieldsInRange, choiceInRange, instructionInRange, usesOf, operationUses}
+use Rattle.taskfile.specs.Records.{tidyField, fieldInRange}
 use Rattle.taskfile.specs.Tables.{endInstruction, noTask}
 use Rattle.writer.specs.Claims.{claimed, claimedTasks, claimedBody, lockByLock, claimedLocks, recordTotal, indexOf, locksAt}
 use Rattle.writer.specs.Fields.{bodyFields, taskFields, fields}
@@ -65,7 +66,8 @@ small-laid = refl
 -- the place of the second task's fault is its index, with the first one's body before it
 pub small-placed : placedBy (indexOf (small 5 2 0)) (fields (small 5 2 0)) ≡ refused 4 4
 unfolding placedBy indexOf fields taskFields bodyFields recordTotal claimedTasks claimedBody claimedLocks lockByLock claimed sum small
-    noTask padded require _>>_ tidyInstruction instructionInRange usesOf operationUses tidyField fieldInRange
+    noTask padded require _>>_ tidyInstruction fieldsInRange choiceInRange instructionInRange usesOf operationUses
+    tidyField fieldInRange if_then_else_
 small-placed = refl
 
 -- a window of 0 is named before the tasks that are missing

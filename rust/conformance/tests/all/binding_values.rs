@@ -3,20 +3,23 @@
 
 use binding::{check_plan, order_to_plan, plan_to_order, read, replay, walk};
 use binding::{Ending, JobNumber, Ordered, Planned, Refusal, Timing, Verdict};
-use conformance::cases::{edited, plan_of_x, table_x, tasks, ORDER_OF_X};
+use conformance::cases::{accepted, edited, plan_of_x, table_x, tasks, ORDER_OF_X};
 use conformance::families::{any, long, refused_files, small, Family};
+use conformance::lifting::instruction_at;
 use conformance::orders::{random_order, random_steps, variants};
 use conformance::plans::some_plans;
-use generator::{code, random_nest, random_race, Random};
+use generator::{code, random_lifted_picks, random_nest, random_race, Random};
+use interpreter::machine::values_on_offer;
 use interpreter::timing::accept;
 
 /// The seeds differ, so that no family repeats the tables of another.
-const FAMILIES: [Family; 5] = [
+const FAMILIES: [Family; 6] = [
     Family { name: "small tables", seed: 500, tables: 200, make: small },
     Family { name: "long bodies", seed: 501, tables: 200, make: long },
     Family { name: "races", seed: 502, tables: 200, make: random_race },
     Family { name: "nests", seed: 503, tables: 200, make: random_nest },
     Family { name: "tables of any size", seed: 504, tables: 200, make: any },
+    Family { name: "Picks from any value", seed: 506, tables: 200, make: random_lifted_picks },
 ];
 
 const ALLOWANCE: u64 = 10_000;
@@ -174,6 +177,64 @@ fn values_are_the_interpreters() {
     assert!(tally.read >= 500 && tally.replayed >= 500 && tally.refused >= 500);
     assert!(tally.holds >= 200 && tally.fails >= 200);
     assert!(tally.planned >= 500 && tally.ordered >= 500 && tally.plans_refused >= 500);
+}
+
+/// Tries every value at each step of an order. Returns how many were refused.
+fn compare_offers(file: &[u8], order: &[u8]) -> u64 {
+    let mut refused = 0;
+    for place in 0..order.len() {
+        let offered = values_on_offer(instruction_at(&accepted(file), order, place));
+        for value in (0..16).filter(|value| !offered.contains(value)) {
+            let order = edited(order, &[(place, order[place] / 16 * 16 + value)]);
+            let refusal = replay(file, &order).expect_err("the value is not on offer");
+            assert_eq!(refusal, Refusal { number: 34, place: place as u64 });
+            assert_eq!(refusal.on_offer(file, &order), Some(offered.clone()), "{file:02x?}");
+            refused += 1;
+        }
+    }
+    refused
+}
+
+/// Tries values at each step of the order's plan, whose values are at every second byte behind the
+/// guesses. Returns how many were refused.
+fn compare_plan_offers(file: &[u8], order: &[u8]) -> u64 {
+    let plan = order_to_plan(file, order).expect("the order is complete").plan;
+    let guesses = 1 + 8 * usize::from(plan[0]);
+    let is_wrong = |plan: &[u8], place: usize| {
+        let answer = interpreter::check_plan(file, plan);
+        (answer.number, answer.place) == (41, place)
+    };
+    let mut refused = 0;
+    for place in (guesses + 1..plan.len()).step_by(2) {
+        let with = |value: u8| edited(&plan, &[(place, value)]);
+        let (wrong, right): (Vec<u8>, Vec<u8>) =
+            (0..=u8::MAX).partition(|value| is_wrong(&with(*value), place));
+        let offered = right[0]..=right[right.len() - 1];
+        for value in [wrong[0], wrong[wrong.len() / 2], u8::MAX] {
+            let refusal = check_plan(file, &with(value)).expect_err("the value is not allowed");
+            assert_eq!(refusal, Refusal { number: 41, place: place as u64 });
+            assert_eq!(refusal.on_offer(file, &with(value)), Some(offered.clone()), "{file:02x?}");
+            refused += 1;
+        }
+    }
+    refused
+}
+
+/// Picks of every range: three jobs, of which the upper ones may come in between.
+#[test]
+fn values_on_offer_are_the_interpreters() {
+    let mut random = Random::new(505);
+    let mut refused = [0; 2];
+    for highest in 0..16 {
+        for lowest in 0..=highest {
+            let body = [code::set(0, 1), code::pick_between(1, lowest, highest), code::end()];
+            let file = tasks(6, &[[2, 20, 0], [2, 20, 1], [2, 20, 2]], &body).write();
+            let order = random_order(&mut random, &accepted(&file));
+            refused[0] += compare_offers(&file, &order);
+            refused[1] += compare_plan_offers(&file, &order);
+        }
+    }
+    assert!(refused.iter().all(|times| *times >= 1_000), "{refused:?}");
 }
 
 /// Table X with the values of document 01.

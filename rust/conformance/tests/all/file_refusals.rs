@@ -115,7 +115,8 @@ fn number_4_field_of_header_task_and_lock() {
     }
 }
 
-/// The largest a, b and c of each operation; lock numbers are left to number 9.
+/// The largest a, b and c of each operation; lock numbers are left to number 9. A Pick's c is also
+/// at most its b (document 02, E7).
 const LARGEST: [[u8; 3]; 12] = [
     [0, 0, 0],
     [3, 7, 0],
@@ -125,11 +126,13 @@ const LARGEST: [[u8; 3]; 12] = [
     [3, 3, 0],
     [3, 3, 15],
     [3, 3, 15],
-    [3, 15, 0],
+    [3, 15, 15],
     [255, 0, 0],
     [255, 0, 0],
     [3, 0, 0],
 ];
+
+const PICK: u8 = 8;
 
 /// Fields a, b and c on both sides of every limit.
 fn fields() -> Vec<[u8; 3]> {
@@ -151,7 +154,8 @@ fn number_4_field_of_instructions() {
             let tested = InstructionDescription { operation, a, b, c };
             let answer = read(&one_body(&[tested, code::end(), code::end()]).write());
             let largest = LARGEST.get(operation as usize);
-            let fits = largest.is_some_and(|most| a <= most[0] && b <= most[1] && c <= most[2]);
+            let within = largest.is_some_and(|most| a <= most[0] && b <= most[1] && c <= most[2]);
+            let fits = within && (operation != PICK || c <= b);
             assert_eq!(answer.number != 4, fits, "{tested:?}");
             assert!(fits || answer.place == 2, "{tested:?}");
             fitting += u64::from(fits);

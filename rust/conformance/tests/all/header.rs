@@ -1,4 +1,5 @@
-//! The entries and numbers of the header and of the README against those of the binding.
+//! The entries and numbers of the header and of the README against those of the binding, and the
+//! lines of a text in both and in the program's help.
 
 use binding::raw::{
     Verdict, CHECK_PLAN_WORDS, CONVERSION_WORDS, JOBS_WORDS, READ_WORDS, REPLAY_WORDS, SHEET_WORDS,
@@ -8,11 +9,13 @@ use binding::{
     Place, Rule, FILE_ROOM, JOB_LIST_ROOM, MOST_INSTRUCTIONS, MOST_JOBS, MOST_LOCKS, MOST_TASKS,
     ORDER_ROOM, PLAN_ROOM, SHEET_ALLOWANCE, SHEET_ROOM, TABLE_ROOM, TEXT_ROOM, VARIABLES,
 };
+use interpreter::grammar::Kind;
 use std::collections::{BTreeMap, BTreeSet};
 
 const HEADER: &str = include_str!("../../../../include/adqurim.h");
 const BOUND: &str = include_str!("../../../binding/src/raw.rs");
 const README: &str = include_str!("../../../../README.md");
+const HELP: &str = include_str!("../../../command/src/help.rs");
 
 type Named = BTreeMap<String, u64>;
 
@@ -136,5 +139,35 @@ fn every_rule_has_its_row_in_the_readme() {
         let noun = counts.noun().unwrap_or("0");
         assert!(place.contains(noun), "{name}: the place is {place}, not {counts:?}");
         assert_eq!(place == "0", counts == Place::Nowhere, "{name}");
+    }
+}
+
+/// The line of each instruction, by operation: its word, and a name for each of its fields.
+const LINES: [&str; 12] = [
+    "end",
+    "load a b",
+    "store a b",
+    "set a b",
+    "add a b",
+    "subtract a b",
+    "less a b c",
+    "equal a b c",
+    "pick a b c",
+    "acquire a",
+    "release a",
+    "assert a",
+];
+
+#[test]
+fn every_instruction_has_its_line_in_the_header_the_readme_and_the_help() {
+    let flowing = |text: &str| text.split_whitespace().collect::<Vec<&str>>().join(" ");
+    let lists = [HEADER, HELP].map(flowing);
+    for (operation, line) in (0..).zip(LINES) {
+        assert_eq!(Kind::Instruction(operation).fields(), line.split(' ').count() - 1, "{line}");
+        assert!(README.contains(&format!("`{line}`")), "{line}");
+        for list in &lists {
+            let listed = |end: &str| list.contains(&format!(" {line}{end}"));
+            assert!([",", ";", ".", " *"].into_iter().any(listed), "{line}");
+        }
     }
 }

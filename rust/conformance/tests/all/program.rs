@@ -5,7 +5,7 @@ use binding::TEXT_ROOM;
 use conformance::cases::{edited, longest_text_table, table_x, TEXT_OF_ALL, TEXT_OF_X};
 use conformance::families::{long, nest_of_four, refused_files, small};
 use generator::files::{damaged, random_bytes, random_records};
-use generator::{random_race, texts, Random};
+use generator::{random_lifted_picks, random_race, texts, Random};
 use interpreter::{file_to_text, sheet, text_to_file, WriteAnswer};
 use std::fs::{self, File};
 use std::io::{self, Write};
@@ -90,7 +90,7 @@ fn files() -> Vec<Vec<u8>> {
     let mut random = Random::new(820);
     let mut files: Vec<Vec<u8>> = samples::all().iter().map(|sample| sample.file()).collect();
     files.extend(refused_files());
-    for make in [small, long, random_race, nest_of_four] {
+    for make in [small, long, random_race, nest_of_four, random_lifted_picks] {
         for _ in 0..50 {
             let file = make(&mut random).write_shuffled(&mut random).0;
             files.extend([damaged(&mut random, &file), file]);
@@ -159,7 +159,7 @@ fn input_that_is_too_long_is_not_read_to_its_end() {
 
 #[test]
 fn the_script_on_every_sample() {
-    let statuses = [FAILS, HOLDS, HOLDS, FAILS, HOLDS, FAILS, REFUSED, REFUSED];
+    let statuses = [FAILS, HOLDS, HOLDS, FAILS, HOLDS, FAILS, HOLDS, REFUSED, REFUSED];
     for (sample, status) in iter::zip(samples::all(), statuses) {
         let name = format!("{}.task", sample.name);
         let mut by_name = script(&[&name]);
@@ -353,6 +353,8 @@ fn the_script_shows_the_line_of_a_text_that_is_refused() {
     let cases = [
         (x("load 0", "lod 0"), "refused 60 3",
             "line 3 \"lod 0 0\" is not in the grammar of texts (60)"),
+        (x("load 0 0", "pick 0 6"), "refused 60 3",
+            "line 3 \"pick 0 6\" is not in the grammar of texts (60)"),
         (x("load 0", "load\t0\0"), "refused 60 3",
             "line 3 \"load?0? 0\" is not in the grammar of texts (60)"),
         (b"window 5\n".to_vec(), "refused 60 1", "line 1 is missing (60)"),
@@ -366,6 +368,9 @@ fn the_script_shows_the_line_of_a_text_that_is_refused() {
         (x("window 5", "window 0"), "refused 4 0",
             "line 0 \"window 0\" (the header) has a value out of range, or an unused byte that is \
              not zero (4)"),
+        (x("load 0 0", "pick 0 3 6"), "refused 4 3",
+            "line 3 \"pick 0 3 6\" (instruction 0 of task 0) has a value out of range, or an unused \
+             byte that is not zero (4)"),
         (x("task 1 4", "task 1 9"), "refused 8 8",
             "line 8 \"task 1 9 1\" (task 1) is a task with a period above the previous task's (8)"),
         (x("set 0 1", "acquire 5"), "refused 9 9",

@@ -2,7 +2,7 @@
 //! what is wrong with a step, and with a table, with a task, an instruction or a lock.
 
 use binding::{Instruction, Place, Refusal, Rule, Site, Table, TaskEntry};
-use conformance::cases::{edited, plan, plan_of_x, table_x, ORDER_OF_X};
+use conformance::cases::{edited, plan, plan_of_x, table_x, tasks, ORDER_OF_X};
 use conformance::entries::pattern;
 use conformance::families::refused_files;
 use generator::{code, TableDescription, TaskDescription};
@@ -104,10 +104,11 @@ fn some_messages_whole() {
         (31, 8, "step 8 is missing: the order ends with jobs unfinished (31 SHORT)"),
         (32, 8, "step 8 is one too many: all jobs ended before it (32 EXTRA)"),
         (33, 3, "step 3 names a task that does not exist (33 TASK)"),
-        (34, 3, "step 3 names a value that is not on offer (34 OFFER)"),
+        (34, 3, "step 3 names a value that is not on offer: a Pick offers c to b, any other \
+            instruction 0 (34 OFFER)"),
         (40, 33, "offset 33 of the plan has the first wrong, missing or extra byte (40 SHAPE)"),
-        (41, 18, "offset 18 of the plan has a value that its instruction does not allow \
-            (41 VALUE)"),
+        (41, 18, "offset 18 of the plan has a value that its instruction does not allow: a Pick \
+            allows c to b, any other instruction 0 (41 VALUE)"),
         (42, 17, "offset 17 of the plan has a round that is not below the number of jobs, \
             or is below that of the job's previous step (42 ROUND)"),
         (43, 0, "job 0 and a job with a higher number break the round rules, locks aside \
@@ -160,6 +161,77 @@ fn other_refusals_with_an_order_at_hand() {
     }
 }
 
+/// A job that picks a lane from 3 to 6 into register 0, and its plan.
+fn lane() -> (Vec<u8>, Vec<u8>) {
+    let body = [code::pick_between(0, 3, 6), code::store(0, 0), code::end()];
+    (tasks(1, &[[1, 1, 0]], &body).write(), vec![1, 0, 0, 0, 0, 0, 0, 0, 0, 0, 4, 0, 0, 0, 0])
+}
+
+/// Where the value of the Pick is in that plan; that of the step after it is 2 bytes on.
+const PICKED: usize = 10;
+
+#[test]
+fn values_on_offer_in_an_order() {
+    let (file, _) = lane();
+    for value in 3..=6 {
+        assert!(binding::replay(&file, &[value, 0, 0]).is_ok());
+    }
+    for value in (0..3).chain(7..16) {
+        let order = [value, 0, 0];
+        let refusal = binding::replay(&file, &order).expect_err("it is refused");
+        assert_eq!(refusal, Refusal { number: 34, place: 0 });
+        let says = format!("step 0: value {value} is not on offer (34 OFFER)");
+        assert_eq!(refusal.in_order(&order).to_string(), says);
+        assert_eq!(refusal.on_offer(&file, &order), Some(3..=6));
+    }
+    let order = [5, 5, 0];
+    let refusal = binding::replay(&file, &order).expect_err("it is refused");
+    assert_eq!(refusal, Refusal { number: 34, place: 1 });
+    assert_eq!(refusal.on_offer(&file, &order), Some(0..=0));
+}
+
+#[test]
+fn values_on_offer_in_a_plan() {
+    let (file, plan) = lane();
+    for value in 0..=u8::MAX {
+        let plan = edited(&plan, &[(PICKED, value)]);
+        if (3..=6).contains(&value) {
+            let ending = binding::check_plan(&file, &plan).expect("it is legal");
+            assert_eq!(ending.end_store[0], value);
+            continue;
+        }
+        let refusal = binding::check_plan(&file, &plan).expect_err("it is refused");
+        assert_eq!(refusal, Refusal { number: 41, place: PICKED as u64 });
+        assert_eq!(refusal.on_offer(&file, &plan), Some(3..=6));
+    }
+    let plan = edited(&plan, &[(PICKED + 2, 3)]);
+    let refusal = binding::check_plan(&file, &plan).expect_err("it is refused");
+    assert_eq!(refusal, Refusal { number: 41, place: PICKED as u64 + 2 });
+    assert_eq!(refusal.on_offer(&file, &plan), Some(0..=0));
+}
+
+/// No values are given of another refusal, or if the file and the bytes are not refused so.
+#[test]
+fn no_values_on_offer() {
+    let (file, plan) = lane();
+    let (order, wrong_plan) = ([2, 0, 0], edited(&plan, &[(PICKED, 2)]));
+    for number in (0..=70).chain([u64::MAX]) {
+        for place in [0, 1, 2, 3, 10, 12, 15, 1_281, u64::MAX] {
+            let refusal = Refusal { number, place };
+            let given = |file: &[u8], bytes: &[u8]| refusal.on_offer(file, bytes).is_some();
+            assert_eq!(given(&file, &order), (number, place) == (34, 0), "{refusal:?}");
+            // The first byte of a plan, 1, is no value of the Pick either.
+            let so = [(34, 0), (41, PICKED as u64)].contains(&(number, place));
+            assert_eq!(given(&file, &wrong_plan), so, "{refusal:?}");
+            for bytes in [&[][..], &[4, 0, 0], &[4, 0], &[20, 0]] {
+                assert!(!given(&file, bytes), "{refusal:?} {bytes:?}");
+            }
+            assert!(number == 34 || !given(&file, &plan), "{refusal:?}");
+            assert!(!given(&file[1..], &order) && !given(&file[1..], &wrong_plan), "{refusal:?}");
+        }
+    }
+}
+
 /// Table X with two locks, as the binding has tables.
 fn x_with_locks() -> Table {
     let mut table = table_x();
@@ -185,7 +257,7 @@ fn assert_table_says(edit: Edit, message: &str) {
 #[test]
 fn fields_and_counts_with_the_table_at_hand() {
     #[rustfmt::skip]
-    let expected: [(Edit, &str); 13] = [
+    let expected: [(Edit, &str); 16] = [
         (|table| table.window = 0, "the header (record 0): the window is 0 (4 FIELD)"),
         (|table| table.tasks[0].execution = 9,
             "task 0 (record 1): the execution time 9 is not from 1 to the period 8 (4 FIELD)"),
@@ -195,6 +267,15 @@ fn fields_and_counts_with_the_table_at_hand() {
             "instruction 2 of task 1 (record 10): there is no operation 12 (4 FIELD)"),
         (|table| table.tasks[0].body[3].c = 1,
             "instruction 3 of task 0 (record 5): a field of operation 11 is out of range or unused \
+             and not 0 (4 FIELD)"),
+        (|table| table.tasks[1].body[0] = instruction(8, 0, 3, 6),
+            "instruction 0 of task 1 (record 8): c 6, the lowest value, is above b 3, the highest \
+             (4 FIELD)"),
+        (|table| table.tasks[0].body[4] = instruction(8, 4, 6, 3),
+            "instruction 4 of task 0 (record 6): a field of operation 8 is out of range or unused \
+             and not 0 (4 FIELD)"),
+        (|table| table.tasks[0].body[1].c = 1,
+            "instruction 1 of task 0 (record 3): a field of operation 1 is out of range or unused \
              and not 0 (4 FIELD)"),
         (|table| table.ceilings[1] = 8, "lock 1 (record 12): the ceiling 8 is above 7 (4 FIELD)"),
         (|table| table.tasks.clear(), "the header (record 0): there are no tasks (5 COUNT)"),

@@ -92,7 +92,7 @@ fn the_directory_holds_four_files_for_each_sample() {
         entry.expect("it can be listed").file_name().into_string().expect("a plain name")
     };
     assert_eq!(entries.map(name).collect::<BTreeSet<String>>(), expected);
-    assert_eq!(expected.len(), 32);
+    assert_eq!(expected.len(), 36);
 }
 
 #[test]
@@ -133,6 +133,7 @@ fn the_proved_walk_finds_what_each_sample_shows() {
     assert_eq!(failing("half-changed-lane"), (88, vec![JobNumber(2)]));
     assert_eq!(walk("lane-kept-apart"), Ok(Verdict::Holds { count: 19 }));
     assert_eq!(failing("long-hold"), (43, vec![JobNumber(3)]));
+    assert_eq!(walk("lane-sensor"), Ok(Verdict::Holds { count: 239 }));
     assert_eq!(walk("slow-sorter"), Err(Refusal { number: 10, place: 1 }));
     assert_eq!(walk("too-many-orders"), Err(Refusal { number: 21, place: 0 }));
 }
@@ -204,6 +205,55 @@ fn the_long_hold_would_hold_without_its_holding_time() {
     let (change, divert) = (interpreter::JobNumber(1), interpreter::JobNumber(3));
     assert!(short.comes_before(change, divert) && !short.may_preempt(divert, change));
     assert!(long.may_preempt(divert, change) && !long.comes_before(change, divert));
+}
+
+/// The lines of the lane sensor's sample with others in place of its Pick.
+fn lane_sensor_with(pick: &[&str]) -> Vec<String> {
+    let mut lines = lines("lane-sensor");
+    let at = lines.iter().position(|line| line == "pick 0 6 3").expect("it is a line");
+    lines.splice(at..=at, pick.iter().map(|line| line.to_string()));
+    lines
+}
+
+/// With a Pick from 0 the first order that fails has a lane which the sensor does not report.
+#[test]
+fn the_lane_sensor_would_fail_with_a_pick_from_0() {
+    let from_0 = file_of(&lane_sensor_with(&["pick 0 6 0"]));
+    let Ok(Verdict::Fails { count, order, ending }) = binding::walk(&from_0, SHEET_ALLOWANCE)
+    else {
+        panic!("it fails");
+    };
+    assert_eq!((count, ending.failed_jobs), (19, vec![JobNumber(1), JobNumber(2)]));
+    assert_eq!(ending.end_store, [0, 253, 0, 0, 0, 0, 0, 0]);
+    let words: Vec<String> = order.iter().map(u8::to_string).collect();
+    let page = page("lane-sensor");
+    assert!(page.contains("`verdict fails 19`"));
+    assert!(page.contains(&format!("    {}\n", words.join(" "))));
+    let file = task_file("lane-sensor");
+    let refusal = binding::replay(&file, &order).expect_err("it is refused");
+    assert_eq!(refusal, Refusal { number: 34, place: 0 });
+    assert_eq!(refusal.on_offer(&file, &order), Some(3..=6));
+    assert!(page.contains("`refused 34 0`"));
+}
+
+/// A Pick from 0 and a sum give the same lanes in more moves, and in a longer window in too many.
+#[test]
+fn the_lane_sensor_in_three_instructions_takes_more_moves() {
+    let holds = |count| Ok(Verdict::Holds { count });
+    let undecided = Err(Refusal { number: 21, place: 0 });
+    let instructions = [&["pick 0 6 3"][..], &["pick 0 3 0", "set 1 3", "add 0 1"]];
+    let [one, three] = instructions.map(lane_sensor_with);
+    let cases = [
+        (one.clone(), "window 60", holds(239), "`verdict holds 239`"),
+        (three.clone(), "window 60", holds(395), "`verdict holds 395`"),
+        (one, "window 260", holds(585_439), "`verdict holds 585439`"),
+        (three, "window 260", undecided, "`refused 21 0`"),
+    ];
+    for (mut lines, window, verdict, says) in cases {
+        lines[0] = window.to_string();
+        assert_eq!(binding::walk(&file_of(&lines), SHEET_ALLOWANCE), verdict);
+        assert!(page("lane-sensor").contains(says), "{says}");
+    }
 }
 
 #[test]

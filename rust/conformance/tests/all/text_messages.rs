@@ -33,6 +33,10 @@ fn lines_that_are_not_in_the_grammar() {
             one space between words (60 LINE)"),
         ("load 0 0", "load 0 0\t\0", "line 3, `load 0 0\\t\\x00`: it is not `load a b` in plain \
             numbers, with one space between words (60 LINE)"),
+        ("load 0 0", "pick 0 6", "line 3, `pick 0 6`: it is not `pick a b c` in plain numbers, with \
+            one space between words (60 LINE)"),
+        ("load 0 0", "pick 0 6 3 0", "line 3, `pick 0 6 3 0`: it is not `pick a b c` in plain \
+            numbers, with one space between words (60 LINE)"),
         ("window 5", "window five", "line 0, `window five`: it is not `window W` in plain numbers, \
             with one space between words (60 LINE)"),
         ("task 2 8 0", "task 2 8", "line 2, `task 2 8`: it is not `task C P A` in plain numbers, \
@@ -60,6 +64,8 @@ fn numbers_that_are_too_large() {
     #[rustfmt::skip]
     let expected = [
         ("load 0 0", "load 256 0", "line 3, `load 256 0`: the number `256` is above 255 (61 LARGE)"),
+        ("load 0 0", "pick 0 6 256",
+            "line 3, `pick 0 6 256`: the number `256` is above 255 (61 LARGE)"),
         ("load 0 0", "set 1 300", "line 3, `set 1 300`: the number `300` is above 255 (61 LARGE)"),
         ("window 5", "window 4294967296",
             "line 0, `window 4294967296`: the number `4294967296` is above 4294967295 (61 LARGE)"),
@@ -98,6 +104,16 @@ fn rules_of_the_table() {
             from 1 to the period 8 (4 FIELD)"),
         ("load 0 0", "load 4 0", "line 3, `load 4 0` (instruction 0 of task 0): a field is out of \
             range (4 FIELD)"),
+        ("load 0 0", "pick 0 3 6", "line 3, `pick 0 3 6` (instruction 0 of task 0): c 6, the lowest \
+            value, is above b 3, the highest (4 FIELD)"),
+        ("load 0 0", "pick 0 15 255", "line 3, `pick 0 15 255` (instruction 0 of task 0): c 255, the \
+            lowest value, is above b 15, the highest (4 FIELD)"),
+        ("load 0 0", "pick 4 6 3", "line 3, `pick 4 6 3` (instruction 0 of task 0): a field is out \
+            of range (4 FIELD)"),
+        ("load 0 0", "pick 0 16 3", "line 3, `pick 0 16 3` (instruction 0 of task 0): a field is out \
+            of range (4 FIELD)"),
+        ("load 0 0", "less 0 0 16", "line 3, `less 0 0 16` (instruction 0 of task 0): a field is out \
+            of range (4 FIELD)"),
         ("set 0 1\nstore 0 0\nend\n", "", "line 8, `task 1 4 1` (task 1): the body is empty \
             (5 COUNT)"),
         ("store 0 0\nend\n", "store 0 0\n", "line 10, `store 0 0` (instruction 1 of task 1): it is \

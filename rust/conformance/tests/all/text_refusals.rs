@@ -15,7 +15,7 @@ const TASK: &str = "task 1 9 0\nend\n";
 
 /// Asserts that both conversions refuse a text with this number and place, whatever the buffer's
 /// size if the number comes before 20, and leave the buffer.
-fn assert_refused(text: impl AsRef<[u8]>, number: u8, place: usize) {
+pub(crate) fn assert_refused(text: impl AsRef<[u8]>, number: u8, place: usize) {
     let text = text.as_ref();
     let with_room: &[usize] = if number == 20 { &[] } else { &[FILE_ROOM, FILE_ROOM + 80] };
     for size in [&[0, FILE_ROOM - 1], with_room].concat() {
@@ -31,7 +31,7 @@ fn assert_refused(text: impl AsRef<[u8]>, number: u8, place: usize) {
 }
 
 /// Asserts that both conversions give this file for a text, and this text for the file.
-fn assert_converts(text: &str, file: &[u8]) {
+pub(crate) fn assert_converts(text: &str, file: &[u8]) {
     for convert in [interpreted_file, proved_file] {
         assert_eq!(convert(text.as_bytes()), file, "{text}");
     }
@@ -180,10 +180,10 @@ fn number_60_words_and_spaces() {
         "load 0 0\u{80}", "load\u{a0}0 0", "load 0 \u{b2}", "lo\u{e4}d 0 0", "load 0 0\x0b",
         "load 0 0\x0c", "load", "load ", "load 0", "load 0 ", "load 0 0 0",
         "load 0 0 0 0 0 0 0 0 0", "end 0", "end ", "less 0 0", "less 0 0 0 0", "equal 0 0",
-        "pick 0", "pick 0 1 0", "acquire", "acquire 0 0", "release", "release 0 0", "assert",
-        "assert 0 0", "set 0", "add 0", "subtract 0", "store 0", "task 1 1", "task 1 1 0 0",
-        "lock 0", "lock 0 0 0", "load 0 0 # a remark", "# a remark", "> load 0 0", "load 0,0",
-        "load 0;0",
+        "pick", "pick 0", "pick 0 1", "pick 0 1 0 0", "acquire", "acquire 0 0", "release",
+        "release 0 0", "assert", "assert 0 0", "set 0", "add 0", "subtract 0", "store 0",
+        "task 1 1", "task 1 1 0 0", "lock 0", "lock 0 0 0", "load 0 0 # a remark", "# a remark",
+        "> load 0 0", "load 0,0", "load 0;0",
     ];
     for line in wrong {
         line_refused(3, line, 60, 3);
@@ -283,7 +283,7 @@ fn number_61_of_instructions() {
         ("subtract", 2, 4),
         ("less", 3, 4),
         ("equal", 3, 4),
-        ("pick", 2, 4),
+        ("pick", 3, 4),
         ("acquire", 1, 9),
         ("release", 1, 9),
         ("assert", 1, 4),
@@ -435,8 +435,8 @@ fn number_4_at_lines() {
     for line in ["subtract 4 0", "less 4 0 0", "less 0 4 0", "less 0 0 16", "equal 0 0 16"] {
         line_refused(3, line, 4, 3);
     }
-    line_refused(11, "pick 0 16", 4, 11);
-    line_refused(11, "pick 4 0", 4, 11);
+    line_refused(11, "pick 0 16 0", 4, 11);
+    line_refused(11, "pick 4 0 0", 4, 11);
     line_refused(6, "assert 4", 4, 6);
     more_refused("lock 8 0\n", 4, 12);
     more_refused("lock 7 0\nlock 255 0\n", 4, 13);

@@ -9,7 +9,8 @@ use conformance::listing::{each_plan, orders};
 use conformance::orders::random_order;
 use conformance::plans::{drawn_plan, random_plan};
 use generator::{
-    random_long_hold, random_nest, random_nested_locks, random_race, Random, TableDescription,
+    random_lifted_picks, random_long_hold, random_nest, random_nested_locks, random_race, Random,
+    TableDescription,
 };
 use interpreter::timing::{accept, Accepted};
 use std::collections::{BTreeMap, BTreeSet};
@@ -37,7 +38,7 @@ fn convert(
 }
 
 /// A complete order's plan, which is legal, ends as the order does, and becomes the order again.
-fn order_there_and_back(file: &[u8], order: &[u8]) -> (RunAnswer, Vec<u8>) {
+pub(crate) fn order_there_and_back(file: &[u8], order: &[u8]) -> (RunAnswer, Vec<u8>) {
     let run = replay(file, order);
     let (there, plan) = convert(order_to_plan, PLAN_ROOM, file, order);
     assert_eq!(there, RunAnswer { length: plan.len() as u64, ..run });
@@ -49,7 +50,7 @@ fn order_there_and_back(file: &[u8], order: &[u8]) -> (RunAnswer, Vec<u8>) {
 }
 
 /// A legal plan's order, which is complete, ends as the plan does, and becomes the plan again.
-fn plan_there_and_back(file: &[u8], plan: &[u8]) -> (RunAnswer, Vec<u8>) {
+pub(crate) fn plan_there_and_back(file: &[u8], plan: &[u8]) -> (RunAnswer, Vec<u8>) {
     let run = check_plan(file, plan);
     let (there, order) = convert(plan_to_order, ORDER_ROOM, file, plan);
     assert_eq!(there, RunAnswer { length: order.len() as u64, ..run });
@@ -139,8 +140,10 @@ fn many_plans() {
     assert_eq!(totals.longest, PLAN_ROOM);
 }
 
-/// How many tables of each of the five families are listed whole: over 2,500 in all.
+/// How many tables of each of the five families are listed whole: over 2,500 in all. And how many
+/// with Picks above zero.
 const TABLES: u64 = 550;
+const LIFTED: u64 = 80;
 
 /// The most orders and the most round assignments of such a table.
 const MOST_ORDERS: usize = 1_000;
@@ -196,10 +199,10 @@ fn list_table(file: &[u8], table: &Accepted, listed: &mut Listed) {
 }
 
 /// Lists tables of a family whole until there are enough.
-fn list_tables(seed: u64, make: Make) -> Listed {
+fn list_tables(seed: u64, make: Make, enough: u64) -> Listed {
     let mut random = Random::new(seed);
     let mut listed = Listed::default();
-    while listed.tables < TABLES {
+    while listed.tables < enough {
         let file = make(&mut random).write_shuffled(&mut random).0;
         if let Ok(table) = accept(&file) {
             list_table(&file, &table, &mut listed);
@@ -212,7 +215,7 @@ fn list_tables(seed: u64, make: Make) -> Listed {
 /// Lists families by their seeds. Of each, at least so many tables have orders that end apart.
 fn list_families(families: &[(u64, Make, u64)]) {
     for (seed, make, endings) in families {
-        let listed = list_tables(*seed, *make);
+        let listed = list_tables(*seed, *make, TABLES);
         assert!(listed.orders >= 2_000 && listed.most_orders >= 40, "{listed:?}");
         assert!(listed.refused_43 >= 10_000 && listed.refused_44 >= 100, "{listed:?}");
         assert!(listed.several_endings >= *endings, "{listed:?}");
@@ -232,4 +235,13 @@ fn all_orders_and_plans_of_long_bodies_and_nests() {
 #[test]
 fn all_orders_and_plans_of_nested_locks() {
     list_families(&[(646, random_nested_locks, 100)]);
+}
+
+/// Document 02, E7: demand 3 stands over the values that Picks offer now.
+#[test]
+fn all_orders_and_plans_of_lifted_picks() {
+    let listed = list_tables(647, random_lifted_picks, LIFTED);
+    assert!(listed.orders >= 1_000 && listed.most_orders >= 40, "{listed:?}");
+    assert!(listed.refused_43 >= 5_000 && listed.refused_44 >= 100, "{listed:?}");
+    assert!(listed.several_endings >= 40, "{listed:?}");
 }

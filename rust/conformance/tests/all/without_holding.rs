@@ -55,20 +55,20 @@ const TABLE_ROOM_BEFORE: usize = 664;
 const MEMORY: usize = 800;
 
 /// A checksum of 64 bits (FNV-1a).
-struct Checksum(u64);
+pub(crate) struct Checksum(pub(crate) u64);
 
 impl Checksum {
-    fn new() -> Checksum {
+    pub(crate) fn new() -> Checksum {
         Checksum(0xcbf2_9ce4_8422_2325)
     }
 
-    fn add(&mut self, bytes: &[u8]) {
+    pub(crate) fn add(&mut self, bytes: &[u8]) {
         for byte in bytes {
             self.0 = (self.0 ^ u64::from(*byte)).wrapping_mul(0x0100_0000_01b3);
         }
     }
 
-    fn add_words<const LONG: usize>(&mut self, words: impl Into<[u64; LONG]>) {
+    pub(crate) fn add_words<const LONG: usize>(&mut self, words: impl Into<[u64; LONG]>) {
         words.into().iter().for_each(|word| self.add(&word.to_le_bytes()));
     }
 }

@@ -388,6 +388,34 @@ static void table_with_lock(void) {
     expect("holding time past the locks", back.holdings[1], 0);
 }
 
+/* Table X with a Pick of 3 to 6 for the Set of task 1: the highest value is in b, the lowest in c. */
+static void table_with_pick(void) {
+    static const adqurim_instruction pick = {8, 0, 6, 3}, none = {8, 0, 3, 6};
+    adqurim_task_table table;
+    adqurim_write_answer answer;
+    adqurim_run run;
+    uint8_t file[ADQURIM_FILE_ROOM], order[sizeof order_of_x];
+    adqurim_read_table(table_x, sizeof table_x, &table, &answer);
+    table.entries[1].body[0] = pick;
+    uint64_t number = adqurim_write_file(&table, file, sizeof file, &answer);
+    expect("write with a Pick", number, ADQURIM_ACCEPTED);
+    expect("the Pick's highest value", file[8 * 16 + 4], 6);
+    expect("the Pick's lowest value", file[8 * 16 + 5], 3);
+    memcpy(order, order_of_x, sizeof order);
+    for (uint8_t value = 0; value < 16; value++) {
+        bool on_offer = value >= 3 && value <= 6;
+        order[1] = 16 + value;
+        number = adqurim_replay_order(file, answer.length, order, sizeof order, &run);
+        expect("replay of a Pick", number, on_offer ? ADQURIM_ACCEPTED : ADQURIM_OFFER);
+        expect("place of a value", run.place, on_offer ? 0 : 1);
+        expect("variable 0 after the Pick", run.store[0], on_offer ? value : 0);
+    }
+    table.entries[1].body[0] = none;
+    number = adqurim_write_file(&table, file, sizeof file, &answer);
+    expect("a lowest value above the highest", number, ADQURIM_FIELD);
+    expect("place of the Pick", answer.place, 8);
+}
+
 /* The places are the indexes that the records would have had; a refusal changes no byte. */
 static void tables_refused(void) {
     adqurim_task_table table, kept;
@@ -540,6 +568,7 @@ int main(void) {
     jobs_refused();
     table_of_x();
     table_with_lock();
+    table_with_pick();
     tables_refused();
     table_words();
     text_of_table_x();

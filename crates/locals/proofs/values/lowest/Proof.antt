@@ -1,13 +1,14 @@
--- `locals::values::lowest` meets its contract.
+-- `locals::values::lowest` meets its contract: it asks what the definition asks.
 -- Assumes nothing.
-use mathlib.Core.Path.{refl}
-use Rattle.taskfile.specs.Code.Choices.{lowest}
+use Rattle.taskfile.specs.Laws.ChoiceLaws.{pick-lowest, other-lowest}
 use Rattle.locals.proofs.values.lowest.Statement.{statement}
 use Rattle.locals.proofs.values.lowest.Tie as tie
 
 returns : tie.Need-returns
-unfolding lowest
-returns c = refl
+returns c = pick-lowest _ (c .if1 .taken)
+
+returns-2 : tie.Need-returns-2
+returns-2 c = other-lowest _ (c .if1 .left)
 
 pub lowest-spec : {M : Type 1} → statement M
-lowest-spec = tie.close (tie.spec returns)
+lowest-spec = tie.close (tie.spec returns returns-2)
