@@ -6,6 +6,7 @@ use mathlib.Core.List.{List, [], _∷_}
 use lib.ListN.{getD, set, replicate}
 use lib.Dec.{ltb, eqb}
 use Rattle.taskfile.specs.declared.Instruction.{Instruction}
+use Rattle.taskfile.specs.Records.{isPick}
 use Rattle.notation.specs.Lists.{if_then_else_, fromTo}
 use Rattle.machine.specs.declared.Effect.{Effect}
 use Rattle.machine.specs.declared.Local.{Local}
@@ -22,7 +23,7 @@ fresh = record { next = 0; registers = replicate 4 0; held = noLocks }
 -- The values on offer: "8 Pick, a takes any value 0 to b", and document 02, E7: "Field c of Pick becomes the lowest
 -- value, c ≤ b ≤ 15, so the choice runs c to b"; "the value being the Pick's choice, else 0".
 unfoldable pub values : Instruction → List ℕ
-values i = if eqb (i .operation) 8 then fromTo (i .c) (i .b) else 0 ∷ []
+values i = if isPick i then fromTo (i .c) (i .b) else 0 ∷ []
 
 unfoldable pub register : Local → ℕ → ℕ
 register l r = getD (l .registers) r 0

@@ -113,9 +113,13 @@ fieldsInRange i =
     ltb (i .operation) (length operationUses)
     && fieldInRange (u .a) (i .a) && fieldInRange (u .b) (i .b) && fieldInRange (u .c) (i .c)
 
+-- is it a Pick?
+abbrev pub isPick : Instruction → Bool
+isPick i = eqb (i .operation) 8
+
 -- a Pick's lowest value is not above its highest: "c ≤ b"
 unfoldable pub choiceInRange : Instruction → Bool
-choiceInRange i = if eqb (i .operation) 8 then leb (i .c) (i .b) else true
+choiceInRange i = if isPick i then leb (i .c) (i .b) else true
 
 unfoldable pub instructionInRange : Instruction → Bool
 instructionInRange i = fieldsInRange i && choiceInRange i

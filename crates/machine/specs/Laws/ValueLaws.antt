@@ -6,10 +6,11 @@ use Prim.Native.Nat.{ℕ, suc, _+_, _-_, _≤_, _<_}
 use native.Mathlib.Omega.{arith}
 use mathlib.Core.Bool.{true, false, _&&_}
 use mathlib.Core.List.{[], _∷_}
-use lib.Dec.{leb, eqb}
+use lib.Dec.{leb}
 use borrow.Author.Tests.{le-leb, lt-leb, leb-true}
 use Rattle.taskfile.specs.declared.Instruction.{Instruction}
 use Rattle.taskfile.specs.Code.Choices.{lowest, highest, Chooses}
+use Rattle.taskfile.specs.Records.{isPick}
 use Rattle.notation.specs.Lists.{if_then_else_, from, upTo, fromTo, member}
 use Rattle.notation.specs.Ordered.{Every, Ordered}
 use Rattle.machine.specs.Instructions.{values}
@@ -20,11 +21,11 @@ use Rattle.notation.specs.Laws.PairLaws.{every-imp, from-within, from-rises}
 -- they run from the lowest to the highest
 values-between : (i : Instruction) → values i ≡ fromTo (lowest i) (highest i)
 unfolding values lowest highest if_then_else_ fromTo from
-values-between i = elim (test-decided (eqb (i .operation) 8)) [ inl e ↦ rw e refl | inr e ↦ rw e refl ]
+values-between i = elim (test-decided (isPick i)) [ inl e ↦ rw e refl | inr e ↦ rw e refl ]
 
 -- where c is zero, as in every file before document 02's E7, they are those of document 01: 0 to b of a Pick, else 0
 pub values-unlifted : (i : Instruction) → i .c ≡ 0
-    → values i ≡ (if eqb (i .operation) 8 then upTo (suc (i .b)) else 0 ∷ [])
+    → values i ≡ (if isPick i then upTo (suc (i .b)) else 0 ∷ [])
 unfolding values fromTo upTo
 values-unlifted i zero =
     let whole : suc (i .b) - 0 ≡ suc (i .b) = omega arith in

@@ -2,17 +2,17 @@
 -- said by `values` of crate `machine`.
 -- Assumes nothing.
 use Prim.Native.Nat.{ℕ, _≤_}
-use lib.Dec.{eqb}
 use Rattle.notation.specs.Lists.{if_then_else_}
 use Rattle.taskfile.specs.declared.Instruction.{Instruction}
+use Rattle.taskfile.specs.Records.{isPick}
 
 -- c of a Pick, and 0 of any other
 unfoldable pub lowest : Instruction → ℕ
-lowest i = if eqb (i .operation) 8 then i .c else 0
+lowest i = if isPick i then i .c else 0
 
 -- b of a Pick, and 0 of any other
 unfoldable pub highest : Instruction → ℕ
-highest i = if eqb (i .operation) 8 then i .b else 0
+highest i = if isPick i then i .b else 0
 
 -- some value is on offer, and none above 15
 pub record Chooses (i : Instruction) : Type 0 where

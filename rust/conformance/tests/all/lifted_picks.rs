@@ -220,9 +220,10 @@ fn fails(count: u64, order: &[u8], job: usize) -> WalkAnswer {
     answer
 }
 
-/// A Pick and an End are two moves for each value, after a move before them or none. Of two jobs that pick, with n values below and m
-/// above: the lower starts with each of n and goes on with its End or a start of the upper, which is
-/// n × (1 + 1 + 2 m + 3 m) moves, or the upper starts and both end, which is m × (1 + 1 + 2 n).
+/// A Pick and an End are two moves for each value, after a move before them or none. Of two jobs that
+/// pick, with n values below and m above: the lower starts with each of n and goes on with its End or
+/// a start of the upper, which is n × (1 + 1 + 2 m + 3 m) moves, or the upper starts and both end,
+/// which is m × (1 + 1 + 2 n).
 #[test]
 fn a_walk_tries_each_value_on_offer() {
     for (lowest, highest) in picks() {
