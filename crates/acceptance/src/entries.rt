@@ -17,6 +17,7 @@ ghost use mathlib.Core.Path.{_≡_};
 ghost use Rattle.timing.specs.Accepted.{accept};
 ghost use Rattle.timing.specs.Code.AcceptParts.{AcceptedAs};
 ghost use Rattle.timing.specs.ReadEntries.{readAnswer};
+ghost use Rattle.acceptance.specs.Laws.ReadLaws.{refusedRead};
 
 // The answer of a file that is refused: no response time and no job.
 pub fn refused_file(number: u8, place: u8, table: Table) -> AcceptAnswer
@@ -57,25 +58,43 @@ pub fn accept_file(file: &[u8]) -> AcceptAnswer
     }
 }
 
-// The reader's entry: number and place, the response times and the number of jobs.
+// The reader's answer to a file that is refused: number and place, and every other field zero.
+pub fn refused_read(number: u8, place: u8) -> ReadAnswer
+    ensures { λ x. ⌜ x ≡ refusedRead number place ⌝ }
+{
+    ReadAnswer {
+        number: number,
+        place: place as u32,
+        responses: [0; TASKS],
+        jobs: 0,
+    }
+}
+
+// The reader's entry: number and place, the response times and the number of jobs. It lists no job.
 pub fn read(file: &[u8]) -> ReadAnswer
     ensures { λ x. ⌜ x ≡ readAnswer (now (file .entry)) ⌝ }
 {
-    let accepted = accept_file(file);
-    let check = accepted.check;
+    let loaded = load_file(file);
+    let check = loaded.check;
+    let table = loaded.table;
     if let Check::Refused(number, place) = check {
-        return ReadAnswer {
-            number: number,
-            place: place as u32,
-            responses: [0; TASKS],
-            jobs: 0,
-        };
+        return refused_read(number, place);
     }
-    let responses = accepted.responses;
+    let found = responses_of(table);
+    let timed = found.check;
+    let times = found.times;
+    if let Judged::Faulty(number, site) = timed {
+        return refused_read(number, record_at(file, site));
+    }
+    let total = job_total(table);
+    if MOST_TOTAL < total {
+        return refused_read(numbers::JOBS, 0);
+    }
+    let jobs = total as u8;
     ReadAnswer {
         number: 0,
         place: 0,
-        responses: responses,
-        jobs: accepted.list.count,
+        responses: times,
+        jobs: jobs,
     }
 }

@@ -61,7 +61,8 @@ jobs-of-task : (t : Table) (Rs : List ℕ) (i : Task) → length (jobsOfTask t R
 unfolding jobsOfTask
 jobs-of-task t Rs i = map-length _ (upTo (jobsWithin (t .window) (taskOf t i))) ∙ upTo-length (jobsWithin (t .window) (taskOf t i))
 
-jobs-counted : (t : Table) (Rs : List ℕ) → length (jobsOf t Rs) ≡ jobCount t
+-- the list has as many jobs as are counted
+pub jobs-counted : (t : Table) (Rs : List ℕ) → length (jobsOf t Rs) ≡ jobCount t
 unfolding jobsOf jobCount taskNumbers taskOf
 jobs-counted t Rs =
     each-length (jobsOfTask t Rs) (taskNumbers t)
