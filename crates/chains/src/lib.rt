@@ -4,7 +4,6 @@
 // hand; every index that is followed is read by a reader at the record that holds it.
 use links::follow_index;
 use records::byte_at;
-use taskfile::Chained;
 use taskfile::Check;
 use taskfile::Kind;
 use taskfile::limits::MOST_INSTRUCTIONS;
@@ -13,8 +12,7 @@ use taskfile::numbers;
 use taskfile::offsets;
 ghost use mathlib.Core.Path.{_≡_};
 ghost use mathlib.Core.List.{List};
-ghost use Prim.Native.Nat.{ℕ, _≤_};
-ghost use lib.ListN.{length};
+ghost use Prim.Native.Nat.{ℕ};
 ghost use Rattle.taskfile.specs.Chains.{chain, bodyChain, taskChains, recordsOf};
 ghost use Rattle.taskfile.specs.Code.Reading.{marks, ChainedAs};
 ghost use Rattle.taskfile.specs.Records.{byteAt};
@@ -46,76 +44,47 @@ pub fn index_at(file: &[u8], index: u8, k: u8) -> u8
     held_index(reader_at(file, index), k)
 }
 
-// A chain that passed: how many records it has, and the marks with its records among them.
-pub fn passed_chain(count: u8, seen: [bool; RECORDS]) -> Chained
-    ensures { λ x. ⌜ x ≡ record { check = Check.Passed; count = count; seen = seen } ⌝ }
-{
-    Chained {
-        check: Check::Passed,
-        count: count,
-        seen: seen,
-    }
-}
-
-// A chain that is refused. It has no record, and the marks are those that it began with.
-pub fn refused_chain(check: Check, seen: [bool; RECORDS]) -> Chained
-    ensures { λ x. ⌜ (x .check ≡ check) × (x .count ≡ 0) ⌝ }
-{
-    Chained {
-        check: check,
-        count: 0,
-        seen: seen,
-    }
-}
-
-// Reads a chain of records of one kind from an index that `holder` holds. It calls itself on the next index, and
-// the records still allowed fall.
+// Reads a chain of records of one kind from an index that `holder` holds, and marks its records. It calls itself on
+// the next index, and the records still allowed fall. What a refusal leaves of the marks is not said.
 pub fn read_chain(
     file: &[u8],
     kind: Kind,
     allowed: u8,
-    seen: [bool; RECORDS],
+    seen: &mut [bool; RECORDS],
     holder: u8,
     index: u8,
-) -> Chained
-    ensures few { λ x. ⌜ x .count ≤ allowed ⌝ }
-    ensures chained { λ x. ⌜ ((reached : List ℕ) → seen ≡ marks reached
-        → ChainedAs (λ l. l) length x reached (chain kind allowed (now (file .entry)) reached holder index)) ⌝ }
+) -> Check
+    ensures { λ x. ⌜ ((reached : List ℕ) → now (seen .entry) ≡ marks reached
+        → ChainedAs (λ l. l) x (now (seen .exit)) reached
+        (chain kind allowed (now (file .entry)) reached holder index)) ⌝ }
 {
     if index == 0 {
-        return passed_chain(0, seen);
+        return Check::Passed;
     }
     let at = index as usize;
     let step = follow_index(file, kind, allowed, seen[at], holder, index);
     let Check::Passed = step else {
-        return refused_chain(step, seen);
+        return step;
     };
-    let mut marked = seen;
-    marked[at] = true;
-    let rest = read_chain(
+    seen[at] = true;
+    read_chain(
         file,
         kind,
         allowed - 1,
-        marked,
+        seen,
         index,
         index_at(file, index, offsets::NEXT),
-    );
-    let end = rest.check;
-    let after = rest.seen;
-    let Check::Passed = end else {
-        return refused_chain(end, seen);
-    };
-    passed_chain(rest.count + 1, after)
+    )
 }
 
 // The body of the task whose record is `holder`.
-pub fn read_body(file: &[u8], seen: [bool; RECORDS], holder: u8) -> Chained
-    ensures { λ x. ⌜ ((reached : List ℕ) → seen ≡ marks reached
-        → ChainedAs (λ l. l) length x reached (bodyChain (now (file .entry)) reached holder)) ⌝ }
+pub fn read_body(file: &[u8], seen: &mut [bool; RECORDS], holder: u8) -> Check
+    ensures { λ x. ⌜ ((reached : List ℕ) → now (seen .entry) ≡ marks reached
+        → ChainedAs (λ l. l) x (now (seen .exit)) reached (bodyChain (now (file .entry)) reached holder)) ⌝ }
 {
     let first = index_at(file, holder, offsets::FIRST_INSTRUCTION);
     if first == 0 {
-        return refused_chain(Check::Refused(numbers::COUNT, holder), seen);
+        return Check::Refused(numbers::COUNT, holder);
     }
     read_chain(
         file,
@@ -127,39 +96,36 @@ pub fn read_body(file: &[u8], seen: [bool; RECORDS], holder: u8) -> Chained
     )
 }
 
-// Reads the tasks' chain, each task followed by its body.
-pub fn read_tasks(file: &[u8], allowed: u8, seen: [bool; RECORDS], holder: u8, index: u8) -> Chained
-    ensures few { λ x. ⌜ x .count ≤ allowed ⌝ }
-    ensures chained { λ x. ⌜ ((reached : List ℕ) → seen ≡ marks reached
-        → ChainedAs recordsOf length x reached (taskChains allowed (now (file .entry)) reached holder index)) ⌝ }
+// Reads the tasks' chain, each task followed by its body, and marks their records.
+pub fn read_tasks(
+    file: &[u8],
+    allowed: u8,
+    seen: &mut [bool; RECORDS],
+    holder: u8,
+    index: u8,
+) -> Check
+    ensures { λ x. ⌜ ((reached : List ℕ) → now (seen .entry) ≡ marks reached
+        → ChainedAs recordsOf x (now (seen .exit)) reached
+        (taskChains allowed (now (file .entry)) reached holder index)) ⌝ }
 {
     if index == 0 {
-        return passed_chain(0, seen);
+        return Check::Passed;
     }
     let at = index as usize;
     let step = follow_index(file, Kind::TaskRecord, allowed, seen[at], holder, index);
     let Check::Passed = step else {
-        return refused_chain(step, seen);
+        return step;
     };
-    let mut marked = seen;
-    marked[at] = true;
-    let body = read_body(file, marked, index);
-    let whole = body.check;
-    let within = body.seen;
-    let Check::Passed = whole else {
-        return refused_chain(whole, seen);
+    seen[at] = true;
+    let body = read_body(file, seen, index);
+    let Check::Passed = body else {
+        return body;
     };
-    let rest = read_tasks(
+    read_tasks(
         file,
         allowed - 1,
-        within,
+        seen,
         index,
         index_at(file, index, offsets::NEXT),
-    );
-    let end = rest.check;
-    let after = rest.seen;
-    let Check::Passed = end else {
-        return refused_chain(end, seen);
-    };
-    passed_chain(rest.count + 1, after)
+    )
 }

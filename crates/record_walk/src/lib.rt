@@ -24,9 +24,9 @@ ghost use Rattle.taskfile.specs.Code.Reading.{checkOf, marks};
 ghost use Rattle.taskfile.specs.Records.{records};
 
 // 6: the lowest record that was never reached.
-pub fn no_stray(file: &[u8], seen: [bool; RECORDS]) -> Check
+pub fn no_stray(file: &[u8], seen: &[bool; RECORDS]) -> Check
     requires { ⌜ length (now file) ≤ 4096 ⌝ }
-    ensures { λ x. ⌜ ((reached : List ℕ) → seen ≡ marks reached
+    ensures { λ x. ⌜ ((reached : List ℕ) → now (seen .entry) ≡ marks reached
         → x ≡ checkOf (noneOf 6 (λ r. not (member r reached)) (upTo (records (now (file .entry)))))) ⌝ }
 {
     let mut r = 0;
@@ -54,24 +54,20 @@ pub fn read_chains(file: &[u8]) -> Check
     }
     let mut seen = [false; RECORDS];
     seen[0] = true;
-    let tasks = read_tasks(file, MOST_TASKS, seen, 0, first);
-    let tasked = tasks.check;
-    let within = tasks.seen;
-    let Check::Passed = tasked else {
-        return tasked;
+    let tasks = read_tasks(file, MOST_TASKS, &mut seen, 0, first);
+    let Check::Passed = tasks else {
+        return tasks;
     };
     let locks = read_chain(
         file,
         Kind::LockRecord,
         MOST_LOCKS,
-        within,
+        &mut seen,
         0,
         index_at(file, 0, offsets::FIRST_LOCK),
     );
-    let locked = locks.check;
-    let after = locks.seen;
-    let Check::Passed = locked else {
-        return locked;
+    let Check::Passed = locks else {
+        return locks;
     };
-    no_stray(file, after)
+    no_stray(file, &seen)
 }

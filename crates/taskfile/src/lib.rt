@@ -7,7 +7,6 @@ pub mod operations;
 
 use crate::limits::INSTRUCTIONS;
 use crate::limits::LOCKS;
-use crate::limits::RECORDS;
 use crate::limits::TASKS;
 use crate::limits::VARIABLES;
 
@@ -72,14 +71,6 @@ pub enum Site {
 pub enum Judged {
     Sound,
     Faulty(u8, Site),
-}
-
-// What reading a chain comes to: its check and, if it passed, how many records it has and a mark for each record
-// of the file that was reached by then.
-pub struct Chained {
-    pub check: Check,
-    pub count: u8,
-    pub seen: [bool; RECORDS],
 }
 
 // The records of a chain by following indices, how many there are, and the array that holds them.

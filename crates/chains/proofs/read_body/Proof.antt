@@ -8,19 +8,15 @@ use Rattle.chains.proofs.read_body.Tie as tie
 index-at-requires : tie.Need-index-at-requires
 index-at-requires c κs = search needs
 
-refused-chain-requires : tie.Need-refused-chain-requires
-refused-chain-requires c κs = search needs
-
 returns : tie.Need-returns
-returns c reached marked =
-    body-empty _ _ _ (c .before .before .index-at .ensures) _ reached (c .before .if1 .taken) (c .refused-chain .ensures .0)
+returns c reached marked = body-empty _ _ _ (c .before .index-at .ensures) _ reached (c .if1 .taken)
 
 read-chain-requires : tie.Need-read-chain-requires
 read-chain-requires c κs = search needs
 
 returns-2 : tie.Need-returns-2
 returns-2 c reached marked =
-    body-follows _ _ _ (c .before .before .index-at .ensures) _ reached (c .before .if1 .left) (c .read-chain .ensures .1 reached marked)
+    body-follows _ _ _ (c .before .before .before .index-at .ensures) _ reached (c .before .before .if1 .left) _ (c .read-chain .ensures reached marked)
 
 pub read-body-spec : {M : Type 1} → statement M
-read-body-spec = tie.close (tie.spec index-at-requires refused-chain-requires returns read-chain-requires returns-2)
+read-body-spec = tie.close (tie.spec index-at-requires returns read-chain-requires returns-2)

@@ -23,16 +23,16 @@ abbrev μ-loop : tie.MeasureT-loop
 loop-holds : tie.Need-loop-holds Inv-loop μ-loop
 loop-holds c = (omega arith, λ k h. absurd (omega arith))
 
-array-read-if1 : tie.Need-array-read-if1 Inv-loop μ-loop
-array-read-if1 c = omega arith
+element-copy-out-if1 : tie.Need-element-copy-out-if1 Inv-loop μ-loop
+element-copy-out-if1 c = omega arith
 
-cast-t11 : tie.Need-cast-t11 Inv-loop μ-loop
-cast-t11 c = omega arith
+cast-t10 : tie.Need-cast-t10 Inv-loop μ-loop
+cast-t10 c = omega arith
 
 returns : tie.Need-returns Inv-loop μ-loop
 unfolding checkOf records
 returns c reached marked =
-    check-comes (record-stray _ reached marked _ (omega arith) _ (omega arith) (c .before .before .loop .inv .1) (not-true _ (c .if1 .taken)))
+    check-comes (record-stray _ reached marked _ (omega arith) _ (omega arith) (c .before .before .before .loop .inv .1) (not-true _ (c .if1 .taken)))
 
 add-r : tie.Need-add-r Inv-loop μ-loop
 add-r c = omega arith
@@ -41,7 +41,7 @@ loop-less : tie.Need-loop-less Inv-loop μ-loop
 loop-less c = omega arith
 
 loop-again : tie.Need-loop-again Inv-loop μ-loop
-loop-again c = (omega arith, below-more _ _ (c .before .before .loop .inv .1) (not-false _ (c .if1 .left)))
+loop-again c = (omega arith, below-more _ _ (c .before .before .before .loop .inv .1) (not-false _ (c .if1 .left)))
 
 returns-2 : tie.Need-returns-2 Inv-loop μ-loop
 unfolding checkOf records
@@ -55,8 +55,8 @@ no-stray-spec =
     Inv-loop
     μ-loop
     loop-holds
-    array-read-if1
-    cast-t11
+    element-copy-out-if1
+    cast-t10
     returns
     add-r
     loop-less

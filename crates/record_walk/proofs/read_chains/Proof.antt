@@ -40,11 +40,12 @@ enum-told-4 c = search needs
 
 returns-3 : tie.Need-returns-3
 returns-3 c =
-    let tasks = c .before .before .before in
-    let first = tasks .before .before in
+    let tasks = c .before .before in
+    let some = tasks .before .before in
+    let first = some .before in
     let passes = first .before in
     tasks-fail _ _ (passes .before .before .record-of .ensures) (passes .enum-told .given .1) _ (first .index-at .ensures)
-    (tasks .before .if1 .left) _ (tasks .read-tasks .ensures .1) (c .enum-told4 .given .1)
+    (some .if1 .left) _ _ (tasks .read-tasks .ensures) (c .enum-told4 .given .1)
 
 index-at-requires-2 : tie.Need-index-at-requires-2
 index-at-requires-2 c κs = search needs
@@ -60,28 +61,31 @@ enum-told-6 c = search needs
 
 returns-4 : tie.Need-returns-4
 returns-4 c =
-    let locks = c .before .before .before in
-    let tasked = locks .before .before in
-    let tasks = tasked .before .before .before in
-    let first = tasks .before .before in
+    let locks = c .before .before in
+    let tasked = locks .before .before .before in
+    let tasks = tasked .before .before in
+    let some = tasks .before .before in
+    let first = some .before in
     let passes = first .before in
     locks-fail _ _ (passes .before .before .record-of .ensures) (passes .enum-told .given .1) _ (first .index-at .ensures)
-    (tasks .before .if1 .left) _ (tasks .read-tasks .ensures .1) (tasked .enum-told3 .given .1) _ (locks .before .index-at2 .ensures) _
-    (locks .read-chain .ensures .1) (c .enum-told6 .given .1)
+    (some .if1 .left) _ _ (tasks .read-tasks .ensures) (tasked .enum-told3 .given .1) _ (locks .before .index-at2 .ensures) _ _
+    (locks .read-chain .ensures) (c .enum-told6 .given .1)
 
 no-stray-requires : tie.Need-no-stray-requires
 no-stray-requires c κs = search needs
 
 returns-5 : tie.Need-returns-5
 returns-5 c =
-    let locks = c .before .before .before .before in
-    let tasked = locks .before .before in
-    let tasks = tasked .before .before .before in
-    let first = tasks .before .before in
+    let locked = c .before .before in
+    let locks = locked .before .before in
+    let tasked = locks .before .before .before in
+    let tasks = tasked .before .before in
+    let some = tasks .before .before in
+    let first = some .before in
     let passes = first .before in
     chains-read _ _ (passes .before .before .record-of .ensures) (passes .enum-told .given .1) _ (first .index-at .ensures)
-    (tasks .before .if1 .left) _ (tasks .read-tasks .ensures .1) (tasked .enum-told3 .given .1) _ (locks .before .index-at2 .ensures) _
-    (locks .read-chain .ensures .1) (c .before .enum-told5 .given .1) _ (c .no-stray .ensures)
+    (some .if1 .left) _ _ (tasks .read-tasks .ensures) (tasked .enum-told3 .given .1) _ (locks .before .index-at2 .ensures) _ _
+    (locks .read-chain .ensures) (locked .enum-told5 .given .1) _ (c .no-stray .ensures)
 
 pub read-chains-spec : {M : Type 1} → statement M
 read-chains-spec =

@@ -5,8 +5,6 @@ use mathlib.Core.Path.{_≡_}
 use Prim.Native.Nat.{ℕ, zero, suc}
 use mathlib.Core.Bool.{Bool}
 use mathlib.Core.List.{List, [], _∷_, _++_, map}
-use lib.ListN.{length}
-use Rattle.taskfile.specs.declared.Chained.{Chained}
 use Rattle.taskfile.specs.declared.Check.{Check}
 use Rattle.taskfile.specs.declared.Check.the-variants.{Passed, Refused}
 use Rattle.taskfile.specs.declared.Judged.{Judged}
@@ -32,11 +30,10 @@ judgedOf (passed value) = Sound
 unfoldable pub marks : List ℕ → List Bool
 marks reached = map (λ r. member r reached) (upTo 256)
 
--- a chain that was read: how many records it has, and the marks with its records (`all` of them) added; or its refusal
-abbrev pub ChainedAs : {A : Type 0} → (A → List ℕ) → (A → ℕ) → Chained → List ℕ → Checked ℕ A → Type 0
-ChainedAs all count x reached (refused number place) = x .check ≡ Refused number place
-ChainedAs all count x reached (passed a) =
-    (x .check ≡ Passed) × (x .count ≡ count a) × (x .seen ≡ marks (all a ++ reached))
+-- a chain that was read: its check and, if it passed, the marks with its records (`all` of them) added
+abbrev pub ChainedAs : {A : Type 0} → (A → List ℕ) → Check → List Bool → List ℕ → Checked ℕ A → Type 0
+ChainedAs all check seen reached (refused number place) = check ≡ Refused number place
+ChainedAs all check seen reached (passed a) = (check ≡ Passed) × (seen ≡ marks (all a ++ reached))
 
 -- the records of a chain by following indices, at most n
 unfoldable pub linked : File → ℕ → ℕ → List ℕ

@@ -9,7 +9,6 @@ use mathlib.Core.List.{List, [], _∷_, _++_}
 use lib.ListN.{length, getD, set, replicate}
 use lib.Dec.{eqb, lit<}
 use borrow.Author.Tests.{eq-eqb, ne-eqb}
-use Rattle.taskfile.specs.declared.Chained.{Chained}
 use Rattle.taskfile.specs.declared.Check.{Check}
 use Rattle.taskfile.specs.declared.Check.the-variants.{Passed, Refused}
 use Rattle.taskfile.specs.declared.Kind.{Kind}
@@ -25,24 +24,32 @@ use Rattle.taskfile.specs.Code.Reading.{checkOf, marks, ChainedAs}
 use Rattle.taskfile.specs.Records.{File, records, byteAt, next}
 
 -- A chain that was read: what its check says of the definition's chain, and the other way round.
-module _ {A : Type 0} (all : A → List ℕ) (count : A → ℕ) (x : Chained) (reached : List ℕ) where
-  chained-refused : (c : Checked ℕ A) {number place : ℕ} → c ≡ refused number place → x .check ≡ Refused number place
-      → ChainedAs all count x reached c
+module _ {A : Type 0} (all : A → List ℕ) (check : Check) (seen : List Bool) (reached : List ℕ) where
+  chained-refused : (c : Checked ℕ A) {number place : ℕ} → c ≡ refused number place → check ≡ Refused number place
+      → ChainedAs all check seen reached c
   chained-refused c e h = rw e h
 
-  chained-passed : (c : Checked ℕ A) {a : A} → c ≡ passed a → x .check ≡ Passed → x .count ≡ count a
-      → x .seen ≡ marks (all a ++ reached) → ChainedAs all count x reached c
-  chained-passed c e h k m = rw e (h, k, m)
+  chained-passed : (c : Checked ℕ A) {a : A} → c ≡ passed a → check ≡ Passed → seen ≡ marks (all a ++ reached)
+      → ChainedAs all check seen reached c
+  chained-passed c e h m = rw e (h, m)
 
-  refused-chained : (c : Checked ℕ A) {number place : ℕ} → ChainedAs all count x reached c
-      → x .check ≡ Refused number place → c ≡ refused number place
+  refused-chained : (c : Checked ℕ A) {number place : ℕ} → ChainedAs all check seen reached c
+      → check ≡ Refused number place → c ≡ refused number place
   refused-chained (refused n p) h e = cc
   refused-chained (passed a) h e = absurd (let z : _≡_ {A = ℕ} 0 1 = cc in omega arith)
 
-  passed-chained : (c : Checked ℕ A) → ChainedAs all count x reached c → x .check ≡ Passed
-      → (a : A) × (c ≡ passed a) × (x .count ≡ count a) × (x .seen ≡ marks (all a ++ reached))
+  passed-chained : (c : Checked ℕ A) → ChainedAs all check seen reached c → check ≡ Passed
+      → (a : A) × (c ≡ passed a) × (seen ≡ marks (all a ++ reached))
   passed-chained (refused n p) h e = absurd (let z : _≡_ {A = ℕ} 0 1 = cc in omega arith)
-  passed-chained (passed a) h e = (a, refl, h .1, h .2)
+  passed-chained (passed a) h e = (a, refl, h .1)
+
+  -- the records of what comes first are added to a chain that was read after them
+  chained-on : {B : Type 0} (whole : B → List ℕ) (before : List ℕ) (k : A → B)
+      → ((a : A) → marks (all a ++ reached) ≡ marks (whole (k a) ++ before)) → (c : Checked ℕ A)
+      → ChainedAs all check seen reached c → ChainedAs whole check seen before (_>>=_ c (λ a. passed (k a)))
+  unfolding _>>=_
+  chained-on whole before k same (refused n p) h = h
+  chained-on whole before k same (passed a) h = (h .0, h .1 ∙ same a)
 
 -- a step that passed was allowed
 pub step-allowed : (kind : Kind) (allowed : ℕ) (f : File) (again : Bool) (holder index : ℕ) (step : Check)
@@ -65,90 +72,82 @@ module _ (kind : Kind) (allowed : ℕ) (f : File) (seen : List Bool) (holder ind
   step-passed e = checkOf-passed _ (sym step-marked ∙ e) .1
 
 -- Reading a chain of records of one kind.
-abbrev ChainRead : Chained → Kind → ℕ → File → List ℕ → ℕ → ℕ → Type 0
-ChainRead x kind allowed f reached holder index =
-    ChainedAs (λ l. l) length x reached (chain kind allowed f reached holder index)
+abbrev ChainRead : Check → List Bool → Kind → ℕ → File → List ℕ → ℕ → ℕ → Type 0
+ChainRead x after kind allowed f reached holder index =
+    ChainedAs (λ l. l) x after reached (chain kind allowed f reached holder index)
 
 module _ (kind : Kind) (allowed : ℕ) (f : File) (seen : List Bool) (holder index : ℕ) where
   pub chain-empty : index ≡ 0 → (reached : List ℕ) → seen ≡ marks reached
-      → ChainRead (record { check = Passed; count = 0; seen = seen }) kind allowed f reached holder index
+      → ChainRead Passed seen kind allowed f reached holder index
   chain-empty e reached marked =
       chained-passed _ _ _ reached _ (ap (λ i. chain kind allowed f reached holder i) e ∙ chain-ends kind f reached holder allowed)
-      refl refl marked
+      refl marked
 
   module _ (some : index ≡ 0 → ⊥) (byte : index < 256) (step : Check)
       (followed : step ≡ checkOf (follow kind allowed f (getD seen index false) holder index)) where
-    pub chain-stops : {number place : ℕ} → step ≡ Refused number place → (x : Chained) → x .check ≡ step
-        → (reached : List ℕ) → seen ≡ marks reached → ChainRead x kind allowed f reached holder index
-    chain-stops e x same reached marked =
-        chained-refused _ _ x reached _
+    pub chain-stops : {number place : ℕ} → step ≡ Refused number place → (after : List Bool)
+        → (reached : List ℕ) → seen ≡ marks reached → ChainRead step after kind allowed f reached holder index
+    chain-stops e after reached marked =
+        chained-refused _ _ after reached _
         (chain-refused kind f reached holder allowed index some
-        (step-refused kind allowed f seen holder index step followed byte reached marked e)) (same ∙ e)
+        (step-refused kind allowed f seen holder index step followed byte reached marked e)) e
 
-    module _ (passes : step ≡ Passed) (after : ℕ) (next-is : after ≡ byteAt f index 1) (rest : Chained)
-        (read : (reached : List ℕ) → set seen index true ≡ marks reached → ChainRead rest kind (allowed - 1) f reached index after) where
-      chain-on : (reached : List ℕ) → seen ≡ marks reached → chain kind allowed f reached holder index
-          ≡ _>>=_ (chain kind (allowed - 1) f (index ∷ reached) index after) (λ others. passed (index ∷ others))
+    module _ (passes : step ≡ Passed) (next-index : ℕ) (next-is : next-index ≡ byteAt f index 1) (x : Check) (after : List Bool)
+        (read : (reached : List ℕ) → set seen index true ≡ marks reached
+        → ChainRead x after kind (allowed - 1) f reached index next-index) where
+      pub chain-goes-on : (reached : List ℕ) → seen ≡ marks reached → ChainRead x after kind allowed f reached holder index
       unfolding next
-      chain-on reached marked =
+      chain-goes-on reached marked =
+          let goes : chain kind allowed f reached holder index
+          ≡ _>>=_ (chain kind (allowed - 1) f (index ∷ reached) index next-index) (λ others. passed (index ∷ others)) =
           chain-goes kind f reached holder allowed index some
           (step-passed kind allowed f seen holder index step followed byte reached marked passes)
-          ∙ rw (← next-is)
-
-      pub chain-breaks : {number place : ℕ} → rest .check ≡ Refused number place → (x : Chained)
-          → x .check ≡ rest .check → (reached : List ℕ) → seen ≡ marks reached
-          → ChainRead x kind allowed f reached holder index
-      chain-breaks e x same reached marked =
-          let others = refused-chained _ _ rest _ _ (read (index ∷ reached) (marks-more seen reached index byte marked)) e in
-          chained-refused _ _ x reached _ (chain-on reached marked ∙ bind-refused _ others) (same ∙ e)
-
-      pub chain-longer : rest .check ≡ Passed → (reached : List ℕ) → seen ≡ marks reached
-          → ChainRead (record { check = Passed; count = rest .count + 1; seen = rest .seen }) kind allowed f reached
-          holder index
-      chain-longer e reached marked =
-          let others = passed-chained _ _ rest _ _ (read (index ∷ reached) (marks-more seen reached index byte marked)) e in
-          chained-passed _ _ _ reached _ (chain-on reached marked ∙ bind-goes _ (others .1)) refl (omega (arith, others .2))
-          (others .3 ∙ marks-moved (others .0) (index ∷ []) reached)
+          ∙ rw (← next-is) in
+          rw goes
+          (chained-on _ x after (index ∷ reached) (λ l. l) reached (λ others. index ∷ others)
+          (λ others. marks-moved others (index ∷ []) reached) _
+          (read (index ∷ reached) (marks-more seen reached index byte marked)))
 
 -- Reading a body.
-abbrev BodyRead : Chained → File → List ℕ → ℕ → Type 0
-BodyRead x f reached holder = ChainedAs (λ l. l) length x reached (bodyChain f reached holder)
+abbrev BodyRead : Check → List Bool → File → List ℕ → ℕ → Type 0
+BodyRead x after f reached holder = ChainedAs (λ l. l) x after reached (bodyChain f reached holder)
 
-module _ (f : File) (holder first : ℕ) (first-is : first ≡ byteAt f holder 2) (x : Chained) (reached : List ℕ) where
-  pub body-empty : first ≡ 0 → x .check ≡ Refused 5 holder → BodyRead x f reached holder
+module _ (f : File) (holder first : ℕ) (first-is : first ≡ byteAt f holder 2) (after : List Bool) (reached : List ℕ) where
+  pub body-empty : first ≡ 0 → BodyRead (Refused 5 holder) after f reached holder
   unfolding bodyChain
-  body-empty e same =
-      chained-refused _ _ x reached _ (require-fails _ 5 holder _ (ap not (eq-eqb _ 0 (sym first-is ∙ e)))) same
+  body-empty e =
+      chained-refused _ _ after reached _ (require-fails _ 5 holder _ (ap not (eq-eqb _ 0 (sym first-is ∙ e)))) refl
 
-  pub body-follows : (first ≡ 0 → ⊥) → ChainRead x InstructionRecord 16 f reached holder first
-      → BodyRead x f reached holder
+  pub body-follows : (first ≡ 0 → ⊥) → (x : Check) → ChainRead x after InstructionRecord 16 f reached holder first
+      → BodyRead x after f reached holder
   unfolding bodyChain
-  body-follows some read =
+  body-follows some x read =
       let holds : not (eqb (byteAt f holder 2) 0) ≡ true = ap not (ne-eqb _ 0 (λ e. some (first-is ∙ e))) in
       rw (require-holds _ 5 holder (chain InstructionRecord 16 f reached holder (byteAt f holder 2)) holds, ← first-is) read
 
 -- Reading the tasks' chain, each task followed by its body.
-abbrev TasksRead : Chained → ℕ → File → List ℕ → ℕ → ℕ → Type 0
-TasksRead x allowed f reached holder index = ChainedAs recordsOf length x reached (taskChains allowed f reached holder index)
+abbrev TasksRead : Check → List Bool → ℕ → File → List ℕ → ℕ → ℕ → Type 0
+TasksRead x after allowed f reached holder index =
+    ChainedAs recordsOf x after reached (taskChains allowed f reached holder index)
 
 module _ (allowed : ℕ) (f : File) (seen : List Bool) (holder index : ℕ) where
   pub tasks-empty : index ≡ 0 → (reached : List ℕ) → seen ≡ marks reached
-      → TasksRead (record { check = Passed; count = 0; seen = seen }) allowed f reached holder index
+      → TasksRead Passed seen allowed f reached holder index
   unfolding recordsOf each
   tasks-empty e reached marked =
-      chained-passed _ _ _ reached _ (ap (λ i. taskChains allowed f reached holder i) e ∙ tasks-end f reached holder allowed) refl refl marked
+      chained-passed _ _ _ reached _ (ap (λ i. taskChains allowed f reached holder i) e ∙ tasks-end f reached holder allowed) refl marked
 
   module _ (some : index ≡ 0 → ⊥) (byte : index < 256) (step : Check)
       (followed : step ≡ checkOf (follow TaskRecord allowed f (getD seen index false) holder index)) where
-    pub tasks-stop : {number place : ℕ} → step ≡ Refused number place → (x : Chained) → x .check ≡ step
-        → (reached : List ℕ) → seen ≡ marks reached → TasksRead x allowed f reached holder index
-    tasks-stop e x same reached marked =
-        chained-refused _ _ x reached _
+    pub tasks-stop : {number place : ℕ} → step ≡ Refused number place → (after : List Bool)
+        → (reached : List ℕ) → seen ≡ marks reached → TasksRead step after allowed f reached holder index
+    tasks-stop e after reached marked =
+        chained-refused _ _ after reached _
         (tasks-refused f reached holder allowed index some
-        (step-refused TaskRecord allowed f seen holder index step followed byte reached marked e)) (same ∙ e)
+        (step-refused TaskRecord allowed f seen holder index step followed byte reached marked e)) e
 
-    module _ (passes : step ≡ Passed) (whole : Chained)
-        (bodyRead : (reached : List ℕ) → set seen index true ≡ marks reached → BodyRead whole f reached index) where
+    module _ (passes : step ≡ Passed) (whole : Check) (within : List Bool)
+        (bodyRead : (reached : List ℕ) → set seen index true ≡ marks reached → BodyRead whole within f reached index) where
       tasks-on : (reached : List ℕ) → seen ≡ marks reached → taskChains allowed f reached holder index
           ≡ _>>=_ (bodyChain f (index ∷ reached) index) (λ body.
           _>>=_ (taskChains (allowed - 1) f (index ∷ body ++ reached) index (next f index)) (λ others.
@@ -157,46 +156,27 @@ module _ (allowed : ℕ) (f : File) (seen : List Bool) (holder index : ℕ) wher
           tasks-go f reached holder allowed index some
           (step-passed TaskRecord allowed f seen holder index step followed byte reached marked passes)
 
-      pub body-breaks : {number place : ℕ} → whole .check ≡ Refused number place → (x : Chained)
-          → x .check ≡ whole .check → (reached : List ℕ) → seen ≡ marks reached
-          → TasksRead x allowed f reached holder index
-      body-breaks e x same reached marked =
-          let body = refused-chained _ _ whole _ _ (bodyRead (index ∷ reached) (marks-more seen reached index byte marked)) e in
-          chained-refused _ _ x reached _ (tasks-on reached marked ∙ bind-refused _ body) (same ∙ e)
+      pub body-breaks : {number place : ℕ} → whole ≡ Refused number place → (after : List Bool)
+          → (reached : List ℕ) → seen ≡ marks reached → TasksRead whole after allowed f reached holder index
+      body-breaks e after reached marked =
+          let body = refused-chained _ _ within _ _ (bodyRead (index ∷ reached) (marks-more seen reached index byte marked)) e in
+          chained-refused _ _ after reached _ (tasks-on reached marked ∙ bind-refused _ body) e
 
-      module _ (complete : whole .check ≡ Passed) (after : ℕ) (next-is : after ≡ byteAt f index 1) (rest : Chained)
-          (read : (reached : List ℕ) → whole .seen ≡ marks reached → TasksRead rest (allowed - 1) f reached index after) where
-        -- the task's body, what is left of the walk after it, and how the rest was read
-        after-body : (reached : List ℕ) → seen ≡ marks reached
-            → (body : List ℕ)
-            × (taskChains allowed f reached holder index
-            ≡ _>>=_ (taskChains (allowed - 1) f (index ∷ body ++ reached) index after) (λ others.
-            passed (record { taskRecord = index; body = body } ∷ others)))
-            × TasksRead rest (allowed - 1) f (index ∷ body ++ reached) index after
-        unfolding next
-        after-body reached marked =
-            let body = passed-chained _ _ whole _ _ (bodyRead (index ∷ reached) (marks-more seen reached index byte marked)) complete in (
-              body .0,
-              tasks-on reached marked ∙ bind-goes _ (body .1) ∙ rw (← next-is),
-              read (index ∷ body .0 ++ reached) (body .3 ∙ marks-moved (body .0) (index ∷ []) reached),
-            )
-
-        pub tasks-break : {number place : ℕ} → rest .check ≡ Refused number place → (x : Chained)
-            → x .check ≡ rest .check → (reached : List ℕ) → seen ≡ marks reached
-            → TasksRead x allowed f reached holder index
-        tasks-break e x same reached marked =
-            let found = after-body reached marked in
-            chained-refused _ _ x reached _ (found .1 ∙ bind-refused _ (refused-chained _ _ rest _ _ (found .2) e)) (same ∙ e)
-
-        pub tasks-longer : rest .check ≡ Passed → (reached : List ℕ) → seen ≡ marks reached
-            → TasksRead (record { check = Passed; count = rest .count + 1; seen = rest .seen }) allowed f reached
-            holder index
-        unfolding recordsOf each
-        tasks-longer e reached marked =
-            let found = after-body reached marked in
-            let others = passed-chained _ _ rest _ _ (found .2) e in
-            chained-passed _ _ _ reached _ (found .1 ∙ bind-goes _ (others .1)) refl (omega (arith, others .2))
-            (others .3 ∙ marks-moved (recordsOf (others .0)) (index ∷ found .0) reached)
+      module _ (complete : whole ≡ Passed) (next-index : ℕ) (next-is : next-index ≡ byteAt f index 1) (x : Check) (after : List Bool)
+          (read : (reached : List ℕ) → within ≡ marks reached → TasksRead x after (allowed - 1) f reached index next-index) where
+        pub tasks-go-on : (reached : List ℕ) → seen ≡ marks reached → TasksRead x after allowed f reached holder index
+        unfolding next recordsOf each
+        tasks-go-on reached marked =
+            let body = passed-chained _ _ within _ _ (bodyRead (index ∷ reached) (marks-more seen reached index byte marked)) complete in
+            let goes : taskChains allowed f reached holder index
+            ≡ _>>=_ (taskChains (allowed - 1) f (index ∷ body .0 ++ reached) index next-index) (λ others.
+            passed (record { taskRecord = index; body = body .0 } ∷ others)) =
+            tasks-on reached marked ∙ bind-goes _ (body .1) ∙ rw (← next-is) in
+            rw goes
+            (chained-on _ x after (index ∷ body .0 ++ reached) recordsOf reached
+            (λ others. record { taskRecord = index; body = body .0 } ∷ others)
+            (λ others. marks-moved (recordsOf others) (index ∷ body .0) reached) _
+            (read (index ∷ body .0 ++ reached) (body .2 ∙ marks-moved (body .0) (index ∷ []) reached)))
 
 -- The whole walk. What follows once the tasks are read, and once the locks are:
 abbrev afterLocks : File → List TaskChain → List ℕ → Checked ℕ Chains
@@ -220,44 +200,46 @@ module _ (f : File) (head : Check) (headed : head ≡ checkOf (recordOf Header f
     no-tasks e =
         check-comes (then-goes _ header-passes ∙ require-fails _ 5 0 _ (ap not (eq-eqb _ 0 (sym first-is ∙ e))))
 
-    module _ (some : first ≡ 0 → ⊥) (tasks : Chained)
-        (tasksRead : (reached : List ℕ) → set (replicate 256 false) 0 true ≡ marks reached → TasksRead tasks 8 f reached 0 first) where
+    module _ (some : first ≡ 0 → ⊥) (tasks : Check) (within : List Bool)
+        (tasksRead : (reached : List ℕ) → set (replicate 256 false) 0 true ≡ marks reached
+        → TasksRead tasks within 8 f reached 0 first) where
       chains-start : chainsOf f ≡ _>>=_ (taskChains 8 f (0 ∷ []) 0 first) (afterTasks f)
       unfolding chainsOf
       chains-start =
           then-goes _ header-passes ∙ require-holds _ 5 0 _ (ap not (ne-eqb _ 0 (λ e. some (first-is ∙ e)))) ∙ rw (← first-is)
 
-      readTasks : TasksRead tasks 8 f (0 ∷ []) 0 first
+      readTasks : TasksRead tasks within 8 f (0 ∷ []) 0 first
       readTasks = tasksRead (0 ∷ []) (marks-more (replicate 256 false) [] 0 (lit< tt) marks-none)
 
-      pub tasks-fail : {number place : ℕ} → tasks .check ≡ Refused number place → tasks .check ≡ checkOf (chainsOf f)
+      pub tasks-fail : {number place : ℕ} → tasks ≡ Refused number place → tasks ≡ checkOf (chainsOf f)
       unfolding checkOf
-      tasks-fail e = e ∙ check-comes (chains-start ∙ bind-refused _ (refused-chained _ _ tasks _ _ readTasks e))
+      tasks-fail e = e ∙ check-comes (chains-start ∙ bind-refused _ (refused-chained _ _ within _ _ readTasks e))
 
-      module _ (tasksPass : tasks .check ≡ Passed) (lock : ℕ) (lock-is : lock ≡ byteAt f 0 3) (locks : Chained)
-          (locksRead : (reached : List ℕ) → tasks .seen ≡ marks reached → ChainRead locks LockRecord 8 f reached 0 lock) where
+      module _ (tasksPass : tasks ≡ Passed) (lock : ℕ) (lock-is : lock ≡ byteAt f 0 3) (locks : Check) (after : List Bool)
+          (locksRead : (reached : List ℕ) → within ≡ marks reached
+          → ChainRead locks after LockRecord 8 f reached 0 lock) where
         -- the tasks found, and how the locks were read after them
         found : (t : List TaskChain)
             × (chainsOf f ≡ _>>=_ (chain LockRecord 8 f (0 ∷ recordsOf t) 0 lock) (afterLocks f t))
-            × ChainRead locks LockRecord 8 f (0 ∷ recordsOf t) 0 lock
+            × ChainRead locks after LockRecord 8 f (0 ∷ recordsOf t) 0 lock
         found =
-            let t = passed-chained _ _ tasks _ _ readTasks tasksPass in (
+            let t = passed-chained _ _ within _ _ readTasks tasksPass in (
               t .0,
               chains-start ∙ bind-goes _ (t .1) ∙ rw (← lock-is),
-              locksRead (0 ∷ recordsOf (t .0)) (t .3 ∙ marks-swapped (recordsOf (t .0)) (0 ∷ [])),
+              locksRead (0 ∷ recordsOf (t .0)) (t .2 ∙ marks-swapped (recordsOf (t .0)) (0 ∷ [])),
             )
 
-        pub locks-fail : {number place : ℕ} → locks .check ≡ Refused number place → locks .check ≡ checkOf (chainsOf f)
+        pub locks-fail : {number place : ℕ} → locks ≡ Refused number place → locks ≡ checkOf (chainsOf f)
         unfolding checkOf
-        locks-fail e = e ∙ check-comes (found .1 ∙ bind-refused _ (refused-chained _ _ locks _ _ (found .2) e))
+        locks-fail e = e ∙ check-comes (found .1 ∙ bind-refused _ (refused-chained _ _ after _ _ (found .2) e))
 
-        pub chains-read : locks .check ≡ Passed → (x : Check)
-            → ((reached : List ℕ) → locks .seen ≡ marks reached
+        pub chains-read : locks ≡ Passed → (x : Check)
+            → ((reached : List ℕ) → after ≡ marks reached
             → x ≡ checkOf (noneOf 6 (λ r. not (member r reached)) (upTo (records f))))
             → x ≡ checkOf (chainsOf f)
         unfolding noStray reachedBy
         chains-read locksPass x checked =
-            let l = passed-chained _ _ locks _ _ (found .2) locksPass in
-            checked (0 ∷ recordsOf (found .0) ++ l .0) (l .3 ∙ marks-swapped (l .0) (0 ∷ recordsOf (found .0)))
+            let l = passed-chained _ _ after _ _ (found .2) locksPass in
+            checked (0 ∷ recordsOf (found .0) ++ l .0) (l .2 ∙ marks-swapped (l .0) (0 ∷ recordsOf (found .0)))
             ∙ comes-then _ _
             ∙ check-comes (found .1 ∙ bind-goes _ (l .1))
