@@ -9,7 +9,7 @@ use taskfile::limits::TASKS;
 use timing::JobList;
 use timing::JobRecord;
 ghost use mathlib.Core.Path.{_≡_};
-ghost use mathlib.Core.List.{List, [], _∷_, _++_, map};
+ghost use mathlib.Core.List.{List, [], _++_, map};
 ghost use Prim.Native.Nat.{_+_, _^_, _≤_, _<_};
 ghost use Rattle.notation.specs.Lists.{upTo};
 ghost use Rattle.timing.specs.declared.JobRecord.{JobRecord};
@@ -58,22 +58,8 @@ pub fn no_jobs() -> JobList
     }
 }
 
-// The list with one job more at its end.
-pub fn with_job(list: JobList, job: JobRecord) -> JobList
-    requires { ⌜ list .count < 32 ⌝ }
-    ensures counted { λ x. ⌜ x .count ≡ list .count + 1 ⌝ }
-    ensures added { λ x. ⌜ ((l : List JobRecord) → list ≡ jobListOf l → x ≡ jobListOf (l ++ (job ∷ []))) ⌝ }
-{
-    let at = list.count as usize;
-    let mut jobs = list.jobs;
-    jobs[at] = job;
-    JobList {
-        count: list.count + 1,
-        jobs: jobs,
-    }
-}
-
-// The list with the first n jobs of task i at its end, whose response time is `response`.
+// The list with the first n jobs of task i at its end, whose response time is `response`. Each is stored in place: a
+// function for one job took the list and gave it back, which copied it for each.
 pub fn with_jobs(list: JobList, i: Task, e: TaskEntry, response: u64, n: u64) -> JobList
     requires { ⌜ (list .count + n ≤ 32) × (response ≤ e .period) ⌝ }
     ensures counted { λ x. ⌜ x .count ≡ list .count + n ⌝ }
@@ -86,14 +72,13 @@ pub fn with_jobs(list: JobList, i: Task, e: TaskEntry, response: u64, n: u64) ->
     let mut k: u64 = 0;
     while k < n {
         let arrival = first + k * period;
-        longer = with_job(
-            longer,
-            JobRecord {
-                task: i,
-                arrival: arrival,
-                latest: arrival + response,
-            },
-        );
+        let at = longer.count as usize;
+        longer.jobs[at] = JobRecord {
+            task: i,
+            arrival: arrival,
+            latest: arrival + response,
+        };
+        longer.count += 1;
         k += 1;
     }
     longer

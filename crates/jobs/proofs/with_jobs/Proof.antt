@@ -8,7 +8,7 @@ use borrow.Author.Needs.{needs}
 use Rattle.notation.specs.Lists.{upTo}
 use Rattle.timing.specs.declared.JobRecord.{JobRecord}
 use Rattle.timing.specs.Code.JobParts.{jobListOf}
-use Rattle.timing.specs.Laws.JobListLaws.{jobAs, none-added, one-added, all-added, product-fits}
+use Rattle.timing.specs.Laws.JobListLaws.{job-added, jobAs, none-added, one-added, all-added, product-fits}
 use Rattle.jobs.proofs.with_jobs.Statement.{statement}
 use Rattle.jobs.proofs.with_jobs.Tie as tie
 
@@ -36,11 +36,20 @@ mul-arrival c = omega (arith, product-fits (c .before .loop .k) (c .before .befo
 add-arrival : tie.Need-add-arrival Inv-loop μ-loop
 add-arrival c = omega (arith, product-fits (c .before .loop .k) (c .before .before .wide2 .result) (omega arith) (omega arith))
 
-add-t12 : tie.Need-add-t12 Inv-loop μ-loop
-add-t12 c = omega (arith, product-fits (c .before .loop .k) (c .before .before .wide2 .result) (omega arith) (omega arith))
+cast-at : tie.Need-cast-at Inv-loop μ-loop
+cast-at c = omega arith
 
-with-job-requires : tie.Need-with-job-requires Inv-loop μ-loop
-with-job-requires c κs = omega arith
+add-t13 : tie.Need-add-t13 Inv-loop μ-loop
+add-t13 c = omega (arith, product-fits (c .before .loop .k) (c .before .before .wide2 .result) (omega arith) (omega arith))
+
+mul-t16 : tie.Need-mul-t16 Inv-loop μ-loop
+mul-t16 c = omega arith
+
+element-set-from-longer : tie.Need-element-set-from-longer Inv-loop μ-loop
+element-set-from-longer c = omega arith
+
+add-longer : tie.Need-add-longer Inv-loop μ-loop
+add-longer c = omega arith
 
 add-k : tie.Need-add-k Inv-loop μ-loop
 add-k c = omega arith
@@ -50,8 +59,8 @@ loop-less c = omega arith
 
 loop-again : tie.Need-loop-again Inv-loop μ-loop
 loop-again c =
-    let inv = c .before .before .loop .inv in
-    (omega arith, omega arith, λ l e. one-added _ _ _ _ (c .with-job .ensures .1) l (inv .2 l e))
+    let inv = c .before .loop .inv in
+    (omega arith, omega arith, λ l e. one-added _ _ _ _ (job-added _ _ (omega arith)) l (inv .2 l e))
 
 returns : tie.Need-returns Inv-loop μ-loop
 returns c =
@@ -78,8 +87,11 @@ with-jobs-spec =
     loop-holds
     mul-arrival
     add-arrival
-    add-t12
-    with-job-requires
+    cast-at
+    add-t13
+    mul-t16
+    element-set-from-longer
+    add-longer
     add-k
     loop-less
     loop-again
