@@ -7,20 +7,44 @@ use taskfile::Kind;
 use taskfile::limits::HIGHEST_CEILING;
 use taskfile::limits::MOST_OPERATIONS;
 use taskfile::limits::OPERATIONS;
+use taskfile::limits::RECORD;
 use taskfile::offsets;
 use taskfile::operations::PICK;
 ghost use mathlib.Core.Path.{_≡_};
-ghost use Prim.Native.Nat.{_+_, _≤_};
+ghost use Prim.Native.Nat.{_+_, _*_, _≤_};
+ghost use lib.ListN.{length};
 ghost use Rattle.taskfile.specs.Records.{zeroFrom, usesOf, tidyField, fieldInRange};
 ghost use Rattle.taskfile.specs.Records.{tidyInstruction, fieldsInRange, choiceInRange, instructionInRange};
 ghost use Rattle.taskfile.specs.Records.{tidy, inRange};
 ghost use Rattle.taskfile.specs.Code.RecordFields.{limitOf, fieldOf};
 
-// Are the n bytes of record r from byte k on zero?
+// Are the n bytes of record r from byte k on zero, where the file has them all?
+pub fn zero_within(file: &[u8], r: u8, k: u8, n: u8) -> bool
+    requires { ⌜ (k + n ≤ 16) × (16 * r + k + n ≤ length (now file)) ⌝ }
+    ensures { λ x. ⌜ x ≡ zeroFrom (now (file .entry)) r k n ⌝ }
+{
+    let start = RECORD * (r as usize);
+    let mut j = k;
+    let mut left = n;
+    while 0 < left {
+        let at = start + (j as usize);
+        if file[at] != 0 {
+            return false;
+        }
+        j += 1;
+        left -= 1;
+    }
+    true
+}
+
+// The same, where the file may end before them. Whether it does is tested once, and not for each byte.
 pub fn zero_from(file: &[u8], r: u8, k: u8, n: u8) -> bool
     requires { ⌜ k + n ≤ 16 ⌝ }
     ensures { λ x. ⌜ x ≡ zeroFrom (now (file .entry)) r k n ⌝ }
 {
+    if RECORD * (r as usize) + (k as usize) + (n as usize) <= file.len() {
+        return zero_within(file, r, k, n);
+    }
     let mut j = k;
     let mut left = n;
     while 0 < left {
@@ -33,43 +57,43 @@ pub fn zero_from(file: &[u8], r: u8, k: u8, n: u8) -> bool
     true
 }
 
-// The largest value of each field a, b, c of each operation, or 0 where the field is unused. A lock number may
-// be any byte here.
+// The largest value of field a of each operation, then of field b, then of field c, or 0 where the field is unused. A
+// lock number may be any byte here. By field, so that a field that is known has twelve bytes in a row.
 const LIMITS: [u8; 36] = [
     0,
-    0,
-    0,
     3,
     7,
+    3,
+    3,
+    3,
+    3,
+    3,
+    3,
+    255,
+    255,
+    3,
     0,
     7,
     3,
-    0,
-    3,
     255,
-    0,
     3,
     3,
-    0,
-    3,
-    3,
-    0,
     3,
     3,
     15,
-    3,
-    3,
+    0,
+    0,
+    0,
+    0,
+    0,
+    0,
+    0,
+    0,
+    0,
     15,
-    3,
     15,
     15,
-    255,
     0,
-    0,
-    255,
-    0,
-    0,
-    3,
     0,
     0,
 ];
@@ -80,7 +104,7 @@ pub fn limit(operation: u8, field: u8) -> u8
 {
     let o = operation as usize;
     if o < OPERATIONS {
-        LIMITS[3 * o + (field as usize)]
+        LIMITS[OPERATIONS * (field as usize) + o]
     } else {
         0
     }

@@ -8,7 +8,7 @@ use taskfile::limits::RECORD;
 use taskfile::offsets;
 use taskfile::operations;
 ghost use mathlib.Core.Path.{_≡_};
-ghost use Prim.Native.Nat.{_≤_};
+ghost use Prim.Native.Nat.{_+_, _*_, _≤_};
 ghost use Rattle.taskfile.specs.Records.{byteAt, wideAt, instructionAt, kindNumber};
 ghost use Rattle.taskfile.specs.Tables.{endInstruction, noTask};
 
@@ -20,21 +20,44 @@ pub fn byte_at(file: &[u8], r: u8, k: u8) -> u8
     if at < file.len() { file[at] } else { 0 }
 }
 
-// The unsigned 32-bit field that starts at byte k of record r, low byte first.
+// Four bytes as an unsigned number of 32 bits, low byte first.
+pub fn wide_of(a: u8, b: u8, c: u8, d: u8) -> u32
+    ensures { λ x. ⌜ x ≡ a + 256 * b + 65536 * c + 16777216 * d ⌝ }
+{
+    (a as u32) + 256 * (b as u32) + 65536 * (c as u32) + 16777216 * (d as u32)
+}
+
+// The unsigned 32-bit field that starts at byte k of record r, low byte first. One test serves all four bytes of a
+// field that the file has whole.
 pub fn wide_at(file: &[u8], r: u8, k: u8) -> u32
     requires { ⌜ k ≤ 12 ⌝ }
     ensures { λ x. ⌜ x ≡ wideAt (now (file .entry)) r k ⌝ }
 {
-    let a = byte_at(file, r, k) as u32;
-    let b = byte_at(file, r, k + 1) as u32;
-    let c = byte_at(file, r, k + 2) as u32;
-    let d = byte_at(file, r, k + 3) as u32;
-    a + 256 * b + 65536 * c + 16777216 * d
+    let at = RECORD * (r as usize) + (k as usize);
+    if at + 3 < file.len() {
+        return wide_of(file[at], file[at + 1], file[at + 2], file[at + 3]);
+    }
+    wide_of(
+        byte_at(file, r, k),
+        byte_at(file, r, k + 1),
+        byte_at(file, r, k + 2),
+        byte_at(file, r, k + 3),
+    )
 }
 
+// The instruction of record r. One test serves all four bytes of one that the file has whole.
 pub fn instruction_at(file: &[u8], r: u8) -> Instruction
     ensures { λ x. ⌜ x ≡ instructionAt (now (file .entry)) r ⌝ }
 {
+    let at = RECORD * (r as usize);
+    if at + RECORD <= file.len() {
+        return Instruction {
+            operation: file[at + (offsets::OPERATION as usize)],
+            a: file[at + (offsets::FIELD_A as usize)],
+            b: file[at + (offsets::FIELD_B as usize)],
+            c: file[at + (offsets::FIELD_C as usize)],
+        };
+    }
     Instruction {
         operation: byte_at(file, r, offsets::OPERATION),
         a: byte_at(file, r, offsets::FIELD_A),

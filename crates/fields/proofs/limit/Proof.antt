@@ -3,7 +3,7 @@
 -- Assumes nothing.
 use mathlib.Core.Path.{sym}
 use borrow.Author.Needs.{needs}
-use Rattle.notation.specs.Lists.{each}
+use mathlib.Core.List.{map}
 use Rattle.taskfile.specs.Code.RecordFields.{limitOf}
 use Rattle.taskfile.specs.Laws.RecordLaws.{limits, limits-at, limit-past}
 use Rattle.taskfile.specs.Records.{operationUses, usesOf}
@@ -20,8 +20,8 @@ array-read-result : tie.Need-array-read-result
 array-read-result c = search needs
 
 returns : tie.Need-returns
-unfolding limits each operationUses limitOf usesOf
-returns c = limits-at operationUses _ _ (c .before .pre)
+unfolding limits map operationUses limitOf usesOf
+returns c = limits-at _ _ (c .if1 .taken) (c .before .pre)
 
 returns-2 : tie.Need-returns-2
 unfolding operationUses

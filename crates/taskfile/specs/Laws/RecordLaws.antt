@@ -4,24 +4,36 @@
 use Prim.Native.Nat.{ℕ, zero, suc, _+_, _*_, _-_, _≤_, _<_}
 use native.Mathlib.Numerals.{add-one}
 use native.Mathlib.Omega.{arith}
-use mathlib.Core.Path.{_≡_, refl, sym, ap}
+use mathlib.Core.Path.{_≡_, refl, sym, ap, subst}
 use mathlib.Core.Bool.{Bool, true, false, _&&_}
-use mathlib.Core.List.{List, [], _∷_}
+use mathlib.Core.List.{List, [], _∷_, _++_, map}
 use lib.ListN.{length, getD, List·getD-eq-default}
-use lib.Dec.{leb, ltb}
-use borrow.Author.Tests.{eq-eqb, ne-eqb, le-leb, ltb-true}
+use lib.Dec.{leb, ltb, eqb}
+use borrow.Author.Tests.{eqb-true, eq-eqb, ne-eqb, le-leb, ltb-true}
 use Rattle.taskfile.specs.declared.Instruction.{Instruction}
-use Rattle.notation.specs.Lists.{from, all, each}
+use Rattle.notation.specs.Lists.{from, upTo, all}
 use Rattle.taskfile.specs.Code.RecordFields.{fieldOf, limitOf}
-use Rattle.taskfile.specs.Records.{File, byteAt, zeroFrom, Use, unused, most, lockNumber, Uses, uses, operationUses, usesOf, tidyField}
+use Rattle.taskfile.specs.Records.{File, byteAt, wideAt, zeroFrom, Use, unused, most, lockNumber, Uses, uses, operationUses, usesOf, tidyField}
 use Rattle.taskfile.specs.Records.{fieldInRange, fieldsInRange, choiceInRange, instructionInRange}
 use Rattle.notation.specs.Laws.TestLaws.{and-both}
-use Rattle.notation.specs.Laws.QuantifierLaws.{all-getD}
+use Rattle.notation.specs.Laws.ListLaws.{upTo-length, getD-upTo}
+use Rattle.notation.specs.Laws.QuantifierLaws.{all-at, all-getD}
 
 -- past the file's end every byte is 0
 pub byteAt-past : (f : File) (r k : ℕ) → length f ≤ 16 * r + k → byteAt f r k ≡ 0
 unfolding byteAt
 byteAt-past f r k h = List·getD-eq-default f 0 h
+
+-- a wide field by its four places in the file
+pub wideAt-read : (f : File) (r k : ℕ) → wideAt f r k
+    ≡ getD f (16 * r + k) 0 + 256 * getD f (16 * r + k + 1) 0 + 65536 * getD f (16 * r + k + 2) 0
+    + 16777216 * getD f (16 * r + k + 3) 0
+unfolding wideAt byteAt
+wideAt-read f r k =
+    let one : 16 * r + (k + 1) ≡ 16 * r + k + 1 = omega arith in
+    let two : 16 * r + (k + 2) ≡ 16 * r + k + 2 = omega arith in
+    let three : 16 * r + (k + 3) ≡ 16 * r + k + 3 = omega arith in
+    rw (one, two, three) refl
 
 -- the test of no bytes holds; it fails where the first byte is not 0, and where it is, it is the test of the others
 pub zeroFrom-none : (f : File) (r k n : ℕ) → n ≤ 0 → zeroFrom f r k n ≡ true
@@ -55,21 +67,28 @@ pub limit-past : (o field : ℕ) → length operationUses ≤ o → limitOf (fie
 unfolding usesOf limitOf
 limit-past o field h = rw (List·getD-eq-default operationUses noUses h, noUses-field field)
 
--- the largest values of the fields a, b and c of each operation, in one list
+-- the largest values of field a of each operation, then of field b, then of field c, in one list
 unfoldable pub limits : List Uses → List ℕ
-limits us = each us (λ u. limitOf (u .a) ∷ limitOf (u .b) ∷ limitOf (u .c) ∷ [])
+limits us = map (λ u. limitOf (u .a)) us ++ (map (λ u. limitOf (u .b)) us ++ map (λ u. limitOf (u .c)) us)
 
-pub limits-at : (us : List Uses) (o field : ℕ) → field ≤ 2
-    → getD (limits us) (3 * o + field) 0 ≡ limitOf (fieldOf field (getD us o noUses))
-unfolding limits each limitOf fieldOf
-limits-at [] o field h = sym (ap limitOf (noUses-field field))
-limits-at (u ∷ us) zero zero h = refl
-limits-at (u ∷ us) zero (suc zero) h = refl
-limits-at (u ∷ us) zero (suc (suc zero)) h = refl
-limits-at (u ∷ us) zero (suc (suc (suc n))) h = absurd (omega arith)
-limits-at (u ∷ us) (suc o) field h =
-    let later : 3 * suc o + field ≡ suc (suc (suc (3 * o + field))) = omega arith in
-    rw later (limits-at us o field h)
+-- does the list have what is said of a field of an operation?
+limited : ℕ → ℕ → Bool
+limited field o = eqb (getD (limits operationUses) (12 * field + o) 0) (limitOf (fieldOf field (usesOf o)))
+
+all-limited : (field : ℕ) → field ≤ 2 → all (limited field) (upTo 12) ≡ true
+unfolding all upTo from limited limits map operationUses usesOf limitOf fieldOf
+all-limited zero h = refl
+all-limited (suc zero) h = refl
+all-limited (suc (suc zero)) h = refl
+all-limited (suc (suc (suc n))) h = absurd (omega arith)
+
+pub limits-at : (o field : ℕ) → o < 12 → field ≤ 2
+    → getD (limits operationUses) (12 * field + o) 0 ≡ limitOf (fieldOf field (usesOf o))
+unfolding limited
+limits-at o field lt h =
+    eqb-true _ _
+    (subst (λ (k : ℕ). limited field k ≡ true) (getD-upTo 12 o 0 lt)
+    (all-at (limited field) (upTo 12) o 0 (all-limited field h) (omega (arith, upTo-length 12))))
 
 -- a used field has a largest value above 0
 bounded : Use → Bool
