@@ -1,7 +1,8 @@
 // Chains of records: a body, the tasks, each followed by its body, and the locks. Each reader calls itself on the next
-// index. Document 01: "The chain reader keeps the lent file together with its present index". A function over a struct
-// that holds a slice is not covered, so `reader_at`, `held_index` and `index_at` are proved by walks of their code, by
-// hand; every index that is followed is read by a reader at the record that holds it.
+// index, and the marks of the records reached are lent to it. Document 01: "The chain reader keeps the lent file
+// together with its present index". A function over a struct that holds a slice is not covered, so `reader_at`,
+// `held_index` and `index_at` are proved by walks of their code, by hand; every index that is followed is read by a
+// reader at the record that holds it.
 use links::follow_index;
 use records::byte_at;
 use taskfile::Check;
