@@ -1,11 +1,9 @@
 -- Laws of the reader's entry, which has no need of the jobs but of how many there are: each is one way out of `read`.
 -- Assumes nothing.
-use mathlib.Core.Path.{_≡_, refl, sym, ap, _∙_, fun-ext}
+use mathlib.Core.Path.{_≡_, refl, sym, _∙_}
 use Prim.Native.Nat.{ℕ, _≤_, _<_}
-use mathlib.Core.List.{List, [], map}
+use mathlib.Core.List.{[]}
 use lib.ListN.{length, replicate}
-use Rattle.notation.specs.Checked.{refused}
-use Rattle.notation.specs.Lists.{padded, sum, upTo}
 use Rattle.taskfile.specs.declared.Check.the-variants.{Passed, Refused}
 use Rattle.taskfile.specs.declared.Judged.the-variants.{Sound, Faulty}
 use Rattle.taskfile.specs.declared.LoadAnswer.{LoadAnswer}
@@ -18,7 +16,7 @@ use Rattle.taskfile.specs.Records.{File}
 use Rattle.timing.specs.declared.AcceptAnswer.{AcceptAnswer}
 use Rattle.timing.specs.declared.ReadAnswer.{ReadAnswer}
 use Rattle.timing.specs.declared.Responses.{Responses}
-use Rattle.timing.specs.Accepted.{responsesOf, accept}
+use Rattle.timing.specs.Accepted.{responsesOf}
 use Rattle.timing.specs.Code.JobParts.{jobListOf}
 use Rattle.timing.specs.Code.ResponseParts.{ResponsesAs}
 use Rattle.timing.specs.Jobs.{jobCount, jobsOf}

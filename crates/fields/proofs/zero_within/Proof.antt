@@ -1,6 +1,6 @@
 -- `zero_within` meets its contract. The loop's invariant: the bytes that are left are zero if and only if all are, and
 -- they end where all end. The measure is how many are left. Assumes nothing.
-use Prim.Native.Nat.{_+_, _*_, _≤_}
+use Prim.Native.Nat.{_+_}
 use native.Mathlib.Omega.{arith}
 use mathlib.Core.Path.{_≡_, refl, sym, _∙_}
 use borrow.Author.Needs.{needs}
