@@ -1,5 +1,6 @@
 // The climb to the least solution of the response equation from a lower bound of every solution.
 use demands::demand_of;
+use keeping::kept_interference;
 use taskfile::Table;
 use taskfile::Task;
 use taskfile::limits::TASKS;
@@ -9,7 +10,8 @@ ghost use Prim.Native.Nat.{_<_};
 ghost use Rattle.timing.specs.Response.{responseOf};
 ghost use Rattle.timing.specs.Code.ResponseParts.{TimesOf, NeedOf, boundOf, LowerBound};
 
-// Climbs from a lower bound of every solution to the least solution, or past the period.
+// Climbs from a lower bound of every solution to the least solution, or past the period. Of each task above, the
+// periods that begin in the interval are kept from turn to turn, until the interval passes their end.
 pub fn climb(
     t: Table,
     executions: &[u64; TASKS],
@@ -25,9 +27,11 @@ pub fn climb(
     let at = i.0 as usize;
     let period = periods[at];
     let tasks = t.tasks;
+    let mut ends = [0u64; TASKS];
+    let mut busy = [0u64; TASKS];
     let mut r = start;
     while r <= period {
-        let next = demand_of(executions, periods, tasks, i, own, r);
+        let next = own + kept_interference(executions, periods, tasks, i, r, &mut ends, &mut busy);
         if next == r {
             return Bound::Within(r);
         }

@@ -1,0 +1,43 @@
+// The interference of the tasks above, from quotients that are kept from one interval to a longer one.
+use rounding::rounded_up;
+use taskfile::Task;
+use taskfile::limits::TASKS;
+ghost use mathlib.Core.Path.{_≡_};
+ghost use Prim.Native.Nat.{_^_, _<_};
+ghost use Rattle.taskfile.specs.declared.Table.{Table};
+ghost use Rattle.timing.specs.Response.{tasksAbove, interference};
+ghost use Rattle.timing.specs.Code.ResponseParts.{BoundedTimes, TimesOf};
+ghost use Rattle.keeping.specs.Code.Kept.{Kept};
+
+// How long tasks above task i keep the processor in an interval of length r. It divides only for a task whose kept
+// periods end before r, and keeps the new ones.
+pub fn kept_interference(
+    executions: &[u64; TASKS],
+    periods: &[u64; TASKS],
+    tasks: u8,
+    i: Task,
+    r: u64,
+    ends: &mut [u64; TASKS],
+    busy: &mut [u64; TASKS],
+) -> u64
+    requires { ⌜ BoundedTimes (now executions) (now periods) tasks × (i .0 < tasks) × (r < 2 ^ 32)
+        × Kept (now executions) (now periods) tasks r (now ends) (now busy) ⌝ }
+    ensures { λ x. ⌜ (x < 2 ^ 36) × ((t : Table)
+        → TimesOf t (now (executions .entry)) (now (periods .entry)) tasks → x ≡ interference (tasksAbove t i) r) ⌝ }
+    ensures kept { λ x. ⌜ Kept (now (executions .entry)) (now (periods .entry)) tasks r
+        (now (ends .exit)) (now (busy .exit)) ⌝ }
+{
+    let mut total: u64 = 0;
+    let mut k = (i.0 as usize) + 1;
+    let end = tasks as usize;
+    while k < end {
+        if ends[k] < r {
+            let n = rounded_up(r, periods[k]);
+            ends[k] = n * periods[k];
+            busy[k] = n * executions[k];
+        }
+        total += busy[k];
+        k += 1;
+    }
+    total
+}
