@@ -3,14 +3,21 @@ use rounding::rounded_up;
 use taskfile::Task;
 use taskfile::limits::TASKS;
 ghost use mathlib.Core.Path.{_≡_};
-ghost use Prim.Native.Nat.{_^_, _<_};
+ghost use Prim.Native.Nat.{_^_, _≤_, _<_};
 ghost use Rattle.taskfile.specs.declared.Table.{Table};
 ghost use Rattle.timing.specs.Response.{tasksAbove, interference};
 ghost use Rattle.timing.specs.Code.ResponseParts.{BoundedTimes, TimesOf};
 ghost use Rattle.keeping.specs.Code.Kept.{Kept};
 
-// How long tasks above task i keep the processor in an interval of length r. It divides only for a task whose kept
-// periods end before r, and keeps the new ones.
+// 1 if an end comes before r, else 0.
+pub fn passed(end: u64, r: u64) -> u64
+    ensures { λ x. ⌜ (x ≤ 1) × (1 ≤ x → end < r) × (end < r → 1 ≤ x) ⌝ }
+{
+    if end < r { 1 } else { 0 }
+}
+
+// How long tasks above task i keep the processor in an interval of length r. A task whose kept periods end before r
+// gets one more, without a branch, and only where that is not enough it divides.
 pub fn kept_interference(
     executions: &[u64; TASKS],
     periods: &[u64; TASKS],
@@ -31,6 +38,10 @@ pub fn kept_interference(
     let mut k = (i.0 as usize) + 1;
     let end = tasks as usize;
     while k < end {
+        let kept = ends[k];
+        let more = passed(kept, r);
+        ends[k] = kept + more * periods[k];
+        busy[k] += more * executions[k];
         if ends[k] < r {
             let n = rounded_up(r, periods[k]);
             ends[k] = n * periods[k];

@@ -1,9 +1,9 @@
 -- Laws of what is kept of the tasks' quotients: nothing at first, still kept for a longer interval, right as long as
--- the kept periods reach the interval's end, and renewed for one task.
+-- the kept periods reach the interval's end, and replaced for one task, by one period more or by all that begin.
 -- Assumes nothing.
 use mathlib.Core.Path.{_≡_, refl, sym, ap, _∙_}
-use Prim.Native.Nat.{ℕ, _*_, _^_, _≤_, _<_, zero-le}
-use native.Mathlib.Nat.{le-trans, zero-mul}
+use Prim.Native.Nat.{ℕ, _+_, _*_, _^_, _≤_, _<_, zero-le}
+use native.Mathlib.Nat.{le-trans, zero-mul, add-mul, mul-le-mul-left, mul-le-mul-right}
 use native.Mathlib.Decide.{ℕ-discrete}
 use native.Mathlib.Omega.{arith}
 use mathlib.Core.List.{List}
@@ -56,27 +56,19 @@ kept-right {C} {P} {r} own positive reached =
     let same : own .periods ≡ roundedUp r P = omega (arith, own .most) in
     own .busy ∙ ap (λ (q : ℕ). q * C) same
 
--- the periods of one task are renewed
-pub kept-renewed : {Cs Ps : List ℕ} {n r : ℕ} {ends times : List ℕ} → Kept Cs Ps n r ends times → n ≤ 8
-    → (k : ℕ) → k < n → {u : ℕ} → u ≡ roundedUp r (getD Ps k 0)
-    → Kept Cs Ps n r (set ends k (u * getD Ps k 0)) (set times k (u * getD Cs k 0))
-kept-renewed {Cs} {Ps} {n} {r} {ends} {times} kept few k lt {u} e =
+-- the periods of one task are replaced
+kept-set : {Cs Ps : List ℕ} {n r : ℕ} {ends times : List ℕ} → Kept Cs Ps n r ends times → n ≤ 8 → (k : ℕ) → k < n
+    → {x y : ℕ} → KeptPeriods (getD Cs k 0) (getD Ps k 0) r x y → Kept Cs Ps n r (set ends k x) (set times k y)
+kept-set {ends} {times} kept few k lt {x} {y} own =
     record {
       endsFull = length-set ends k _ ∙ kept .endsFull;
       timesFull = length-set times k _ ∙ kept .timesFull;
       held = λ j l.
           elim (ℕ-discrete j k) [
             | yes same ↦
-                rw same
-                (record {
-                  periods = u;
-                  most = rw e (omega arith);
-                  ends = getD-set-same ends k (u * getD Ps k 0) 0 (omega (arith, kept .endsFull));
-                  busy = getD-set-same times k (u * getD Cs k 0) 0 (omega (arith, kept .timesFull));
-                })
-            | no other ↦
-                rw (getD-set-other ends k j (u * getD Ps k 0) 0 other, getD-set-other times k j (u * getD Cs k 0) 0 other)
-                (kept .held j l)
+                rw (same, getD-set-same ends k x 0 (omega (arith, kept .endsFull)), getD-set-same times k y 0 (omega (arith, kept .timesFull)))
+                own
+            | no other ↦ rw (getD-set-other ends k j x 0 other, getD-set-other times k j y 0 other) (kept .held j l)
           ];
     }
 
@@ -105,10 +97,45 @@ module _ {Cs Ps : List ℕ} {n : ℕ} (bounded : BoundedTimes Cs Ps n) (k : ℕ)
       let stored = getD-set-same times k (u * getD Cs k 0) 0 (omega (arith, bounded .few, kept .timesFull)) in
       rw (e, f)
       (record {
-        kept = kept-renewed kept (bounded .few) k lt q;
+        kept = kept-set kept (bounded .few) k lt (record { periods = u; most = rw q (omega arith); ends = refl; busy = refl });
         right = stored ∙ ap (λ (x : ℕ). x * getD Cs k 0) q;
       })
 
   -- where renewed periods end fits
   pub ends-fit : (r : ℕ) {u : ℕ} → r < 2 ^ 32 → u ≡ roundedUp r (getD Ps k 0) → u * getD Ps k 0 < 2 ^ 33
   ends-fit r small q = omega (arith, bounded .narrow k lt, rw (← q) at (roundedUp-tight r (getD Ps k 0) positive))
+
+  -- one period more, if those that are kept end before r
+  pub kept-more : {r u : ℕ} {ends times : List ℕ} → Kept Cs Ps n r ends times → u ≤ 1 → (1 ≤ u → getD ends k 0 < r)
+      → Kept Cs Ps n r (set ends k (getD ends k 0 + u * getD Ps k 0)) (set times k (getD times k 0 + u * getD Cs k 0))
+  kept-more {r} {u} kept few past =
+      let own = kept .held k lt in
+      let q = own .periods in
+      let P = getD Ps k 0 in
+      let next : 1 ≤ u → q < roundedUp r P = λ l. roundedUp-below r P q positive .1 (omega (arith, past l, own .ends)) in
+      kept-set kept (bounded .few) k lt
+      (record {
+        periods = q + u;
+        most =
+            elim (ℕ-discrete u 0) [
+              | yes same ↦ omega (arith, own .most)
+              | no other ↦ omega (arith, next (omega arith))
+            ];
+        ends = omega (arith, own .ends, add-mul q u P);
+        busy = omega (arith, own .busy, add-mul q u (getD Cs k 0));
+      })
+
+  -- and with it they fit
+  pub more-fits : {r u : ℕ} {ends times : List ℕ} → Kept Cs Ps n r ends times → r < 2 ^ 32 → u ≤ 1
+      → (getD ends k 0 + u * getD Ps k 0 < 2 ^ 34) × (getD times k 0 + u * getD Cs k 0 < 2 ^ 34)
+  more-fits {r} {u} kept small few =
+      let own = kept .held k lt in
+      let P = getD Ps k 0 in
+      let C = getD Cs k 0 in
+      let within = bounded .within k lt in
+      let narrow = bounded .narrow k lt in
+      let all = mul-le-mul-right P (own .most) in
+      let tight = roundedUp-tight r P positive in (
+        omega (arith, own .ends, all, tight, narrow, mul-le-mul-right {m = u} {n = 1} P few),
+        omega (arith, own .busy, all, tight, narrow, within, mul-le-mul-left (own .periods) within, mul-le-mul-right {m = u} {n = 1} C few),
+      )
