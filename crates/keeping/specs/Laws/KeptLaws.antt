@@ -7,7 +7,7 @@ use native.Mathlib.Nat.{le-trans, zero-mul, add-mul, mul-le-mul-left, mul-le-mul
 use native.Mathlib.Decide.{ℕ-discrete}
 use native.Mathlib.Omega.{arith}
 use mathlib.Core.List.{List}
-use lib.ListN.{length, getD, set, replicate, length-set, getD-replicate}
+use lib.ListN.{getD, set, replicate, length-set, getD-replicate}
 use lib.Seq.{getD-set-same, getD-set-other}
 use Rattle.timing.specs.Response.{roundedUp}
 use Rattle.timing.specs.Laws.ResponseLaws.{roundedUp-below, roundedUp-mono, roundedUp-tight}
@@ -60,14 +60,14 @@ kept-right {C} {P} {r} own positive reached =
 kept-set : {Cs Ps : List ℕ} {n r : ℕ} {ends times : List ℕ} → Kept Cs Ps n r ends times → n ≤ 8 → (k : ℕ) → k < n
     → {x y : ℕ} → KeptPeriods (getD Cs k 0) (getD Ps k 0) r x y → Kept Cs Ps n r (set ends k x) (set times k y)
 kept-set {ends} {times} kept few k lt {x} {y} own =
+    let end = getD-set-same ends k x 0 (omega (arith, kept .endsFull)) in
+    let time = getD-set-same times k y 0 (omega (arith, kept .timesFull)) in
     record {
       endsFull = length-set ends k _ ∙ kept .endsFull;
       timesFull = length-set times k _ ∙ kept .timesFull;
       held = λ j l.
           elim (ℕ-discrete j k) [
-            | yes same ↦
-                rw (same, getD-set-same ends k x 0 (omega (arith, kept .endsFull)), getD-set-same times k y 0 (omega (arith, kept .timesFull)))
-                own
+            | yes same ↦ rw (same, end, time) own
             | no other ↦ rw (getD-set-other ends k j x 0 other, getD-set-other times k j y 0 other) (kept .held j l)
           ];
     }
@@ -93,11 +93,13 @@ module _ {Cs Ps : List ℕ} {n : ℕ} (bounded : BoundedTimes Cs Ps n) (k : ℕ)
   pub reached-anew : {r u : ℕ} {ends times ends′ times′ : List ℕ} → Kept Cs Ps n r ends times
       → u ≡ roundedUp r (getD Ps k 0) → ends′ ≡ set ends k (u * getD Ps k 0) → times′ ≡ set times k (u * getD Cs k 0)
       → Reached Cs Ps n r k ends′ times′
-  reached-anew {u} {times} kept q e f =
+  reached-anew {r} {u} {times} kept q e f =
+      let own : KeptPeriods (getD Cs k 0) (getD Ps k 0) r (u * getD Ps k 0) (u * getD Cs k 0) =
+      record { periods = u; most = rw q (omega arith); ends = refl; busy = refl } in
       let stored = getD-set-same times k (u * getD Cs k 0) 0 (omega (arith, bounded .few, kept .timesFull)) in
       rw (e, f)
       (record {
-        kept = kept-set kept (bounded .few) k lt (record { periods = u; most = rw q (omega arith); ends = refl; busy = refl });
+        kept = kept-set kept (bounded .few) k lt own;
         right = stored ∙ ap (λ (x : ℕ). x * getD Cs k 0) q;
       })
 
