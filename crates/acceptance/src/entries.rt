@@ -17,7 +17,7 @@ ghost use mathlib.Core.Path.{_≡_};
 ghost use Rattle.timing.specs.Accepted.{accept};
 ghost use Rattle.timing.specs.Code.AcceptParts.{AcceptedAs};
 ghost use Rattle.timing.specs.ReadEntries.{readAnswer};
-ghost use Rattle.acceptance.specs.Laws.ReadLaws.{refusedRead};
+ghost use Rattle.acceptance.specs.Code.ReadParts.{refusedRead};
 
 // The answer of a file that is refused: no response time and no job.
 pub fn refused_file(number: u8, place: u8, table: Table) -> AcceptAnswer

@@ -4,7 +4,7 @@ use snapshots::DEPTH;
 use snapshots::FAILED;
 use snapshots::PROGRAM;
 use snapshots::STATE;
-use snapshots::UPCOMING;
+use snapshots::UNENDED;
 use taskfile::Task;
 use taskfile::limits::JOBS;
 use taskfile::limits::MOST_TASKS;
@@ -12,16 +12,16 @@ use timing::Job;
 ghost use mathlib.Core.Path.{_≡_};
 ghost use Prim.Native.Nat.{_<_};
 ghost use Rattle.notation.specs.Lists.{any, upTo};
-ghost use Rattle.snapshots.specs.Code.SnapshotSteps.{hasUpcoming, finishedIn};
+ghost use Rattle.snapshots.specs.Code.SnapshotSteps.{hasUnended, finishedIn};
 ghost use Rattle.states.specs.Code.StateBytes.{snapshotIn};
 
-// Has some task a job not yet begun?
-pub fn some_upcoming(program: &[u8; PROGRAM], s: &[u8; STATE]) -> bool
-    ensures { λ b. ⌜ b ≡ any (hasUpcoming (now (program .entry)) (snapshotIn (now (s .entry)) .upcoming)) (upTo 8) ⌝ }
+// Has some task a job not yet ended?
+pub fn some_unended(program: &[u8; PROGRAM], s: &[u8; STATE]) -> bool
+    ensures { λ b. ⌜ b ≡ any (hasUnended (now (program .entry)) (snapshotIn (now (s .entry)) .unended)) (upTo 8) ⌝ }
 {
     let mut k: u8 = 0;
     while k < MOST_TASKS {
-        let x = Job(s[UPCOMING + (k as usize)]);
+        let x = Job(s[UNENDED + (k as usize)]);
         if owned_by(program, Task(k), x) {
             return true;
         }
@@ -37,7 +37,7 @@ pub fn finished(program: &[u8; PROGRAM], s: &[u8; STATE]) -> bool
     if s[DEPTH] != 0 {
         return false;
     }
-    !some_upcoming(program, s)
+    !some_unended(program, s)
 }
 
 // The flags of the failed jobs.

@@ -3,7 +3,7 @@ use snapshots::OWNERS;
 use snapshots::PROGRAM;
 use snapshots::STATE;
 use snapshots::STORE;
-use snapshots::UPCOMING;
+use snapshots::UNENDED;
 use states::put_eight;
 use taskfile::Task;
 use taskfile::limits::MOST_JOBS;
@@ -15,7 +15,7 @@ ghost use Rattle.snapshots.specs.Code.SnapshotSteps.{firstFrom, firstSnapshot};
 ghost use Rattle.states.specs.Code.StateBytes.{snapshotIn, IsState};
 
 // The number of the first job of task i or above, or 32.
-pub fn first_upcoming(program: &[u8; PROGRAM], i: Task) -> Job
+pub fn first_unended(program: &[u8; PROGRAM], i: Task) -> Job
     requires { ⌜ i .0 < 8 ⌝ }
     ensures { λ x. ⌜ x .0 ≡ firstFrom (now (program .entry)) (i .0) 0 32 ⌝ }
 {
@@ -35,18 +35,18 @@ pub fn first_state(program: &[u8; PROGRAM], store: [u8; VARIABLES]) -> [u8; STAT
     ensures shown { λ r. ⌜ snapshotIn r ≡ firstSnapshot (now (program .entry)) store ⌝ }
     ensures whole { λ r. ⌜ IsState r ⌝ }
 {
-    let upcoming = [
-        first_upcoming(program, Task(0)).0,
-        first_upcoming(program, Task(1)).0,
-        first_upcoming(program, Task(2)).0,
-        first_upcoming(program, Task(3)).0,
-        first_upcoming(program, Task(4)).0,
-        first_upcoming(program, Task(5)).0,
-        first_upcoming(program, Task(6)).0,
-        first_upcoming(program, Task(7)).0,
+    let unended = [
+        first_unended(program, Task(0)).0,
+        first_unended(program, Task(1)).0,
+        first_unended(program, Task(2)).0,
+        first_unended(program, Task(3)).0,
+        first_unended(program, Task(4)).0,
+        first_unended(program, Task(5)).0,
+        first_unended(program, Task(6)).0,
+        first_unended(program, Task(7)).0,
     ];
     let mut s = [0u8; STATE];
     put_eight(&mut s, STORE, store);
-    put_eight(&mut s, UPCOMING, upcoming);
+    put_eight(&mut s, UNENDED, unended);
     s
 }

@@ -1,45 +1,79 @@
-// What is lent to the steps of an accepted table's orders: the table in arrays of numbers, and the state that an order
-// starts from.
+// What is lent to the steps of an accepted table's orders, and to the runs of its plans: the table in arrays of numbers,
+// and the state that an order starts from.
 pub mod first;
+pub mod waits;
 
 use crate::first::first_state;
+use crate::waits::waits_of;
 use filling::program_of;
 use filling::times_of;
 use snapshots::PROGRAM;
 use snapshots::STATE;
 use snapshots::TIMES;
+use snapshots::WAITS;
 use taskfile::Ceilings;
 use taskfile::Table;
 use timing::JobList;
+ghost use mathlib.Core.Path.{_≡_};
 ghost use Prim.Native.Nat.{_≤_};
 ghost use Rattle.taskfile.specs.Code.JudgingParts.{Shaped};
-ghost use Rattle.lending.specs.Code.Lending.{LentOf};
+ghost use Rattle.lending.specs.Code.Lending.{LentOf, TimesOf, locksOf};
 
-// What is lent of a table and its jobs: the program, the times, the ceilings, and the state that an order starts from.
+// What is lent to steps: the program, the wait table, the ceilings, and the state that an order starts from.
 pub struct Lent {
     pub program: [u8; PROGRAM],
-    pub times: [u64; TIMES],
+    pub waits: [u8; WAITS],
     pub locks: Ceilings,
     pub start: [u8; STATE],
 }
 
-// What is lent of a table and its jobs.
+// What is lent to the runs of a plan: the program, the times and the ceilings.
+pub struct LentTimes {
+    pub program: [u8; PROGRAM],
+    pub times: [u64; TIMES],
+    pub locks: Ceilings,
+}
+
+// The ceilings of a table's locks.
+pub fn locks_of(t: Table) -> Ceilings
+    ensures { λ r. ⌜ r ≡ locksOf t ⌝ }
+{
+    let ceilings = t.ceilings;
+    Ceilings {
+        count: t.locks,
+        ceilings: ceilings,
+    }
+}
+
+// What is lent of a table and its jobs to the runs of a plan.
+pub fn lend_times(t: Table, list: JobList) -> LentTimes
+    requires { ⌜ Shaped t × (list .count ≤ 32) ⌝ }
+    ensures { λ r. ⌜ TimesOf t list r ⌝ }
+{
+    let program = program_of(t, list);
+    let times = times_of(list);
+    let locks = locks_of(t);
+    LentTimes {
+        program: program,
+        times: times,
+        locks: locks,
+    }
+}
+
+// What is lent of a table and its jobs to steps.
 pub fn lend(t: Table, list: JobList) -> Lent
     requires { ⌜ Shaped t × (list .count ≤ 32) ⌝ }
     ensures { λ r. ⌜ LentOf t list r ⌝ }
 {
     let program = program_of(t, list);
     let times = times_of(list);
-    let ceilings = t.ceilings;
-    let locks = Ceilings {
-        count: t.locks,
-        ceilings: ceilings,
-    };
+    let waits = waits_of(&program, &times, list.count);
+    let locks = locks_of(t);
     let store = t.store;
     let start = first_state(&program, store);
     Lent {
         program: program,
-        times: times,
+        waits: waits,
         locks: locks,
         start: start,
     }

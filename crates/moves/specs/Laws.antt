@@ -2,4 +2,4 @@ pub mod DueLaws
 pub mod FirstLaws
 pub mod NextLaws
 pub mod OfferLaws
-pub mod StateLaws
+pub mod RunningLaws

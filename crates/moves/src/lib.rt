@@ -3,31 +3,32 @@ use locals::values::highest;
 use locals::values::lowest;
 use machine::POSITIONS;
 use programs::instruction_at;
-use programs::owned_by;
 use snapshots::DEPTH;
 use snapshots::Due;
 use snapshots::FRAME;
 use snapshots::LAST_VALUE;
-use snapshots::NO_JOB;
 use snapshots::NO_MOVE;
+use snapshots::NO_TASK;
 use snapshots::OWNERS;
 use snapshots::PROGRAM;
 use snapshots::STACK;
 use snapshots::STATE;
-use snapshots::TIMES;
-use snapshots::UPCOMING;
 use snapshots::VALUES;
+use snapshots::WAITS;
+use starts::may_start;
 use starts::no_turn;
-use taskfile::Ceilings;
+use starts::start_turn;
 use taskfile::Instruction;
 use taskfile::Task;
+use taskfile::limits::MOST_JOBS;
 use taskfile::limits::MOST_TASKS;
-use timing::Job;
-use turns::turn_of;
+use turns::top_turn;
 ghost use mathlib.Core.Path.{_≡_};
 ghost use Prim.Native.Nat.{_≤_, _<_};
+ghost use Rattle.taskfile.specs.declared.Ceilings.{Ceilings};
+ghost use Rattle.snapshots.specs.Code.SnapshotSteps.{levelIn};
 ghost use Rattle.states.specs.Code.StateBytes.{snapshotIn, IsState};
-ghost use Rattle.moves.specs.Code.MoveParts.{NextStep, firstByte, firstFrom, maybeDue, topJob, valueAfter};
+ghost use Rattle.moves.specs.Code.MoveParts.{NextStep, MoveOf, noMove, firstByte, firstFrom, runningTask, valueAfter};
 
 // A move: its order byte, or `NO_MOVE`, the byte from which on the next move is looked for, and whose turn it is.
 pub struct Candidate {
@@ -67,74 +68,10 @@ pub fn byte_after(o: Instruction, byte: u8) -> u8
     byte + 1
 }
 
-// May it be task i's turn, where `top` is the active job started last, or `NO_JOB`? Not if that is not one of task i
-// and task i has no job left. This spares the full test for most tasks.
-pub fn may_be_due(program: &[u8; PROGRAM], s: &[u8; STATE], top: Job, i: Task) -> bool
-    requires { ⌜ i .0 < 8 ⌝ }
-    ensures { λ b. ⌜ b ≡ maybeDue (now (program .entry)) (snapshotIn (now (s .entry)) .upcoming) (top .0) (i .0) ⌝ }
+// No move is left.
+pub fn no_move() -> Candidate
+    ensures { λ m. ⌜ m ≡ noMove ⌝ }
 {
-    if owned_by(program, i, top) {
-        return true;
-    }
-    owned_by(program, i, Job(s[UPCOMING + (i.0 as usize)]))
-}
-
-// The first byte from `byte` on of a task that is not below that of `top`, the active job started last, or `NO_JOB`:
-// no task below has a turn.
-pub fn first_byte(program: &[u8; PROGRAM], top: Job, byte: u8) -> u8
-    ensures { λ r. ⌜ r ≡ firstByte (now (program .entry)) (top .0) byte ⌝ }
-{
-    if NO_JOB <= top.0 {
-        return byte;
-    }
-    let base = program[OWNERS + (top.0 as usize)];
-    if MOST_TASKS <= base {
-        return byte;
-    }
-    let first = VALUES * base;
-    if byte < first {
-        return first;
-    }
-    byte
-}
-
-// The first byte from `byte` on that is a step, or `NO_MOVE`, where `top` is the active job started last, or `NO_JOB`.
-pub fn next_move(
-    program: &[u8; PROGRAM],
-    times: &[u64; TIMES],
-    locks: Ceilings,
-    s: &[u8; STATE],
-    top: Job,
-    byte: u8,
-) -> Candidate
-    requires { ⌜ (locks .count ≤ 8) × IsState (now s) × (byte ≤ 128) × (top .0 ≡ topJob (snapshotIn (now s))) ⌝ }
-    ensures { λ m. ⌜ NextStep (now (program .entry)) (now (times .entry)) locks (snapshotIn (now (s .entry))) byte m ⌝ }
-{
-    let mut at = first_byte(program, top, byte);
-    while at < NO_MOVE {
-        let i = Task(at / VALUES);
-        if may_be_due(program, s, top, i) {
-            let d = turn_of(program, times, locks, s, i);
-            if d.due {
-                let f = d.frame;
-                let local = f.local;
-                let next = local.next;
-                if next < POSITIONS {
-                    let o = instruction_at(program, i, next);
-                    let v = first_from(o, at % VALUES);
-                    if v < VALUES {
-                        let found = VALUES * i.0 + v;
-                        return Candidate {
-                            byte: found,
-                            next: byte_after(o, found),
-                            turn: d,
-                        };
-                    }
-                }
-            }
-        }
-        at = VALUES * (at / VALUES + 1);
-    }
     Candidate {
         byte: NO_MOVE,
         next: NO_MOVE,
@@ -142,15 +79,91 @@ pub fn next_move(
     }
 }
 
-// The active job started last, or `NO_JOB`.
-pub fn top_job(s: &[u8; STATE]) -> Job
+// The first move from `byte` on of the task whose turn this is, if it has one.
+pub fn move_of(program: &[u8; PROGRAM], d: Due, byte: u8) -> Candidate
+    requires { ⌜ byte < 128 ⌝ }
+    ensures { λ m. ⌜ MoveOf (now (program .entry)) d byte m ⌝ }
+{
+    let f = d.frame;
+    let local = f.local;
+    let next = local.next;
+    if POSITIONS <= next {
+        return no_move();
+    }
+    let i = byte / VALUES;
+    let o = instruction_at(program, Task(i), next);
+    let v = first_from(o, byte % VALUES);
+    if VALUES <= v {
+        return no_move();
+    }
+    let found = VALUES * i + v;
+    Candidate {
+        byte: found,
+        next: byte_after(o, found),
+        turn: d,
+    }
+}
+
+// The task of the active job started last, or `NO_TASK`.
+pub fn running_task(program: &[u8; PROGRAM], s: &[u8; STATE]) -> u8
     requires { ⌜ IsState (now s) ⌝ }
-    ensures { λ x. ⌜ x .0 ≡ topJob (snapshotIn (now (s .entry))) ⌝ }
+    ensures { λ n. ⌜ n ≡ runningTask (now (program .entry)) (snapshotIn (now (s .entry))) ⌝ }
 {
     let depth = s[DEPTH];
     if depth == 0 {
-        return Job(NO_JOB);
+        return NO_TASK;
     }
-    let last = (depth - 1) as usize;
-    Job(s[STACK + FRAME * last])
+    let x = s[STACK + FRAME * ((depth - 1) as usize)];
+    if MOST_JOBS <= x {
+        return NO_TASK;
+    }
+    program[OWNERS + (x as usize)]
+}
+
+// The first byte from `byte` on of a task that is not below `top`, the running job's, or `NO_TASK`: no task below has
+// a turn.
+pub fn first_byte(top: u8, byte: u8) -> u8
+    ensures { λ r. ⌜ r ≡ firstByte top byte ⌝ }
+{
+    if MOST_TASKS <= top {
+        return byte;
+    }
+    let first = VALUES * top;
+    if byte < first {
+        return first;
+    }
+    byte
+}
+
+// The first byte from `byte` on that is a step, or `NO_MOVE`, where `top` is the running job's task and `low` the level
+// that a start must reach. The two are found once for a state.
+pub fn next_move(
+    program: &[u8; PROGRAM],
+    waits: &[u8; WAITS],
+    s: &[u8; STATE],
+    top: u8,
+    low: u8,
+    byte: u8,
+) -> Candidate
+    requires { ⌜ IsState (now s) × (byte ≤ 128) × (top ≡ runningTask (now program) (snapshotIn (now s))) ⌝ }
+    ensures { λ m. ⌜ ((locks : Ceilings) → low ≡ levelIn (now (program .entry)) locks (snapshotIn (now (s .entry)))
+        → NextStep (now (program .entry)) (now (waits .entry)) locks (snapshotIn (now (s .entry))) byte m) ⌝ }
+{
+    let mut at = first_byte(top, byte);
+    while at < NO_MOVE {
+        let i = at / VALUES;
+        if i == top {
+            let m = move_of(program, top_turn(s), at);
+            if m.byte < NO_MOVE {
+                return m;
+            }
+        } else if may_start(program, waits, s, low, Task(i)) {
+            let m = move_of(program, start_turn(s, Task(i)), at);
+            if m.byte < NO_MOVE {
+                return m;
+            }
+        }
+        at = VALUES * (at / VALUES + 1);
+    }
+    no_move()
 }

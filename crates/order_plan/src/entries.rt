@@ -31,7 +31,7 @@ pub fn write_plan(t: Table, list: JobList, order: &[u8], out: &mut [u8]) -> usiz
 {
     let l = lend(t, list);
     let program = l.program;
-    let times = l.times;
+    let waits = l.waits;
     let start = l.start;
     let mut marks = [0u8; MARKS];
     let mut guesses = [0u8; STORES];
@@ -39,7 +39,7 @@ pub fn write_plan(t: Table, list: JobList, order: &[u8], out: &mut [u8]) -> usiz
     put_store(&mut guesses, Round(0), store);
     trace_order(
         &program,
-        &times,
+        &waits,
         l.locks,
         start,
         order,

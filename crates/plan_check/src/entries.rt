@@ -4,7 +4,7 @@ use crate::legality::legality_fault;
 use acceptance::entries::accept_file;
 use answers::ended_run;
 use answers::refused_run;
-use lending::lend;
+use lending::lend_times;
 use machine::RunAnswer;
 use marks::PlanChecked;
 use plan_runs::run_plan;
@@ -22,7 +22,7 @@ pub fn check_table(t: Table, list: JobList, plan: &[u8]) -> PlanChecked
     requires { ⌜ Shaped t × (list .count ≤ 32) ⌝ }
     ensures { λ r. ⌜ PlanCheckedOf t list (now (plan .entry)) r ⌝ }
 {
-    let l = lend(t, list);
+    let l = lend_times(t, list);
     let program = l.program;
     let times = l.times;
     let k = list.count;

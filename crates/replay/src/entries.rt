@@ -22,10 +22,10 @@ pub fn replay_table(t: Table, list: JobList, order: &[u8]) -> Replayed
 {
     let l = lend(t, list);
     let program = l.program;
-    let times = l.times;
+    let waits = l.waits;
     let locks = l.locks;
     let start = l.start;
-    replay_from(&program, &times, locks, t.tasks, start, order)
+    replay_from(&program, &waits, locks, t.tasks, start, order)
 }
 
 // The replay's entry: the file's numbers, then at each byte 32, 33, 30 and 34, and 31 after the last, or the end store

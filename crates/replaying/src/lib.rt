@@ -5,8 +5,8 @@ use snapshots::PROGRAM;
 use snapshots::Replayed;
 use snapshots::STATE;
 use snapshots::STORE;
-use snapshots::TIMES;
 use snapshots::VALUES;
+use snapshots::WAITS;
 use states::eight_at;
 use steps::step;
 use taskfile::Ceilings;
@@ -41,21 +41,21 @@ fn outcome(number: u8, index: usize, s: &[u8; STATE]) -> Replayed
 // turn, else 34, since its value is not on offer.
 fn slip(
     program: &[u8; PROGRAM],
-    times: &[u64; TIMES],
+    waits: &[u8; WAITS],
     locks: Ceilings,
     tasks: u8,
     s: &[u8; STATE],
     byte: u8,
 ) -> u8
     requires { ⌜ (locks .count ≤ 8) × IsState (now s) ⌝ }
-    ensures { λ n. ⌜ n ≡ slipIn (now (program .entry)) (now (times .entry)) locks tasks
+    ensures { λ n. ⌜ n ≡ slipIn (now (program .entry)) (now (waits .entry)) locks tasks
         (snapshotIn (now (s .entry))) byte ⌝ }
 {
     let i = byte / VALUES;
     if tasks <= i {
         return TASK;
     }
-    let d = turn_of(program, times, locks, s, Task(i));
+    let d = turn_of(program, waits, locks, s, Task(i));
     if !d.due {
         return STEP;
     }
@@ -65,14 +65,14 @@ fn slip(
 // The replay of an order's bytes from a state on, in a table with so many tasks.
 pub fn replay_from(
     program: &[u8; PROGRAM],
-    times: &[u64; TIMES],
+    waits: &[u8; WAITS],
     locks: Ceilings,
     tasks: u8,
     start: [u8; STATE],
     order: &[u8],
 ) -> Replayed
     requires { ⌜ (locks .count ≤ 8) × IsState start ⌝ }
-    ensures { λ r. ⌜ r ≡ replayedOf (replayIn (now (program .entry)) (now (times .entry)) locks tasks
+    ensures { λ r. ⌜ r ≡ replayedOf (replayIn (now (program .entry)) (now (waits .entry)) locks tasks
         (snapshotIn start) 0 (now (order .entry))) ⌝ }
 {
     let mut s = start;
@@ -82,8 +82,8 @@ pub fn replay_from(
             return outcome(EXTRA, index, &s);
         }
         let byte = order[index];
-        if !step(program, times, locks, &mut s, byte) {
-            let number = slip(program, times, locks, tasks, &s, byte);
+        if !step(program, waits, locks, &mut s, byte) {
+            let number = slip(program, waits, locks, tasks, &s, byte);
             return outcome(number, index, &s);
         }
         index += 1;

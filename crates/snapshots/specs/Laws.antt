@@ -10,3 +10,4 @@ pub mod StartLaws
 pub mod StepPartLaws
 pub mod TurnAgreed
 pub mod TurnLaws
+pub mod WaitLaws

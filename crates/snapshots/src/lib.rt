@@ -27,11 +27,11 @@ pub const LAST_VALUE: u8 = VALUES - 1;
 // Where the store stands.
 pub const STORE: usize = 0;
 
-// Where the first job not yet begun of each task stands.
-pub const UPCOMING: usize = STORE + VARIABLES;
+// Where the first job not yet ended of each task stands.
+pub const UNENDED: usize = STORE + VARIABLES;
 
 // Where the flag of each job stands, 1 if it has failed.
-pub const FAILED: usize = UPCOMING + TASKS;
+pub const FAILED: usize = UNENDED + TASKS;
 
 // Where the number of active jobs stands.
 pub const DEPTH: usize = FAILED + JOBS;
@@ -61,6 +61,9 @@ pub const OWNERS: usize = BODY * TASKS;
 
 // Bytes of a program.
 pub const PROGRAM: usize = OWNERS + JOBS;
+
+// Bytes of a wait table: one for each job and task.
+pub const WAITS: usize = JOBS * TASKS;
 
 // Where the latest finish of each job stands among the times, after the arrivals.
 pub const LATEST: usize = JOBS;

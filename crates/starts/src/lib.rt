@@ -1,50 +1,50 @@
 // Which job of a task may start at a state.
 use locals::registers::fresh_local;
 use order::Frame;
-use precedence::goes_over_all;
+use precedence::level;
 use precedence::must_wait;
 use programs::owned_by;
 use snapshots::DEPTH;
 use snapshots::Due;
 use snapshots::PROGRAM;
 use snapshots::STATE;
-use snapshots::TIMES;
-use snapshots::UPCOMING;
+use snapshots::UNENDED;
+use snapshots::WAITS;
 use taskfile::Ceilings;
 use taskfile::Task;
 use taskfile::limits::MOST_TASKS;
 use timing::Job;
 ghost use mathlib.Core.Path.{_≡_};
 ghost use Prim.Native.Nat.{_≤_, _<_};
-ghost use Rattle.snapshots.specs.Code.SnapshotSteps.{nobody, startsIn, startIn};
+ghost use Rattle.snapshots.specs.Code.SnapshotSteps.{nobody, startsAbove, startTurn, startIn};
 ghost use Rattle.states.specs.Code.StateBytes.{snapshotIn, IsState};
 
-// May task i's first job not yet begun start?
+// May task i's first job not yet ended start, if its base is not below the level `low`?
 pub fn may_start(
     program: &[u8; PROGRAM],
-    times: &[u64; TIMES],
-    locks: Ceilings,
+    waits: &[u8; WAITS],
     s: &[u8; STATE],
+    low: u8,
     i: Task,
 ) -> bool
-    requires { ⌜ (locks .count ≤ 8) × IsState (now s) ⌝ }
-    ensures { λ b. ⌜ b ≡ startsIn (now (program .entry)) (now (times .entry)) locks
+    requires { ⌜ IsState (now s) ⌝ }
+    ensures { λ b. ⌜ b ≡ startsAbove (now (program .entry)) (now (waits .entry)) low
         (snapshotIn (now (s .entry))) (i .0) ⌝ }
 {
     if MOST_TASKS <= i.0 {
         return false;
     }
+    if i.0 < low {
+        return false;
+    }
     if MOST_TASKS <= s[DEPTH] {
         return false;
     }
-    let y = Job(s[UPCOMING + (i.0 as usize)]);
+    let y = Job(s[UNENDED + (i.0 as usize)]);
     if !owned_by(program, i, y) {
         return false;
     }
-    if must_wait(program, times, s, y) {
-        return false;
-    }
-    goes_over_all(program, times, locks, s, y)
+    !must_wait(waits, s, y)
 }
 
 // It is nobody's turn.
@@ -61,25 +61,12 @@ pub fn no_turn() -> Due
     }
 }
 
-// The start of task i's first job not yet begun, if it may start.
-pub fn start_of(
-    program: &[u8; PROGRAM],
-    times: &[u64; TIMES],
-    locks: Ceilings,
-    s: &[u8; STATE],
-    i: Task,
-) -> Due
-    requires { ⌜ (locks .count ≤ 8) × IsState (now s) ⌝ }
-    ensures { λ d. ⌜ d ≡ startIn (now (program .entry)) (now (times .entry)) locks
-        (snapshotIn (now (s .entry))) (i .0) ⌝ }
+// The turn of task i's first job not yet ended, which starts.
+pub fn start_turn(s: &[u8; STATE], i: Task) -> Due
+    requires { ⌜ i .0 < 8 ⌝ }
+    ensures { λ d. ⌜ d ≡ startTurn (snapshotIn (now (s .entry))) (i .0) ⌝ }
 {
-    if MOST_TASKS <= i.0 {
-        return no_turn();
-    }
-    if !may_start(program, times, locks, s, i) {
-        return no_turn();
-    }
-    let y = Job(s[UPCOMING + (i.0 as usize)]);
+    let y = Job(s[UNENDED + (i.0 as usize)]);
     Due {
         due: true,
         frame: Frame {
@@ -88,4 +75,26 @@ pub fn start_of(
         },
         under: s[DEPTH],
     }
+}
+
+// The start of task i's first job not yet ended, if it may start.
+pub fn start_of(
+    program: &[u8; PROGRAM],
+    waits: &[u8; WAITS],
+    locks: Ceilings,
+    s: &[u8; STATE],
+    i: Task,
+) -> Due
+    requires { ⌜ (locks .count ≤ 8) × IsState (now s) ⌝ }
+    ensures { λ d. ⌜ d ≡ startIn (now (program .entry)) (now (waits .entry)) locks
+        (snapshotIn (now (s .entry))) (i .0) ⌝ }
+{
+    if MOST_TASKS <= i.0 {
+        return no_turn();
+    }
+    let low = level(program, locks, s);
+    if !may_start(program, waits, s, low, i) {
+        return no_turn();
+    }
+    start_turn(s, i)
 }

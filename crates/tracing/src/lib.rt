@@ -10,8 +10,8 @@ use snapshots::DEPTH;
 use snapshots::PROGRAM;
 use snapshots::STATE;
 use snapshots::STORE;
-use snapshots::TIMES;
 use snapshots::VALUES;
+use snapshots::WAITS;
 use states::eight_at;
 use steps::step_with;
 use taskfile::Ceilings;
@@ -56,7 +56,7 @@ pub fn next_round(s: &[u8; STATE], r: Round, guesses: &mut [u8; STORES]) -> Roun
 // step: the next one, if the job has ended. The tests never hold for a complete order.
 pub fn trace_step(
     program: &[u8; PROGRAM],
-    times: &[u64; TIMES],
+    waits: &[u8; WAITS],
     locks: Ceilings,
     s: &mut [u8; STATE],
     byte: u8,
@@ -65,12 +65,12 @@ pub fn trace_step(
     guesses: &mut [u8; STORES],
 ) -> Round
     requires { ⌜ (locks .count ≤ 8) × AreNoted (now s) (now marks) (now guesses) ⌝ }
-    ensures { λ q. ⌜ NotedStep (now (program .entry)) (now (times .entry)) locks
+    ensures { λ q. ⌜ NotedStep (now (program .entry)) (now (waits .entry)) locks
         (notedOf (now (s .entry)) r (now (marks .entry)) (now (guesses .entry))) byte
         (now (s .exit)) (now (marks .exit)) (now (guesses .exit)) q ⌝ }
 {
     let i = Task(byte / VALUES);
-    let d = turn_of(program, times, locks, s, i);
+    let d = turn_of(program, waits, locks, s, i);
     if !d.due {
         return r;
     }
@@ -92,7 +92,7 @@ pub fn trace_step(
 // Traces a complete order from its first state on.
 pub fn trace_order(
     program: &[u8; PROGRAM],
-    times: &[u64; TIMES],
+    waits: &[u8; WAITS],
     locks: Ceilings,
     start: [u8; STATE],
     order: &[u8],
@@ -100,7 +100,7 @@ pub fn trace_order(
     guesses: &mut [u8; STORES],
 )
     requires { ⌜ (locks .count ≤ 8) × AreNoted start (now marks) (now guesses) ⌝ }
-    ensures { λ _. ⌜ NotedOrder (now (program .entry)) (now (times .entry)) locks
+    ensures { λ _. ⌜ NotedOrder (now (program .entry)) (now (waits .entry)) locks
         (notedOf start (record { 0 = 0 }) (now (marks .entry)) (now (guesses .entry))) (now (order .entry))
         (now (marks .exit)) (now (guesses .exit)) ⌝ }
 {
@@ -110,7 +110,7 @@ pub fn trace_order(
     while index < order.len() {
         r = trace_step(
             program,
-            times,
+            waits,
             locks,
             &mut s,
             order[index],

@@ -1,18 +1,19 @@
 // The walk of a state and the trial of its moves, which call each other.
 use ends::finished;
 use moves::next_move;
-use moves::top_job;
+use moves::running_task;
 use outcomes::Outcome;
 use outcomes::ended;
 use outcomes::held;
 use outcomes::stopped;
+use precedence::level;
 use snapshots::LAST_STEP;
 use snapshots::NO_MOVE;
 use snapshots::ORDER_ROOM;
 use snapshots::PROGRAM;
 use snapshots::STATE;
-use snapshots::TIMES;
 use snapshots::VALUES;
+use snapshots::WAITS;
 use steps::step_with;
 use taskfile::Ceilings;
 use taskfile::Task;
@@ -24,7 +25,7 @@ ghost use Rattle.trials.specs.Code.Trials.{Left, WalksAs, TriesAs};
 // The walk of a state, on a path with room for `left` more bytes, when `count` moves were made before.
 pub fn walk(
     program: &[u8; PROGRAM],
-    times: &[u64; TIMES],
+    waits: &[u8; WAITS],
     locks: Ceilings,
     s: &[u8; STATE],
     left: usize,
@@ -35,7 +36,7 @@ pub fn walk(
     requires { ⌜ (locks .count ≤ 8) × IsState (now s) × (left ≤ 512) × (count ≤ allowance)
         × (512 ≤ length (now out)) ⌝ }
     ensures room { λ r. ⌜ Left (512 - left) allowance (now (out .entry)) (now (out .exit)) r ⌝ }
-    ensures came { λ r. ⌜ WalksAs (now (program .entry)) (now (times .entry)) locks (snapshotIn (now (s .entry)))
+    ensures came { λ r. ⌜ WalksAs (now (program .entry)) (now (waits .entry)) locks (snapshotIn (now (s .entry)))
         left count allowance (now (out .entry)) (now (out .exit)) r ⌝ }
 {
     if finished(program, s) {
@@ -44,13 +45,13 @@ pub fn walk(
     if left == 0 {
         return held(count);
     }
-    trial(program, times, locks, s, left - 1, count, allowance, out)
+    trial(program, waits, locks, s, left - 1, count, allowance, out)
 }
 
 // The trial of a state's moves, each with room for `left` bytes after it.
 pub fn trial(
     program: &[u8; PROGRAM],
-    times: &[u64; TIMES],
+    waits: &[u8; WAITS],
     locks: Ceilings,
     s: &[u8; STATE],
     left: usize,
@@ -61,13 +62,18 @@ pub fn trial(
     requires { ⌜ (locks .count ≤ 8) × IsState (now s) × (left < 512) × (count ≤ allowance)
         × (512 ≤ length (now out)) ⌝ }
     ensures room { λ r. ⌜ Left (511 - left) allowance (now (out .entry)) (now (out .exit)) r ⌝ }
-    ensures came { λ r. ⌜ TriesAs (now (program .entry)) (now (times .entry)) locks (snapshotIn (now (s .entry)))
+    ensures came { λ r. ⌜ TriesAs (now (program .entry)) (now (waits .entry)) locks (snapshotIn (now (s .entry)))
         left count allowance (now (out .entry)) (now (out .exit)) r ⌝ }
 {
     let mut made = count;
-    let top = top_job(s);
-    let mut m = next_move(program, times, locks, s, top, 0);
-    while m.byte < NO_MOVE {
+    let top = running_task(program, s);
+    let low = level(program, locks, s);
+    let mut at: u8 = 0;
+    while at < NO_MOVE {
+        let m = next_move(program, waits, s, top, low, at);
+        if NO_MOVE <= m.byte {
+            return held(made);
+        }
         if allowance <= made {
             return stopped(made);
         }
@@ -77,7 +83,7 @@ pub fn trial(
         let mut next = *s;
         let i = Task(m.byte / VALUES);
         step_with(program, &mut next, f, d.under, i, m.byte % VALUES);
-        let r = walk(program, times, locks, &next, left, made + 1, allowance, out);
+        let r = walk(program, waits, locks, &next, left, made + 1, allowance, out);
         if r.found {
             return r;
         }
@@ -85,7 +91,7 @@ pub fn trial(
             return r;
         }
         made = r.count;
-        m = next_move(program, times, locks, s, top, m.next);
+        at = m.next;
     }
     held(made)
 }

@@ -10,7 +10,7 @@ use snapshots::FRAME;
 use snapshots::PROGRAM;
 use snapshots::STACK;
 use snapshots::STATE;
-use snapshots::TIMES;
+use snapshots::WAITS;
 use starts::start_of;
 use states::frame_at;
 use taskfile::Ceilings;
@@ -20,7 +20,7 @@ use timing::Job;
 ghost use mathlib.Core.Path.{_≡_};
 ghost use Prim.Native.Nat.{_≤_, _<_};
 ghost use mathlib.Core.Bool.{true};
-ghost use Rattle.snapshots.specs.Code.SnapshotSteps.{turnIn, runsIn, offeredIn};
+ghost use Rattle.snapshots.specs.Code.SnapshotSteps.{topTurn, turnIn, runsIn, offeredIn};
 ghost use Rattle.states.specs.Code.StateBytes.{snapshotIn, IsState};
 
 // Is the active job started last one of task i? Tasks are below 8, so that no other number is taken for an index.
@@ -39,28 +39,36 @@ pub fn runs(program: &[u8; PROGRAM], s: &[u8; STATE], i: Task) -> bool
     owned_by(program, i, Job(s[STACK + FRAME * top]))
 }
 
+// The turn of the active job started last.
+pub fn top_turn(s: &[u8; STATE]) -> Due
+    requires { ⌜ IsState (now s) × (1 ≤ snapshotIn (now s) .depth) ⌝ }
+    ensures { λ d. ⌜ d ≡ topTurn (snapshotIn (now (s .entry))) ⌝ }
+{
+    let top = s[DEPTH] - 1;
+    Due {
+        due: true,
+        frame: frame_at(s, top),
+        under: top,
+    }
+}
+
 // The turn that a byte of task i takes: the active job started last, if it is of that task, else a start.
 pub fn turn_of(
     program: &[u8; PROGRAM],
-    times: &[u64; TIMES],
+    waits: &[u8; WAITS],
     locks: Ceilings,
     s: &[u8; STATE],
     i: Task,
 ) -> Due
     requires { ⌜ (locks .count ≤ 8) × IsState (now s) ⌝ }
-    ensures turn { λ d. ⌜ d ≡ turnIn (now (program .entry)) (now (times .entry)) locks
+    ensures turn { λ d. ⌜ d ≡ turnIn (now (program .entry)) (now (waits .entry)) locks
         (snapshotIn (now (s .entry))) (i .0) ⌝ }
     ensures bounds { λ d. ⌜ (d .due ≡ true → (d .under < 8) × (d .frame .job .0 < 32)) ⌝ }
 {
     if runs(program, s, i) {
-        let top = s[DEPTH] - 1;
-        return Due {
-            due: true,
-            frame: frame_at(s, top),
-            under: top,
-        };
+        return top_turn(s);
     }
-    start_of(program, times, locks, s, i)
+    start_of(program, waits, locks, s, i)
 }
 
 // May the job in the frame, of task i, take a step with the value v?

@@ -28,12 +28,12 @@ pub fn walk_table(t: Table, list: JobList, allowance: u64, out: &mut [u8]) -> Ou
 {
     let l = lend(t, list);
     let program = l.program;
-    let times = l.times;
+    let waits = l.waits;
     let locks = l.locks;
     let start = l.start;
     walk(
         &program,
-        &times,
+        &waits,
         locks,
         &start,
         ORDER_ROOM,

@@ -211,6 +211,8 @@ fn heavy_tables() -> Vec<Vec<(u32, u32)>> {
         above(&[&[(1, 3_263_443)], &sylvester[..]].concat()),
         // Ten times as long, so that the climb starts at a tenth of the response time.
         above(&[&[(10, 33_000_000)], &sylvester.map(|(c, p)| (10 * c, 10 * p))[..]].concat()),
+        // The slowest known: of 525 million tables of this shape that were made for it.
+        above(&[(11, 86), (10, 79), (10, 78), (6, 71), (28, 70), (8, 68), (1, 66)]),
     ]
 }
 

@@ -209,10 +209,14 @@ fn runs_part(tables: &Tables) -> String {
 
 The family of hostile files is every choice of up to seven tasks with C 1 and a period of 1, 2, 3, 7,
 43 or 1807 above a task with C 1 and P 4,294,967,295. The other hostile files are chosen by hand or
-at random; none is known to be the slowest that there is. The lowest task stands first in a list of
-C/P; H is how long it holds a lock, whose ceiling says which tasks wait for it, and without that wait
-such a file is accepted. Of several tables the one that is slowest by the proved entry is shown; the
-interpreter may be slower on another.
+at random; none is known to be the slowest that there is. C/P 11/86, 10/79, 10/78, 6/71, 28/70, 8/68,
+1/66 above that task is the slowest of 525 million tables made for it. That it is refused is known at
+once, by a task above that misses its period. Only its place takes long: document 01 names the lowest
+task that is late, so it has to be found whether the lowest one is.
+
+The lowest task stands first in a list of C/P; H is how long it holds a lock, whose ceiling says which
+tasks wait for it, and without that wait such a file is accepted. Of several tables the one that is
+slowest by the proved entry is shown; the interpreter may be slower on another.
 
 {reads}
 ## Replaying an order
@@ -270,9 +274,9 @@ fn walk_part(tables: &Tables) -> String {
 Tables whose walk holds after about 20,000,000 moves, so that every move of the tree is made. The
 other side is not the interpreter but a straightforward walker in Rust,
 `rust/benchmark/src/walker.rs`: over the same lent tables, by recursion, with one copy of the state a
-move, and built without overflow checks. It tests every task in full, where the proved walk passes
-over tasks below the running job's and tasks with no job left. The ratio is the proved walk's time by
-the walker's, each the median of {WALK_TURNS} walks in turn; both give one verdict and count. The proved
+move, and built without overflow checks. Like the proved walk it passes over tasks below the running
+job's and tasks with no job left; its start test is document 01's, without a wait table. The ratio is
+the proved walk's time by the walker's, each the median of {WALK_TURNS} walks in turn; both give one verdict and count. The proved
 walk's time has the reading of the file in it.
 
 {walks}

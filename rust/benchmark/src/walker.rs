@@ -1,5 +1,7 @@
 //! A straightforward walker in Rust, which the proved walk is held against. It goes over the same
-//! lent tables with a state of the same shape, by recursion, with one copy of the state a move.
+//! lent tables with a state of the same shape, by recursion, with one copy of the state a move. It
+//! has two shortcuts: no task below the running job's has a turn, and no other task without a job
+//! left has one.
 
 use interpreter::Accepted;
 
@@ -169,6 +171,14 @@ impl Lent {
             })
     }
 
+    /// The running job's task, or the lowest; no task below it has a turn.
+    fn first_task(&self, state: &State) -> usize {
+        match state.depth {
+            0 => 0,
+            depth => self.owners[state.stack[depth as usize - 1].job as usize] as usize,
+        }
+    }
+
     /// The job whose turn a step of the task is, and how many active jobs are under it.
     fn turn(&self, state: &State, task: usize) -> Option<(Frame, u8)> {
         if state.depth > 0 {
@@ -225,7 +235,11 @@ impl Walk<'_> {
         if self.lent.finished(state) {
             return if state.failed.contains(&true) { Err(Stop::Failing) } else { Ok(()) };
         }
-        for task in 0..TASKS {
+        let first = self.lent.first_task(state);
+        for task in first..TASKS {
+            if task > first && !self.lent.owned_by(task, state.upcoming[task]) {
+                continue;
+            }
             let Some((frame, under)) = self.lent.turn(state, task) else { continue };
             let instruction = self.lent.instruction(task, frame.next);
             let [operation, _, b, c] = instruction;

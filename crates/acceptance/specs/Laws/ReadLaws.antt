@@ -3,7 +3,7 @@
 use mathlib.Core.Path.{_≡_, refl, sym, _∙_}
 use Prim.Native.Nat.{ℕ, _≤_, _<_}
 use mathlib.Core.List.{[]}
-use lib.ListN.{length, replicate}
+use lib.ListN.{length}
 use Rattle.taskfile.specs.declared.Check.the-variants.{Passed, Refused}
 use Rattle.taskfile.specs.declared.Judged.the-variants.{Sound, Faulty}
 use Rattle.taskfile.specs.declared.LoadAnswer.{LoadAnswer}
@@ -14,7 +14,6 @@ use Rattle.taskfile.specs.File.{load}
 use Rattle.taskfile.specs.Judgement.{taskNumbers}
 use Rattle.taskfile.specs.Records.{File}
 use Rattle.timing.specs.declared.AcceptAnswer.{AcceptAnswer}
-use Rattle.timing.specs.declared.ReadAnswer.{ReadAnswer}
 use Rattle.timing.specs.declared.Responses.{Responses}
 use Rattle.timing.specs.Accepted.{responsesOf}
 use Rattle.timing.specs.Code.JobParts.{jobListOf}
@@ -24,14 +23,11 @@ use Rattle.timing.specs.Laws.AcceptLaws.{answers-refused, answers-overload, ans
 use Rattle.timing.specs.Laws.AcceptLaws.{reads-refused, reads-accepted}
 use Rattle.timing.specs.Laws.JobFacts.{jobs-counted}
 use Rattle.timing.specs.ReadEntries.{readAnswer}
+use Rattle.acceptance.specs.Code.ReadParts.{refusedRead}
 
 -- what every entry would have of a file that is refused
 abbrev refusal : LoadAnswer → ℕ → ℕ → AcceptAnswer
 refusal l number place = record { check = Refused number place; table = l .table; responses = []; list = jobListOf [] }
-
--- the reader's answer to a file that is refused
-abbrev pub refusedRead : ℕ → ℕ → ReadAnswer
-refusedRead number place = record { number = number; place = place; responses = replicate 8 0; jobs = 0 }
 
 module _ (f : File) (l : LoadAnswer) (loading : LoadedAs l (load f)) where
   pub read-refused : {n p : ℕ} → l .check ≡ Refused n p → refusedRead n p ≡ readAnswer f

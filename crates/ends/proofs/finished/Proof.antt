@@ -13,12 +13,12 @@ returns : tie.Need-returns
 unfolding snapshotIn
 returns c = finished-deep _ _ (c .if1 .taken)
 
-some-upcoming-requires : tie.Need-some-upcoming-requires
-some-upcoming-requires c κs = search needs
+some-unended-requires : tie.Need-some-unended-requires
+some-unended-requires c κs = search needs
 
 returns-2 : tie.Need-returns-2
 unfolding snapshotIn
-returns-2 c = finished-flat _ _ (c .before .if1 .left) (c .some-upcoming .ensures)
+returns-2 c = finished-flat _ _ (c .before .if1 .left) (c .some-unended .ensures)
 
 pub finished-spec : {M : Type 1} → statement M
-finished-spec = tie.close (tie.spec element-copy-out-if1 returns some-upcoming-requires returns-2)
+finished-spec = tie.close (tie.spec element-copy-out-if1 returns some-unended-requires returns-2)

@@ -65,7 +65,7 @@ module _ {a : Accepted} {program times : List ℕ} {locks : Ceilings} {k : ℕ} 
 
   module _ {owner : ℕ} (owned : owner ≡ ownerIn program x) where
     owner-base : owner ≡ base a job
-    owner-base = owned ∙ held .lends .owner job isJob
+    owner-base = owned ∙ held .lends .table .owner job isJob
 
     pub owner-small : owner < 8
     owner-small = omega (arith, owner-base, base-small (held .ok) job isJob)
@@ -77,7 +77,7 @@ module _ {a : Accepted} {program times : List ℕ} {locks : Ceilings} {k : ℕ} 
       unfolding base bodySize
       instruction-lent =
           is ∙ ap (λ (t : ℕ). instructionIn program t (local .next)) owner-base
-          ∙ held .lends .body (jobAt a job .task) (local .next) known inside
+          ∙ held .lends .table .body (jobAt a job .task) (local .next) known inside
 
       -- so the step's bytes are checked for it
       pub bytes-lent : (plan : Plan) (previous : Round) (offset : ℕ)
@@ -114,7 +114,7 @@ module _ {a : Accepted} {program times : List ℕ} {locks : Ceilings} {k : ℕ} 
   made-lent owned plan stores flags offset effect =
       ap₂ (λ (l : List ℕ) (b : ℕ).
       record { round = roundAt plan offset; value = getD plan (offset + 1) 0; priorityAfter = priority l b (effect .local .held) })
-      (sym (held .lends .ceilings)) (sym (owner-base owned))
+      (sym (held .lends .table .ceilings)) (sym (owner-base owned))
 
 -- the arrays after the step hold where the run then stands
 pub after-lent : (plan : Plan) (x k : ℕ) → k ≤ 32 → (stores : List ℕ) → length stores ≡ 256 → (failed : Bool)

@@ -4,7 +4,9 @@ use mathlib.Core.Path.{_≡_, sym, ap, subst, _∙_}
 use Prim.Native.Nat.{ℕ, _≤_}
 use native.Mathlib.Omega.{arith}
 use mathlib.Core.List.{List}
+use lib.ListN.{length}
 use Rattle.taskfile.specs.declared.Check.the-variants.{Passed}
+use Rattle.taskfile.specs.declared.Ceilings.{Ceilings}
 use Rattle.taskfile.specs.declared.Table.{Table}
 use Rattle.taskfile.specs.Code.JudgingParts.{Shaped}
 use Rattle.taskfile.specs.Records.{File}
@@ -18,32 +20,48 @@ use Rattle.timing.specs.Laws.AcceptedLaws.{file-accepted}
 use Rattle.timing.specs.Laws.AcceptLaws.{accepted-passed}
 use Rattle.timing.specs.Laws.JobFacts.{jobs-few}
 use Rattle.order.specs.States.{initial}
-use Rattle.snapshots.specs.Code.Lent.{OwnersTo, TimesTo}
-use Rattle.snapshots.specs.Code.Shows.{Lends, Shows}
+use Rattle.snapshots.specs.Code.Lent.{OwnersTo, TimesTo, WaitsTo}
+use Rattle.snapshots.specs.Code.Shows.{Lends, LendsTimes, Shows}
 use Rattle.snapshots.specs.Code.Snapshots.{Snapshot}
 use Rattle.snapshots.specs.Code.SnapshotSteps.{firstSnapshot}
-use Rattle.snapshots.specs.Laws.LentLaws.{arrays-lent}
+use Rattle.snapshots.specs.Laws.LentLaws.{times-lent}
+use Rattle.snapshots.specs.Laws.WaitLaws.{waits-lent}
 use Rattle.snapshots.specs.Laws.ReplayLaws.{first-shown}
 use Rattle.states.specs.Code.StateBytes.{snapshotIn, IsState}
-use Rattle.lending.specs.Code.Lending.{LentOf}
+use Rattle.lending.specs.Code.Lending.{LentOf, TimesOf, locksOf}
 
-module _ {t : Table} {list : JobList} {program times : List ℕ} (start : List ℕ) (shaped : Shaped t) (owners : OwnersTo t list (list .count) program)
-    (held : TimesTo list (list .count) times) (first : snapshotIn start ≡ firstSnapshot program (t .store)) where
+module _ {t : Table} {list : JobList} {program times : List ℕ} {locks : Ceilings} (shaped : Shaped t)
+    (owners : OwnersTo t list (list .count) program) (held : TimesTo list (list .count) times) (is : locks ≡ locksOf t) where
+  few : locks .count ≤ 8
+  unfolding locksOf
+  few = rw is (shaped .locksWithin)
+
   holds : (a : Accepted) → IsAccepted a → t ≡ a .table → list ≡ jobListOf (a .jobs)
-      → Lends a program times (record { count = t .locks; ceilings = t .ceilings })
+      → LendsTimes a program times locks
+  unfolding locksOf
   holds a ok table listed =
-      subst (λ (u : Table). Lends a program times (record { count = u .locks; ceilings = u .ceilings })) (sym table)
-      (arrays-lent ok listed (subst (λ (u : Table). OwnersTo u list (list .count) program) table owners) held)
+      subst (LendsTimes a program times) (sym (is ∙ ap locksOf table))
+      (times-lent ok listed (subst (λ (u : Table). OwnersTo u list (list .count) program) table owners) held)
 
-  begins : (a : Accepted) → IsAccepted a → t ≡ a .table → list ≡ jobListOf (a .jobs)
-      → Shows a (snapshotIn start) (initial a)
-  begins a ok table listed =
-      subst (λ (p : Snapshot). Shows a p (initial a)) (sym (first ∙ ap (λ (u : Table). firstSnapshot program (u .store)) table))
-      (first-shown ok (holds a ok table listed))
+  pub times-of : TimesOf t list (record { program = program; times = times; locks = locks })
+  times-of = record { few = few; lends = holds }
 
-  pub lent-of : IsState start
-      → LentOf t list (record { program = program; times = times; locks = record { count = t .locks; ceilings = t .ceilings }; start = start })
-  lent-of whole = record { few = shaped .locksWithin; whole = whole; lends = holds; shows = begins }
+  module _ {waits : List ℕ} (start : List ℕ) (made : WaitsTo program times (list .count) (list .count) waits) (first : snapshotIn start ≡ firstSnapshot program (t .store)) where
+    steps-lent : (a : Accepted) → IsAccepted a → t ≡ a .table → list ≡ jobListOf (a .jobs)
+        → Lends a program waits locks
+    unfolding jobListOf
+    steps-lent a ok table listed =
+        let counted : list .count ≡ length (a .jobs) = ap (λ (l : JobList). l .count) listed in
+        waits-lent ok (holds a ok table listed) (subst (λ (n : ℕ). WaitsTo program times n n waits) counted made)
+
+    begins : (a : Accepted) → IsAccepted a → t ≡ a .table → list ≡ jobListOf (a .jobs)
+        → Shows a (snapshotIn start) (initial a)
+    begins a ok table listed =
+        subst (λ (p : Snapshot). Shows a p (initial a)) (sym (first ∙ ap (λ (u : Table). firstSnapshot program (u .store)) table))
+        (first-shown ok (steps-lent a ok table listed))
+
+    pub lent-of : IsState start → LentOf t list (record { program = program; waits = waits; locks = locks; start = start })
+    lent-of whole = record { few = few; whole = whole; lends = steps-lent; shows = begins }
 
 -- the table and the jobs of a file that passed can be lent
 pub parts-lent : (f : File) (x : AcceptAnswer) → AcceptedAs x (accept f) → x .check ≡ Passed

@@ -29,10 +29,10 @@ zero-bytes : (bytes : List ℕ) (a n : ℕ) → ((k : ℕ) → k < n → getD by
 unfolding bytesAt
 zero-bytes bytes a n h = same-values (λ k. getD bytes (a + k) 0) n 0 h
 
-module _ (program store : List ℕ) {upcoming filled bytes : List ℕ} (size : length store ≡ 8)
-    (first : Replaced (replicate 192 0) filled 0 store) (second : Replaced filled bytes 8 upcoming)
-    (listed : upcoming ≡ map (λ k. firstFrom program k 0 32) (upTo 8)) where
-  long : length upcoming ≡ 8
+module _ (program store : List ℕ) {unended filled bytes : List ℕ} (size : length store ≡ 8)
+    (first : Replaced (replicate 192 0) filled 0 store) (second : Replaced filled bytes 8 unended)
+    (listed : unended ≡ map (λ k. firstFrom program k 0 32) (upTo 8)) where
+  long : length unended ≡ 8
   long = ap length listed ∙ values-length (λ k. firstFrom program k 0 32) 8
 
   -- the other bytes are zero
@@ -50,7 +50,7 @@ module _ (program store : List ℕ) {upcoming filled bytes : List ℕ} (size : l
   -- the first jobs
   begun : bytesAt bytes 8 8 ≡ map (λ k. firstFrom program k 0 32) (upTo 8)
   unfolding bytesAt
-  begun = sym (values-are (λ k. getD bytes (8 + k) 0) 8 upcoming 0 long (λ k lt. sym (second .inside k (omega (arith, long))))) ∙ listed
+  begun = sym (values-are (λ k. getD bytes (8 + k) 0) 8 unended 0 long (λ k lt. sym (second .inside k (omega (arith, long))))) ∙ listed
 
   -- no job has failed
   unflagged : map (flagIn bytes) (upTo 32) ≡ noFlags

@@ -16,7 +16,7 @@ use Rattle.timing.specs.Relations.{IsJob, jobNumbers}
 use Rattle.machine.specs.Ends.{Flags, flagged, noFlags}
 use Rattle.machine.specs.Instructions.{fresh}
 use Rattle.plan.specs.Runs.{Plan, JobRun, JobRuns, firstRound, runJob, runJobs, runPlan}
-use Rattle.snapshots.specs.Code.Shows.{Lends}
+use Rattle.snapshots.specs.Code.Shows.{LendsTimes}
 use Rattle.marks.specs.declared.Fault.{Fault}
 use Rattle.marks.specs.declared.JobRan.{JobRan}
 use Rattle.marks.specs.declared.JobsRan.{JobsRan}
@@ -26,7 +26,7 @@ use Rattle.marks.specs.Code.Marks.{storesIn, runStateIn, stepsMarked, st
 -- the lent arrays hold an accepted table of k jobs
 pub record Holds (a : Accepted) (program times : List ℕ) (locks : Ceilings) (k : ℕ) : Type 0 where
   pub ok : IsAccepted a
-  pub lends : Lends a program times locks
+  pub lends : LendsTimes a program times locks
   pub total : length (a .jobs) ≡ k
 
 -- a fault is this refusal

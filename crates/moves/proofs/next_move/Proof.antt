@@ -1,100 +1,121 @@
--- `moves::next_move` meets its contract. The loop's invariant: no byte from `byte` up to `at` is a step. The measure
--- is the number of bytes left.
+-- `moves::next_move` meets its contract. The loop's invariant: no byte from `byte` up to `at` is a step, whatever the
+-- locks that make the level `low`. The measure is the number of bytes left.
 -- Assumes nothing.
-use mathlib.Core.Path.{refl}
+use mathlib.Core.Path.{_≡_, refl, sym, subst, _∙_}
 use mathlib.Core.Logic.{inl, inr}
-use Prim.Native.Nat.{_≤_, _-_}
+use Prim.Native.Nat.{_≤_, _<_, _-_, _/_}
 use native.Mathlib.Omega.{arith}
+use Rattle.taskfile.specs.declared.Ceilings.{Ceilings}
+use Rattle.snapshots.specs.Code.SnapshotSteps.{levelIn}
 use Rattle.states.specs.Code.StateBytes.{snapshotIn}
-use Rattle.moves.specs.Laws.DueLaws.{not-due}
-use Rattle.moves.specs.Laws.FirstLaws.{first-passed}
-use Rattle.moves.specs.Laws.NextLaws.{passed-idle, passed-past, passed-refused, step-found, no-move}
-use Rattle.states.specs.Laws.StateReads.{stack-length}
-use Rattle.moves.specs.Laws.StateLaws.{few-deep}
-use Rattle.moves.specs.Code.MoveParts.{NoStep}
+use Rattle.moves.specs.Laws.DueLaws.{top-deep, top-due, start-due, turn-top, turn-start, turn-idle}
+use Rattle.moves.specs.Laws.FirstLaws.{first-bounds, first-passed}
+use Rattle.moves.specs.Laws.NextLaws.{passed-idle, no-move}
+use Rattle.moves.specs.Code.MoveParts.{NoStep, NextStep}
+use borrow.Author.Needs.{needs}
 use Rattle.moves.proofs.next_move.Statement.{statement}
 use Rattle.moves.proofs.next_move.Tie as tie
 
 abbrev Inv-loop : tie.InvT-loop
-Inv-loop program times locks s top byte at₀ at = (byte ≤ at) × (at ≤ 128) × NoStep program times locks (snapshotIn s) byte at
+Inv-loop program waits s top low byte at₀ at =
+    (byte ≤ at) × (at ≤ 128)
+    × ((locks : Ceilings) → low ≡ levelIn program locks (snapshotIn s) → NoStep program waits locks (snapshotIn s) byte at)
 
 abbrev μ-loop : tie.MeasureT-loop
-μ-loop program times locks s top byte at₀ at = 128 - at
+μ-loop program waits s top low byte at₀ at = 128 - at
+
+-- the task of a byte below 128
+small : (c : tie.In-loop Inv-loop μ-loop) → c .before .loop .at / 16 < 8
+small c = omega (arith, c .loop-test .taken)
 
 first-byte-requires : tie.Need-first-byte-requires Inv-loop μ-loop
-first-byte-requires c κs = tt
+first-byte-requires c κs = search needs
 
 loop-holds : tie.Need-loop-holds Inv-loop μ-loop
 loop-holds c =
     let given = c .before .pre in
-    first-passed _ _ _ _ (few-deep (given .1)) (stack-length _) (given .3) _ (c .first-byte .ensures) (given .2)
+    let bounds = first-bounds _ _ (c .first-byte .ensures) (given .1) in
+    (bounds .0, bounds .1, λ locks level. first-passed _ _ locks _ (given .2) _ (c .first-byte .ensures) (given .1))
 
-may-be-due-requires : tie.Need-may-be-due-requires Inv-loop μ-loop
-may-be-due-requires c κs = omega arith
+top-turn-requires : tie.Need-top-turn-requires Inv-loop μ-loop
+top-turn-requires c κs =
+    let given = c .before .before .before .before .pre in
+    (given .0, top-deep _ _ _ (small (c .before)) (given .2) (c .if1 .taken))
 
-turn-of-requires : tie.Need-turn-of-requires Inv-loop μ-loop
-turn-of-requires c κs = let given = c .before .before .before .before .before .pre in (given .0, given .1)
-
-instruction-at-requires : tie.Need-instruction-at-requires Inv-loop μ-loop
-instruction-at-requires c κs = (omega arith, c .if3 .taken)
-
-first-from-requires : tie.Need-first-from-requires Inv-loop μ-loop
-first-from-requires c κs = tt
-
-mul-found : tie.Need-mul-found Inv-loop μ-loop
-mul-found c = omega arith
-
-add-found : tie.Need-add-found Inv-loop μ-loop
-add-found c = omega arith
-
-byte-after-requires : tie.Need-byte-after-requires Inv-loop μ-loop
-byte-after-requires c κs = omega (arith, c .before .if4 .taken)
+move-of-requires : tie.Need-move-of-requires Inv-loop μ-loop
+move-of-requires c κs = c .before .before .loop-test .taken
 
 returns : tie.Need-returns Inv-loop μ-loop
-returns c =
-    let value = c .before .before in
-    let instruction = value .before .before in
-    let inside = instruction .before in
-    let due = inside .before .before .before in
-    let head = due .before .before .before .before in
-    step-found _ _ _ _ _ (due .before .turn-of .ensures .0) (due .if2 .taken) (inside .if3 .taken)
-    (instruction .instruction-at .ensures) (value .before .first-from .ensures) _ (head .loop-test .taken)
-    (head .before .loop .inv .0) (head .before .loop .inv .2) (value .if4 .taken) (c .byte-after .ensures)
+returns c locks level =
+    let moved = c .before .before in
+    let turned = moved .before in
+    let head = turned .before .before in
+    let inv = head .before .loop .inv in
+    let given = head .before .before .before .pre in
+    moved .move-of .ensures _ locks _ _ (turned .top-turn .ensures ∙ turn-top _ _ _ (small head) (given .2) _ locks (turned .before .if1 .taken))
+    (top-due _ (turned .top-turn .ensures)) (inv .0) (inv .2 locks level) .0 (c .if2 .taken)
+
+may-start-requires : tie.Need-may-start-requires Inv-loop μ-loop
+may-start-requires c κs = c .before .before .before .before .pre .0
+
+start-turn-requires : tie.Need-start-turn-requires Inv-loop μ-loop
+start-turn-requires c κs = small (c .before .before .before)
+
+move-of-requires-2 : tie.Need-move-of-requires-2 Inv-loop μ-loop
+move-of-requires-2 c κs = c .before .before .before .before .loop-test .taken
+
+returns-2 : tie.Need-returns-2 Inv-loop μ-loop
+returns-2 c locks level =
+    let moved = c .before .before in
+    let turned = moved .before in
+    let asked = turned .before .before in
+    let other = asked .before in
+    let head = other .before in
+    let inv = head .before .loop .inv in
+    let given = head .before .before .before .pre in
+    moved .move-of2 .ensures _ locks _ _
+    (turned .start-turn .ensures ∙ turn-start _ _ _ (small head) (given .2) _ locks (other .if1 .left) level (asked .may-start .ensures) (turned .before .if3 .taken))
+    (start-due _ _ (turned .start-turn .ensures)) (inv .0) (inv .2 locks level) .0 (c .if4 .taken)
 
 add-at : tie.Need-add-at Inv-loop μ-loop
 add-at c = omega arith
 
 mul-at : tie.Need-mul-at Inv-loop μ-loop
-mul-at c = omega arith
+mul-at c = omega (arith, c .before .loop-test .taken)
 
 loop-less : tie.Need-loop-less Inv-loop μ-loop
-loop-less c = omega arith
+loop-less c = omega (arith, c .before .loop-test .taken)
 
 loop-again : tie.Need-loop-again Inv-loop μ-loop
 loop-again c =
-    let head = c .before .before .before .loop .inv in
-    let start = c .before .before .before .before .before in (
-      omega arith,
-      omega arith,
-      elim (c .if1 .came) [
-        | inl none ↦
-            passed-refused _ _ _ _ _ (none .1 .ensures .0) (none .2 .taken) (none .5 .taken) (none .6 .ensures)
-            (none .7 .ensures) _ (head .2) (none .8 .left)
-        | inr (inl past) ↦
-            passed-past _ _ _ _ _ (past .1 .ensures .0) (past .2 .taken) _ (head .2) (past .5 .left)
-        | inr (inr (inl idle)) ↦ passed-idle _ _ _ _ _ (idle .1 .ensures .0) _ (head .2) (idle .2 .left)
-        | inr (inr (inr skipped)) ↦
-            passed-idle _ _ _ _ _ refl _ (head .2)
-            (not-due _ _ _ _ _ (few-deep (start .pre .1)) (stack-length _) (start .pre .3) (c .before .may-be-due .ensures) (skipped .left))
-      ],
+    let head = c .before in
+    let inv = head .before .loop .inv in
+    let given = head .before .before .before .pre in (
+      omega (arith, inv .0),
+      omega (arith, head .loop-test .taken),
+      λ locks level.
+          elim (c .if1 .came) [
+            | inl runs ↦
+                runs .2 .ensures _ locks _ _ (runs .1 .ensures ∙ turn-top _ _ _ (small head) (given .2) _ locks (runs .0 .taken))
+                (top-due _ (runs .1 .ensures)) (inv .0) (inv .2 locks level) .1 (runs .4 .left)
+            | inr (inl starts) ↦
+                starts .4 .ensures _ locks _ _
+                (starts .3 .ensures ∙ turn-start _ _ _ (small head) (given .2) _ locks (starts .0 .left) level (starts .1 .ensures) (starts .2 .taken))
+                (start-due _ _ (starts .3 .ensures)) (inv .0) (inv .2 locks level) .1 (starts .6 .left)
+            | inr (inr idle) ↦
+                passed-idle _ _ locks _ _ refl _ (inv .2 locks level)
+                (turn-idle _ _ _ (small head) (given .2) _ locks (idle .0 .left) level (idle .1 .ensures) (idle .2 .left))
+          ],
     )
 
-no-turn-requires : tie.Need-no-turn-requires Inv-loop μ-loop
-no-turn-requires c κs = tt
+no-move-requires : tie.Need-no-move-requires Inv-loop μ-loop
+no-move-requires c κs = search needs
 
-returns-2 : tie.Need-returns-2 Inv-loop μ-loop
-returns-2 c =
-    no-move _ _ _ _ _ _ (c .before .before .before .before .pre .2) (c .before .before .loop .inv .2) (c .before .loop-test .left)
+returns-3 : tie.Need-returns-3 Inv-loop μ-loop
+returns-3 c locks level =
+    let loop = c .before .before in
+    let given = loop .before .before .pre in
+    subst (NextStep _ _ locks _ _) (sym (c .no-move .ensures)) (no-move _ _ locks _ _ _ (given .1) (loop .loop .inv .2 locks level) (c .before .loop-test .left))
 
 pub next-move-spec : {M : Type 1} → statement M
 next-move-spec =
@@ -104,17 +125,16 @@ next-move-spec =
     μ-loop
     first-byte-requires
     loop-holds
-    may-be-due-requires
-    turn-of-requires
-    instruction-at-requires
-    first-from-requires
-    mul-found
-    add-found
-    byte-after-requires
+    top-turn-requires
+    move-of-requires
     returns
+    may-start-requires
+    start-turn-requires
+    move-of-requires-2
+    returns-2
     add-at
     mul-at
     loop-less
     loop-again
-    no-turn-requires
-    returns-2)
+    no-move-requires
+    returns-3)

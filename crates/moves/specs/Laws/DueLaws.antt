@@ -1,147 +1,117 @@
--- Laws of a task's turn: where the quick test whether it may have come fails, it has not, nor has that of a task
--- below that of the active job started last.
+-- Laws of a task's turn, by the running job's task and the level: the running job's task has that job's turn, a task
+-- below it none, and any other a start or none.
 -- Assumes nothing.
 use mathlib.Core.Path.{_≡_, refl, sym, ap, _∙_}
-use mathlib.Core.Logic.{_⊎_, inl, inr}
-use Prim.Native.Nat.{ℕ, _-_, _≤_, _<_}
+use mathlib.Core.Logic.{inl, inr}
+use Prim.Native.Nat.{ℕ, _≤_, _<_}
 use native.Mathlib.Omega.{arith}
 use mathlib.Core.Bool.{Bool, true, false, true≢false, not, _&&_}
 use mathlib.Core.List.{List}
-use lib.ListN.{length, getD, take}
-use lib.Dec.{ltb}
-use lib.Seq.{getD-take, length-take-le}
-use borrow.Author.Tests.{ltb-true, eqb-true, eq-eqb, ne-eqb}
+use lib.Dec.{ltb, eqb}
+use lib.ListN.{take}
+use borrow.Author.Tests.{ltb-true, eqb-true, eq-eqb, lt-ltb, not-false}
 use Rattle.taskfile.specs.declared.Ceilings.{Ceilings}
-use Rattle.notation.specs.Lists.{if_then_else_, all}
-use Rattle.notation.specs.Laws.QuantifierLaws.{all-at}
-use Rattle.notation.specs.Laws.TestLaws.{and-both, or-left, or-right, or-second, test-decided, not-both}
+use Rattle.notation.specs.Lists.{if_then_else_}
+use Rattle.notation.specs.Laws.TestLaws.{and-both, and-holds, test-decided, not-both}
+use Rattle.machine.specs.Laws.HeldLaws.{priority-base}
+use Rattle.snapshots.specs.declared.Due.{Due}
 use Rattle.snapshots.specs.Code.Snapshots.{Snapshot}
-use Rattle.snapshots.specs.Code.SnapshotSteps.{ownerIn, arrivalIn, latestIn, preemptsIn, ownedBy, waits, goesOver, stackOf, nobody, startsIn, startIn, beyond, topOf, runsIn, turnIn}
-use Rattle.moves.specs.Code.MoveParts.{topJob, maybeDue}
+use Rattle.snapshots.specs.Code.SnapshotSteps.{ownerIn, ownedBy, barIn, levelIn, nobody, startsAbove, startsIn, startTurn, startIn, topOf, runsIn, topTurn, turnIn}
+use Rattle.snapshots.specs.Laws.StartLaws as start
+use Rattle.snapshots.specs.Laws.TurnLaws.{runs-says, turn-runs, turn-starts}
+use Rattle.moves.specs.Code.MoveParts.{runningTask}
 
--- ---- the test, case by case
+-- ---- the running job's task
 
-module _ (program upcoming : List ℕ) (top i : ℕ) {b : Bool} (runs : b ≡ ownedBy program i top) where
-  pub due-runs : b ≡ true → true ≡ maybeDue program upcoming top i
-  unfolding maybeDue
-  due-runs h = sym (or-left (ownedBy program i top) _ (sym runs ∙ h))
+module _ (program : List ℕ) (p : Snapshot) where
+  -- no job is active, or none that has a task
+  pub running-none : (ltb 0 (p .depth) && ltb (topOf p .job .0) 32) ≡ false → 8 ≡ runningTask program p
+  unfolding runningTask if_then_else_
+  running-none h = rw h refl
 
-  pub due-upcoming : b ≡ false → {c : Bool} → c ≡ ownedBy program i (getD upcoming i 0)
-      → c ≡ maybeDue program upcoming top i
-  unfolding maybeDue
-  due-upcoming h is = is ∙ sym (or-second (ownedBy program i top) _ (sym runs ∙ h))
+  pub running-some : 0 < p .depth → topOf p .job .0 < 32 → ownerIn program (topOf p .job .0) ≡ runningTask program p
+  unfolding runningTask if_then_else_
+  running-some deep job = rw (lt-ltb 0 (p .depth) deep, lt-ltb (topOf p .job .0) 32 job) refl
 
-pub top-none : (p : Snapshot) → p .depth ≡ 0 → 32 ≡ topJob p
-unfolding topJob if_then_else_
-top-none p e = rw (eq-eqb (p .depth) 0 e) refl
+  -- a task of the eight that it is has a job that runs
+  running-says : runningTask program p < 8
+      → (0 < p .depth) × (topOf p .job .0 < 32) × (ownerIn program (topOf p .job .0) ≡ runningTask program p)
+  running-says small = elim (test-decided (ltb 0 (p .depth) && ltb (topOf p .job .0) 32)) [
+    | inl h ↦
+        let parts = and-both (ltb 0 (p .depth)) _ h in
+        let deep = ltb-true 0 (p .depth) (parts .0) in
+        let job = ltb-true (topOf p .job .0) 32 (parts .1) in
+        (deep, job, running-some deep job)
+    | inr h ↦ absurd (omega (arith, running-none h))
+  ]
 
-pub top-some : (p : Snapshot) → (p .depth ≡ 0 → ⊥) → topOf p .job .0 ≡ topJob p
-unfolding topJob if_then_else_
-top-some p e = rw (ne-eqb (p .depth) 0 e) refl
+-- ---- whose turn it is
 
--- ---- a turn that is due
+-- a turn of the running job is due, and so is one of a job that starts
+pub top-due : (p : Snapshot) {d : Due} → d ≡ topTurn p → d .due ≡ true
+unfolding topTurn
+top-due p is = ap (λ (e : Due). e .due) is
 
-module _ (program times : List ℕ) (locks : Ceilings) (p : Snapshot) (i : ℕ) (le : p .depth ≤ 8) (full : length (p .stack) ≡ 8) where
-  -- the active job started last is of task i
-  runs-owned : runsIn program p i ≡ true → ownedBy program i (topJob p) ≡ true
-  unfolding runsIn
-  runs-owned h =
-      let parts = and-both (ltb i 8 && ltb 0 (p .depth)) _ h in
-      let deep = ltb-true 0 (p .depth) (and-both (ltb i 8) _ (parts .0) .1) in
-      ap (ownedBy program i) (sym (top-some p (λ e. omega arith))) ∙ parts .1
+pub start-due : (p : Snapshot) (i : ℕ) {d : Due} → d ≡ startTurn p i → d .due ≡ true
+unfolding startTurn
+start-due p i is = ap (λ (e : Due). e .due) is
 
-  -- or the first job of task i not yet begun is one of it, and goes over every active job
-  starts-owned : startsIn program times locks p i ≡ true
-      → (ownedBy program i (getD (p .upcoming) i 0) ≡ true)
-      × (all (goesOver program times locks (getD (p .upcoming) i 0)) (stackOf p) ≡ true)
-  unfolding startsIn
-  starts-owned h =
-      let y = getD (p .upcoming) i 0 in
-      let e4 = and-both (ltb i 8 && ltb (p .depth) 8 && ownedBy program i y && not (waits program times (p .upcoming) y)) _ h in
-      let e3 = and-both (ltb i 8 && ltb (p .depth) 8 && ownedBy program i y) _ (e4 .0) in
-      (and-both (ltb i 8 && ltb (p .depth) 8) _ (e3 .0) .1, e4 .1)
+module _ (program : List ℕ) (p : Snapshot) (i : ℕ) (small : i < 8) {top : ℕ} (is : top ≡ runningTask program p) where
+  pub top-deep : i ≡ top → 1 ≤ p .depth
+  top-deep here = running-says program p (omega (arith, is)) .0
 
-  -- a turn that is due is one or the other
-  turn-cases : turnIn program times locks p i .due ≡ true
-      → (runsIn program p i ≡ true) ⊎ (startsIn program times locks p i ≡ true)
-  unfolding turnIn startIn if_then_else_ nobody
-  turn-cases h =
-      elim (test-decided (runsIn program p i)) [
-        | inl runs ↦ inl runs
-        | inr other ↦ elim (test-decided (startsIn program times locks p i)) [
-          | inl starts ↦ inr starts
-          | inr none-starts ↦ absurd (let nothing : nobody .due ≡ true = rw (other, none-starts) at h in true≢false (sym nothing))
-        ]
-      ]
+  runs-here : i ≡ top → runsIn program p i ≡ true
+  unfolding runsIn ownedBy
+  runs-here here =
+      let says = running-says program p (omega (arith, is)) in
+      and-holds (ltb i 8 && ltb 0 (p .depth)) _ (and-holds (ltb i 8) _ (lt-ltb i 8 small) (lt-ltb 0 (p .depth) (says .0)))
+      (and-holds (ltb (topOf p .job .0) 32) _ (lt-ltb (topOf p .job .0) 32 (says .1)) (eq-eqb (ownerIn program (topOf p .job .0)) i (omega (arith, says .2, is))))
 
-  -- so it passes the test
-  turn-maybe : turnIn program times locks p i .due ≡ true → maybeDue program (p .upcoming) (topJob p) i ≡ true
-  unfolding maybeDue
-  turn-maybe h =
-      elim (turn-cases h) [
-        | inl runs ↦ or-left (ownedBy program i (topJob p)) _ (runs-owned runs)
-        | inr starts ↦ or-right (ownedBy program i (topJob p)) _ (starts-owned starts .0)
-      ]
+  runs-not : (i ≡ top → ⊥) → runsIn program p i ≡ false
+  unfolding runsIn ownedBy
+  runs-not other = elim (test-decided (runsIn program p i)) [
+    | inl h ↦
+        let says = runs-says program p i h in
+        let parts = and-both (ltb i 8 && ltb 0 (p .depth)) _ h in
+        let owner : ownerIn program (topOf p .job .0) ≡ i = eqb-true _ _ (and-both (ltb (topOf p .job .0) 32) _ (parts .1) .1) in
+        absurd (other (omega (arith, owner, running-some program p (says .1) (says .2), is)))
+    | inr h ↦ h
+  ]
 
-  -- and where that fails, nobody's turn has come
-  pub not-due : {top : ℕ} {b : Bool} → top ≡ topJob p → b ≡ maybeDue program (p .upcoming) top i → b ≡ false
-      → turnIn program times locks p i .due ≡ false
-  not-due {top} is e fails =
-      elim (test-decided (turnIn program times locks p i .due)) [
-        | inl due ↦ absurd (not-both _ (turn-maybe due) (sym (e ∙ ap (λ (x : ℕ). maybeDue program (p .upcoming) x i) is) ∙ fails))
-        | inr idle ↦ idle
-      ]
+  module _ (waits : List ℕ) (locks : Ceilings) where
+    pub turn-top : i ≡ top → topTurn p ≡ turnIn program waits locks p i
+    turn-top here = turn-runs program waits locks p i (sym (runs-here here)) refl
 
-  -- ---- its task
+    start-here : (i ≡ top → ⊥) → startIn program waits locks p i ≡ turnIn program waits locks p i
+    start-here other = turn-starts program waits locks p i (sym (runs-not other)) refl refl
 
-  owner-says : (y : ℕ) → ownedBy program i y ≡ true → ownerIn program y ≡ i
-  unfolding ownedBy
-  owner-says y h = eqb-true _ _ (and-both (ltb y 32) _ h .1)
+    idle : (i ≡ top → ⊥) → startsIn program waits locks p i ≡ false → turnIn program waits locks p i .due ≡ false
+    unfolding nobody
+    idle other none =
+        ap (λ (d : Due). d .due) (sym (start-here other) ∙ start.start-none program waits locks p i none)
 
-  -- what goes over every active job goes over the one started last
-  over-top : (y : ℕ) → all (goesOver program times locks y) (stackOf p) ≡ true → (p .depth ≡ 0 → ⊥)
-      → goesOver program times locks y (topOf p) ≡ true
-  unfolding stackOf topOf
-  over-top y h deep =
-      ap (goesOver program times locks y) (sym (getD-take (p .depth) (p .stack) (p .depth - 1) beyond (omega arith)))
-      ∙ all-at (goesOver program times locks y) (take (p .depth) (p .stack)) (p .depth - 1) beyond h
-      (omega (arith, length-take-le (p .depth) (p .stack) (omega arith)))
+    module _ (other : i ≡ top → ⊥) {low : ℕ} (level : low ≡ levelIn program locks p) {b : Bool} (starts : b ≡ startsAbove program waits low p i) where
+      starts-at : startsIn program waits locks p i ≡ b
+      starts-at = ap (λ (n : ℕ). startsAbove program waits n p i) (sym level) ∙ sym starts
 
-  -- and is of a higher task than that
-  over-higher : (y : ℕ) → goesOver program times locks y (topOf p) ≡ true
-      → ownerIn program (topOf p .job .0) < ownerIn program y
-  unfolding goesOver preemptsIn
-  over-higher y h =
-      let x = topOf p .job .0 in
-      let e2 = and-both (ltb x 32 && (ltb (ownerIn program x) (ownerIn program y) && ltb (arrivalIn times x) (arrivalIn times y) && ltb (arrivalIn times y) (latestIn times x))) _ h in
-      let e1 = and-both (ltb x 32) _ (e2 .0) in
-      let e0 = and-both (ltb (ownerIn program x) (ownerIn program y) && ltb (arrivalIn times x) (arrivalIn times y)) _ (e1 .1) in
-      ltb-true _ _ (and-both (ltb (ownerIn program x) (ownerIn program y)) _ (e0 .0) .0)
+      pub turn-start : b ≡ true → startTurn p i ≡ turnIn program waits locks p i
+      turn-start h = sym (start.start-due program waits locks p i (starts-at ∙ h)) ∙ start-here other
 
-  starts-high : startsIn program times locks p i ≡ true → (p .depth ≡ 0 → ⊥) → ownerIn program (topJob p) ≤ i
-  starts-high starts deep =
-      let y = getD (p .upcoming) i 0 in
-      let says = starts-owned starts in
-      let higher = over-higher y (over-top y (says .1) deep) in
-      let mine = owner-says y (says .0) in
-      let top = ap (ownerIn program) (top-some p deep) in
-      omega (arith, higher, mine, top)
+      pub turn-idle : b ≡ false → turnIn program waits locks p i .due ≡ false
+      turn-idle h = idle other (starts-at ∙ h)
 
-  -- it is not below that of the active job started last
-  turn-high : turnIn program times locks p i .due ≡ true → topJob p < 32 → ownerIn program (topJob p) ≤ i
-  turn-high h active =
-      elim (turn-cases h) [
-        | inl runs ↦ let mine = owner-says (topJob p) (runs-owned runs) in omega (arith, mine)
-        | inr starts ↦ starts-high starts (λ flat. let none = top-none p flat in omega (arith, none))
-      ]
-
-  pub low-due : {top : ℕ} → top ≡ topJob p → top < 32 → i < ownerIn program top
-      → turnIn program times locks p i .due ≡ false
-  low-due is active low =
-      elim (test-decided (turnIn program times locks p i .due)) [
-        | inl due ↦
-            let high = turn-high due (omega arith) in
-            let same = ap (ownerIn program) is in
-            absurd (omega (arith, high, same))
-        | inr idle ↦ idle
-      ]
+    -- no task below the running job's has a turn: its base is below that job's present priority
+    pub low-idle : top < 8 → i < top → turnIn program waits locks p i .due ≡ false
+    unfolding barIn
+    low-idle near low =
+        let says = running-says program p (omega (arith, is)) in
+        let none : startsIn program waits locks p i ≡ false =
+        elim (test-decided (startsIn program waits locks p i)) [
+          | inl h ↦
+              let above = start.starts-says program waits (levelIn program locks p) p i h .above in
+              let over = start.level-over program locks p (λ flat. omega (arith, says .0)) i small above in
+              let ceilings = take (locks .count) (locks .ceilings) in
+              absurd (omega (arith, over, priority-base ceilings (ownerIn program (topOf p .job .0)) (topOf p .local .held), says .2, is))
+          | inr h ↦ h
+        ] in
+        idle (λ same. omega arith) none

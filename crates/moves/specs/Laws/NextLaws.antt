@@ -16,7 +16,7 @@ use Rattle.snapshots.specs.Code.Snapshots.{Snapshot, Stepped}
 use Rattle.snapshots.specs.Code.SnapshotSteps.{instructionIn, turnIn, stepWithIn, stepIn, offeredIn}
 use Rattle.snapshots.specs.Laws.TurnLaws.{step-none, step-due}
 use Rattle.moves.specs.Laws.OfferLaws.{FirstOf, past-offered, first-offered, after-onward}
-use Rattle.moves.specs.Code.MoveParts.{NoStep, NextStep, firstFrom, valueAfter}
+use Rattle.moves.specs.Code.MoveParts.{NoStep, NextStep, noMove, MoveOf, firstFrom, valueAfter}
 
 -- ---- a step
 
@@ -35,15 +35,15 @@ module _ (program : List ℕ) (f : Frame) (i : ℕ) where
 
 -- ---- the bytes of a task
 
-module _ (program times : List ℕ) (locks : Ceilings) (p : Snapshot) (at : ℕ) {d : Due} (is : d ≡ turnIn program times locks p (at / 16)) where
+module _ (program waits : List ℕ) (locks : Ceilings) (p : Snapshot) (at : ℕ) {d : Due} (is : d ≡ turnIn program waits locks p (at / 16)) where
   -- the task's bytes have the same turn
-  turn-at : (k : ℕ) → k / 16 ≡ at / 16 → d ≡ turnIn program times locks p (k / 16)
-  turn-at k e = is ∙ ap (turnIn program times locks p) (sym e)
+  turn-at : (k : ℕ) → k / 16 ≡ at / 16 → d ≡ turnIn program waits locks p (k / 16)
+  turn-at k e = is ∙ ap (turnIn program waits locks p) (sym e)
 
   -- no byte before `at` is a step, nor one from there to the task's last
-  pass : (first : ℕ) → NoStep program times locks p first at
-      → ((k : ℕ) → at ≤ k → k / 16 ≡ at / 16 → stepIn program times locks p k .allowed ≡ false)
-      → NoStep program times locks p first (16 * (at / 16 + 1))
+  pass : (first : ℕ) → NoStep program waits locks p first at
+      → ((k : ℕ) → at ≤ k → k / 16 ≡ at / 16 → stepIn program waits locks p k .allowed ≡ false)
+      → NoStep program waits locks p first (16 * (at / 16 + 1))
   pass first before here k low high =
       elim (decLt k at) [
         | yes lt ↦ before k low lt
@@ -51,24 +51,24 @@ module _ (program times : List ℕ) (locks : Ceilings) (p : Snapshot) (at : ℕ)
       ]
 
   -- where nobody is due, no byte of the task is a step
-  pub passed-idle : (first : ℕ) → NoStep program times locks p first at → d .due ≡ false
-      → NoStep program times locks p first (16 * (at / 16 + 1))
+  pub passed-idle : (first : ℕ) → NoStep program waits locks p first at → d .due ≡ false
+      → NoStep program waits locks p first (16 * (at / 16 + 1))
   passed-idle first before h =
       pass first before
-      (λ k le e. ap (λ (r : Stepped). r .allowed) (sym (step-none program times locks p k (turn-at k e) (ap not h))))
+      (λ k le e. ap (λ (r : Stepped). r .allowed) (sym (step-none program waits locks p k (turn-at k e) (ap not h))))
 
   module _ (due : d .due ≡ true) where
     -- else a byte is a step if its value is on offer
     due-allowed : (k : ℕ) → k / 16 ≡ at / 16
-        → stepIn program times locks p k .allowed ≡ offeredIn program (d .frame) (at / 16) (k % 16)
+        → stepIn program waits locks p k .allowed ≡ offeredIn program (d .frame) (at / 16) (k % 16)
     due-allowed k e =
-        ap (λ (r : Stepped). r .allowed) (sym (step-due program times locks p k (turn-at k e) (ap not due) refl))
+        ap (λ (r : Stepped). r .allowed) (sym (step-due program waits locks p k (turn-at k e) (ap not due) refl))
         ∙ with-allowed program (d .frame) (k / 16) p (d .under) (k % 16)
         ∙ ap (λ (n : ℕ). offeredIn program (d .frame) n (k % 16)) e
 
     -- none is where the job that is due stands past its body
-    pub passed-past : (first : ℕ) → NoStep program times locks p first at → 16 ≤ d .frame .local .next
-        → NoStep program times locks p first (16 * (at / 16 + 1))
+    pub passed-past : (first : ℕ) → NoStep program waits locks p first at → 16 ≤ d .frame .local .next
+        → NoStep program waits locks p first (16 * (at / 16 + 1))
     passed-past first before past =
         pass first before (λ k le e. due-allowed k e ∙ past-offered program (d .frame) (at / 16) (k % 16) past)
 
@@ -77,16 +77,16 @@ module _ (program times : List ℕ) (locks : Ceilings) (p : Snapshot) (at : ℕ)
     value = subst (FirstOf _ (at % 16)) (sym is-first) (first-offered program (d .frame) (at / 16) read inside (at % 16))
 
     -- where it may take no value from this byte's on, no byte from here on of the task is a step
-    pub passed-refused : (first : ℕ) → NoStep program times locks p first at → 16 ≤ v
-        → NoStep program times locks p first (16 * (at / 16 + 1))
+    pub passed-refused : (first : ℕ) → NoStep program waits locks p first at → 16 ≤ v
+        → NoStep program waits locks p first (16 * (at / 16 + 1))
     passed-refused first before none =
         pass first before
         (λ k le e. due-allowed due k e ∙ value .none-before (k % 16) (omega arith) (omega arith))
 
     -- and where it may take one, the step with the first such value is the next move
-    pub step-found : (first : ℕ) → at < 128 → first ≤ at → NoStep program times locks p first at → v < 16
+    pub step-found : (first : ℕ) → at < 128 → first ≤ at → NoStep program waits locks p first at → v < 16
         → {next : ℕ} → next ≡ valueAfter o (16 * (at / 16) + v)
-        → NextStep program times locks p first (record { byte = 16 * (at / 16) + v; next = next; turn = d })
+        → NextStep program waits locks p first (record { byte = 16 * (at / 16) + v; next = next; turn = d })
     step-found first small low before some {next} e =
         let byte = 16 * (at / 16) + v in
         let task : byte / 16 ≡ at / 16 = omega arith in
@@ -117,10 +117,10 @@ module _ (program times : List ℕ) (locks : Ceilings) (p : Snapshot) (at : ℕ)
         }
 
 -- where no byte below 128 is a step, there is no move left
-pub no-move : (program times : List ℕ) (locks : Ceilings) (p : Snapshot) (first at : ℕ) → first ≤ 128
-    → NoStep program times locks p first at → 128 ≤ at → {d : Due}
-    → NextStep program times locks p first (record { byte = 128; next = 128; turn = d })
-no-move program times locks p first at low before high {d} =
+pub no-move : (program waits : List ℕ) (locks : Ceilings) (p : Snapshot) (first at : ℕ) → first ≤ 128
+    → NoStep program waits locks p first at → 128 ≤ at → NextStep program waits locks p first noMove
+unfolding noMove
+no-move program waits locks p first at low before high =
     record {
       none-before = λ k le lt. before k le (omega arith);
       ahead = low;
@@ -133,3 +133,25 @@ no-move program times locks p first at low before high {d} =
       bounded = omega arith;
       none-between = λ lt. absurd (omega arith);
     }
+
+-- ---- the move of a turn
+
+module _ (program : List ℕ) (d : Due) (byte : ℕ) where
+  -- none is left where the job stands past its body
+  pub move-past : 16 ≤ d .frame .local .next → MoveOf program d byte noMove
+  unfolding noMove
+  move-past past waits locks p first is due le before =
+      (λ lt. absurd (omega arith), λ _. passed-past program waits locks p byte is due first before past)
+
+  module _ (inside : d .frame .local .next < 16) {o : Instruction} (read : o ≡ instructionIn program (byte / 16) (d .frame .local .next)) {v : ℕ} (is-first : v ≡ firstFrom o (byte % 16)) where
+    -- nor where no value from this byte's on is on offer
+    pub move-refused : 16 ≤ v → MoveOf program d byte noMove
+    unfolding noMove
+    move-refused none waits locks p first is due le before =
+        (λ lt. absurd (omega arith), λ _. passed-refused program waits locks p byte is due inside read is-first first before none)
+
+    -- else it is the step with the first such value
+    pub move-found : byte < 128 → v < 16 → {next : ℕ} → next ≡ valueAfter o (16 * (byte / 16) + v)
+        → MoveOf program d byte (record { byte = 16 * (byte / 16) + v; next = next; turn = d })
+    move-found small some after waits locks p first is due le before =
+        (λ _. step-found program waits locks p byte is due inside read is-first first small le before some after, λ high. absurd (omega arith))

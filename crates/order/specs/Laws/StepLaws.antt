@@ -226,6 +226,11 @@ module _ {a : Accepted} (ok : IsAccepted a) {s : State} (inv : Invariant a s) {t
   unfolding hasEnded afterEffect
   ended-other y apart = flag-other (effect .ended) (x .0) (y .0) (s .ended) apart
 
+  -- where it ends, it has
+  pub ended-here : effect .ended ≡ true → hasEnded (afterEffect s turn effect) x ≡ true
+  unfolding hasEnded afterEffect
+  ended-here ends = flag-here (effect .ended) (x .0) (s .ended) flagged-here ∙ rw ends refl
+
   -- where it goes on, it has not ended
   pub unended-here : effect .ended ≡ false → hasEnded (afterEffect s turn effect) x ≡ false
   unfolding hasEnded afterEffect

@@ -78,7 +78,7 @@ noMarks = replicate 1568 0
 abbrev pub firstGuesses : Store → List ℕ
 firstGuesses store = withStore (replicate 256 0) 0 store
 
-module _ {a : Accepted} (ok : IsAccepted a) {program times : List ℕ} {locks : Ceilings} (lends : Lends a program times locks)
+module _ {a : Accepted} (ok : IsAccepted a) {program waits : List ℕ} {locks : Ceilings} (lends : Lends a program waits locks)
     (start : List ℕ) (shows : Shows a (snapshotIn start) (initial a)) where
   abbrev first : TraceState
   first = notedOf start (record { 0 = 0 }) noMarks (firstGuesses (a .table .store))
@@ -117,14 +117,14 @@ module _ {a : Accepted} (ok : IsAccepted a) {program times : List ℕ} {locks : 
         whole-short ok x isX (getD (traceOf a order .marks) x []) _ whole
 
     -- the arrays after the last step
-    held-end : HeldTrace a s (jobTotal a) (traceOf a order) (orderNoted program times locks first order)
+    held-end : HeldTrace a s (jobTotal a) (traceOf a order) (orderNoted program waits locks first order)
     unfolding traceOf
     held-end =
-        subst (λ (q : ℕ). HeldTrace a s q (traceOf a order) (orderNoted program times locks first order)) (ended-all a s (complete .finished))
+        subst (λ (q : ℕ). HeldTrace a s q (traceOf a order) (orderNoted program waits locks first order)) (ended-all a s (complete .finished))
         (order-held ok lends order (initial-invariant a) (kept-initial ok) held-start (complete .allowed) short)
 
     -- they are written as the order's plan
-    pub plan-noted : {marks guesses : List ℕ} → NotedOrder program times locks first order marks guesses
+    pub plan-noted : {marks guesses : List ℕ} → NotedOrder program waits locks first order marks guesses
         → planIn guesses marks (jobTotal a) ≡ planOf a order
     unfolding planIn written jobTotal
     plan-noted {marks} {guesses} noted =

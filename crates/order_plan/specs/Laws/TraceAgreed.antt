@@ -52,7 +52,7 @@ unfolding if_then_else_
 depth-ends true under = eq-eqb under under refl
 depth-ends false under = ne-eqb (under + 1) under (λ e. omega arith)
 
-module _ {a : Accepted} (ok : IsAccepted a) {program times : List ℕ} {locks : Ceilings} (lends : Lends a program times locks) where
+module _ {a : Accepted} (ok : IsAccepted a) {program waits : List ℕ} {locks : Ceilings} (lends : Lends a program waits locks) where
   -- ---- one step
 
   module _ {s : State} (inv : Invariant a s) {r : ℕ} {t : Trace} {done : List ℕ} (kept : OrderKept a s r t done) {n : TraceState}
@@ -70,7 +70,7 @@ module _ {a : Accepted} (ok : IsAccepted a) {program times : List ℕ} {locks : 
     x = said .turn .frame .job
 
     abbrev d : Due
-    d = turnIn program times locks (n .state) i
+    d = turnIn program waits locks (n .state) i
 
     abbrev effect : Effect
     effect = perform (nextOf a (turn .frame)) v (turn .frame .local) (s .store)
@@ -120,7 +120,7 @@ module _ {a : Accepted} (ok : IsAccepted a) {program times : List ℕ} {locks : 
     noted-is =
         ap (λ (b : Bool). afterStep p (x .0) v b n) (depth-ends (effect .ended) (d .under) ∙ sym ends-is)
 
-    step-is : stepNoted program times locks n byte ≡ afterStep p (x .0) v (hasEnded next x) n
+    step-is : stepNoted program waits locks n byte ≡ afterStep p (x .0) v (hasEnded next x) n
     unfolding stepNoted dueNoted if_then_else_
     step-is =
         rw (due-is, frame-is, lt-ltb (turn .frame .local .next) 16 (lent .0), made-is) noted-is
@@ -141,7 +141,7 @@ module _ {a : Accepted} (ok : IsAccepted a) {program times : List ℕ} {locks : 
 
     -- and the arrays hold the trace after it, if its job has room for a step more
     pub held-next : length (getD (t .marks) (x .0) []) < 16
-        → HeldTrace a next roundNext traceNext (stepNoted program times locks n byte)
+        → HeldTrace a next roundNext traceNext (stepNoted program waits locks n byte)
     unfolding jobTotal
     held-next short =
         subst (HeldTrace a next roundNext traceNext) (sym step-is)
@@ -176,8 +176,8 @@ module _ {a : Accepted} (ok : IsAccepted a) {program times : List ℕ} {locks : 
       → Short (byte ∷ bytes) s r t
       → ((z : State) → Invariant a z → (q : ℕ) (u : Trace) (did : List ℕ) → OrderKept a z q u did → (m : TraceState)
       → HeldTrace a z q u m → run a z bytes ≡ some end → Short bytes z q u
-      → Ends end (traceFrom a z q u bytes) (orderNoted program times locks m bytes))
-      → Ends end (traceFrom a s r t (byte ∷ bytes)) (orderNoted program times locks (stepNoted program times locks n byte) bytes)
+      → Ends end (traceFrom a z q u bytes) (orderNoted program waits locks m bytes))
+      → Ends end (traceFrom a s r t (byte ∷ bytes)) (orderNoted program waits locks (stepNoted program waits locks n byte) bytes)
   unfolding roundAfter jobTotal
   held-first byte bytes {s} inv {r} {t} kept {n} held {end} ran short later =
       let first = trace-run-first a s byte bytes ran in
@@ -192,13 +192,13 @@ module _ {a : Accepted} (ok : IsAccepted a) {program times : List ℕ} {locks : 
       let whole : length (getD (traceFrom a s r t (byte ∷ bytes) .marks) x []) ≤ 16 = short x isX in
       let same = ap (λ (u : Trace). length (getD (u .marks) x [])) on in
       let room : length (getD (t .marks) x []) < 16 = omega (arith, more, grows, whole, same) in
-      subst (λ (u : Trace). Ends end u (orderNoted program times locks (stepNoted program times locks n byte) bytes)) (sym on)
+      subst (λ (u : Trace). Ends end u (orderNoted program waits locks (stepNoted program waits locks n byte) bytes)) (sym on)
       (later (first .0) (step-keeps ok inv byte (first .1)) _ _ _ keeps _ (held-next inv kept held said room) (first .2)
       (λ y isY. subst (λ (u : Trace). length (getD (u .marks) y []) ≤ 16) on (short y isY)))
 
   pub order-held : (bytes : List ℕ) {s : State} → Invariant a s → {r : ℕ} {t : Trace} {done : List ℕ}
       → OrderKept a s r t done → {n : TraceState} → HeldTrace a s r t n → {end : State} → run a s bytes ≡ some end → Short bytes s r t
-      → Ends end (traceFrom a s r t bytes) (orderNoted program times locks n bytes)
+      → Ends end (traceFrom a s r t bytes) (orderNoted program waits locks n bytes)
   unfolding run traceFrom orderNoted
   order-held [] {s} inv {r} {t} kept {n} held {end} ran short =
       let same = some-same ran in

@@ -187,7 +187,7 @@ module _ {a : Accepted} {program times : List ℕ} {locks : Ceilings} {k : ℕ} 
       → priorityReached marks (ownerIn program x) x (roundOfStart marks y) ≡ priorityAt a runs (job x) (start runs (job y))
   unfolding priorityReached priorityAt
   priority-agreed x y isX isY =
-      let owner = holds .lends .owner (job x) (is-job x isX) in
+      let owner = holds .lends .table .owner (job x) (is-job x isX) in
       let starts = start-agreed y isY in
       let steps = steps-agreed x isX in
       λ j. lastOr (owner j)
@@ -199,7 +199,7 @@ module _ {a : Accepted} {program times : List ℕ} {locks : Ceilings} {k : ℕ} 
       let may = preempts-lent (holds .lends) (job y) (job x) (is-job y isY) (is-job x isX) in
       let inside = nested-agreed y x isY isX in
       let held = priority-agreed x y isX isY in
-      let owner = holds .lends .owner (job y) (is-job y isY) in
+      let owner = holds .lends .table .owner (job y) (is-job y isY) in
       λ j. not (may j && inside j) || ltb (held j) (owner j)
 
   order-agreed : (x y : ℕ) → x < y → y < k

@@ -16,8 +16,8 @@ use Rattle.machine.specs.Instructions.{Store}
 use Rattle.plan.specs.Legality.{legality}
 use Rattle.plan.specs.Plans.{legalRun, planEnd}
 use Rattle.plan.specs.Runs.{Plan, JobRuns, jobTotal, runPlan}
-use Rattle.lending.specs.declared.Lent.{Lent}
-use Rattle.lending.specs.Code.Lending.{LentOf}
+use Rattle.lending.specs.declared.LentTimes.{LentTimes}
+use Rattle.lending.specs.Code.Lending.{TimesOf}
 use Rattle.marks.specs.declared.Fault.{Fault}
 use Rattle.marks.specs.declared.PlanChecked.{PlanChecked}
 use Rattle.marks.specs.declared.PlanRan.{PlanRan}
@@ -78,8 +78,8 @@ module _ (a : Accepted) (program times : List ℕ) (plan : Plan) (k : ℕ) (r : 
       ∙ (λ i. record { store = sym stored i; failed = r .failed }))
       (ran .1 ∙ ap (stepsIn (r .marks)) (sym total))
 
-pub table-checked : {t : Table} {list : JobList} {l : Lent} (plan : Plan) {r : PlanRan} {fault : Fault} {store : Store}
-    → LentOf t list l → PlanRanOf (l .program) (l .locks) plan (list .count) r
+pub table-checked : {t : Table} {list : JobList} {l : LentTimes} (plan : Plan) {r : PlanRan} {fault : Fault} {store : Store}
+    → TimesOf t list l → PlanRanOf (l .program) (l .locks) plan (list .count) r
     → FaultLeft (r .fault)
     (faultOf (legalityIn (l .program) (l .times) plan (t .store) (r .stores) (r .marks) (list .count))) fault
     → store ≡ lastOr (t .store) (storesIn (r .stores) (list .count))

@@ -4,7 +4,7 @@ use mathlib.Core.Path.{sym}
 use borrow.Author.Tests.{lt-ltb, le-ltb}
 use Rattle.notation.specs.Laws.TestLaws.{and-holds, and-first, and-second}
 use Rattle.snapshots.specs.Code.SnapshotSteps.{ownerIn, arrivalIn, latestIn, preemptsIn}
-use Rattle.snapshots.specs.Laws.StartLaws.{preempts-early}
+use Rattle.snapshots.specs.Laws.ShowLaws.{preempts-early}
 use borrow.Author.Needs.{needs}
 use Rattle.programs.proofs.may_preempt.Statement.{statement}
 use Rattle.programs.proofs.may_preempt.Tie as tie

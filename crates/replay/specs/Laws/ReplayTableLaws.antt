@@ -17,10 +17,10 @@ use Rattle.lending.specs.declared.Lent.{Lent}
 use Rattle.lending.specs.Code.Lending.{LentOf}
 
 pub replay-lent : {t : Table} {list : JobList} {l : Lent} (order : List ℕ) {r : Replayed} → LentOf t list l
-    → r ≡ replayedOf (replayIn (l .program) (l .times) (l .locks) (t .tasks) (snapshotIn (l .start)) 0 order)
+    → r ≡ replayedOf (replayIn (l .program) (l .waits) (l .locks) (t .tasks) (snapshotIn (l .start)) 0 order)
     → ReplayOf t list order r
 replay-lent {l = l} order lent is a ok table listed =
     let ends = replay-agreed ok (lent .lends a ok table listed) order (initial-invariant a) (lent .shows a ok table listed) 0 in
     let same = is
-    ∙ ap (λ (u : Table). replayedOf (replayIn (l .program) (l .times) (l .locks) (u .tasks) (snapshotIn (l .start)) 0 order)) table in
+    ∙ ap (λ (u : Table). replayedOf (replayIn (l .program) (l .waits) (l .locks) (u .tasks) (snapshotIn (l .start)) 0 order)) table in
     subst (λ (q : Replayed). ReplayedAs q (replayFrom a (initial a) 0 order)) (sym same) (replay-kept a _ (replayFrom a (initial a) 0 order) ends)

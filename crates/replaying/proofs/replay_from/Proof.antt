@@ -14,10 +14,10 @@ use Rattle.replaying.proofs.replay_from.Statement.{statement}
 use Rattle.replaying.proofs.replay_from.Tie as tie
 
 abbrev Inv-loop : tie.InvT-loop
-Inv-loop program times locks tasks order s₀ index₀ s index = IsState s × Reached program times locks tasks (snapshotIn s₀) order (snapshotIn s) index
+Inv-loop program waits locks tasks order s₀ index₀ s index = IsState s × Reached program waits locks tasks (snapshotIn s₀) order (snapshotIn s) index
 
 abbrev μ-loop : tie.MeasureT-loop
-μ-loop program times locks tasks order s₀ index₀ s index = length order - index
+μ-loop program waits locks tasks order s₀ index₀ s index = length order - index
 
 loop-holds : tie.Need-loop-holds Inv-loop μ-loop
 loop-holds c = (c .before .pre .1, refl)

@@ -11,16 +11,16 @@ use Rattle.snapshots.specs.declared.Due.{Due}
 use Rattle.snapshots.specs.Code.Snapshots.{Snapshot}
 use Rattle.snapshots.specs.Code.SnapshotSteps.{turnIn, slipIn}
 
-module _ (program times : List ℕ) (locks : Ceilings) (tasks : ℕ) (p : Snapshot) (byte : ℕ) where
-  pub slip-outside : tasks ≤ byte / 16 → 33 ≡ slipIn program times locks tasks p byte
+module _ (program waits : List ℕ) (locks : Ceilings) (tasks : ℕ) (p : Snapshot) (byte : ℕ) where
+  pub slip-outside : tasks ≤ byte / 16 → 33 ≡ slipIn program waits locks tasks p byte
   unfolding slipIn if_then_else_
   slip-outside le = rw (le-ltb (byte / 16) tasks le) refl
 
-  module _ (lt : byte / 16 < tasks) {d : Due} (is : d ≡ turnIn program times locks p (byte / 16)) where
-    pub slip-unturned : not (d .due) ≡ true → 30 ≡ slipIn program times locks tasks p byte
+  module _ (lt : byte / 16 < tasks) {d : Due} (is : d ≡ turnIn program waits locks p (byte / 16)) where
+    pub slip-unturned : not (d .due) ≡ true → 30 ≡ slipIn program waits locks tasks p byte
     unfolding slipIn if_then_else_
     slip-unturned h = rw (lt-ltb (byte / 16) tasks lt, ap (λ (u : Due). u .due) (sym is) ∙ not-true (d .due) h) refl
 
-    pub slip-unoffered : not (d .due) ≡ false → 34 ≡ slipIn program times locks tasks p byte
+    pub slip-unoffered : not (d .due) ≡ false → 34 ≡ slipIn program waits locks tasks p byte
     unfolding slipIn if_then_else_
     slip-unoffered h = rw (lt-ltb (byte / 16) tasks lt, ap (λ (u : Due). u .due) (sym is) ∙ not-false (d .due) h) refl

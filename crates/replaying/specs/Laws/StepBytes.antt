@@ -30,31 +30,31 @@ unfolding if_then_else_
 turn-kept true p stepped kept h = kept h
 turn-kept false p stepped kept h = refl
 
-pub step-kept : (program times : List ℕ) (locks : Ceilings) (p : Snapshot) (byte : ℕ)
-    → stepIn program times locks p byte .allowed ≡ false → stepIn program times locks p byte .state ≡ p
+pub step-kept : (program waits : List ℕ) (locks : Ceilings) (p : Snapshot) (byte : ℕ)
+    → stepIn program waits locks p byte .allowed ≡ false → stepIn program waits locks p byte .state ≡ p
 unfolding stepIn dueStep stepWithIn
-step-kept program times locks p byte = turn-kept _ p _ (choice-kept _ p _)
+step-kept program waits locks p byte = turn-kept _ p _ (choice-kept _ p _)
 
 -- ---- the replay after a step
 
-module _ (program times : List ℕ) (locks : Ceilings) (tasks : ℕ) (start : Snapshot) (order : List ℕ) (p : Snapshot)
-    (index : ℕ) (reached : Reached program times locks tasks start order p index)
+module _ (program waits : List ℕ) (locks : Ceilings) (tasks : ℕ) (start : Snapshot) (order : List ℕ) (p : Snapshot)
+    (index : ℕ) (reached : Reached program waits locks tasks start order p index)
     {b : Bool} (finished : b ≡ finishedIn program p)
     (lt : index < length order) (goes : b ≡ false) {allowed : Bool} {after : Snapshot}
-    (allows : allowed ≡ stepIn program times locks p (getD order index 0) .allowed)
-    (made : after ≡ stepIn program times locks p (getD order index 0) .state) where
-  whole : record { allowed = allowed; state = after } ≡ stepIn program times locks p (getD order index 0)
+    (allows : allowed ≡ stepIn program waits locks p (getD order index 0) .allowed)
+    (made : after ≡ stepIn program waits locks p (getD order index 0) .state) where
+  whole : record { allowed = allowed; state = after } ≡ stepIn program waits locks p (getD order index 0)
   whole = ap₂ (λ (t : Bool) (s : Snapshot). record { allowed = t; state = s }) allows made
 
   -- its slip is asked of the state after it, which is the one before
-  pub byte-refused : not allowed ≡ true → {n : ℕ} → n ≡ slipIn program times locks tasks after (getD order index 0)
-      → record { number = n; place = index; state = after } ≡ replayIn program times locks tasks start 0 order
+  pub byte-refused : not allowed ≡ true → {n : ℕ} → n ≡ slipIn program waits locks tasks after (getD order index 0)
+      → record { number = n; place = index; state = after } ≡ replayIn program waits locks tasks start 0 order
   byte-refused refusal says =
-      let kept = made ∙ step-kept program times locks p (getD order index 0) (sym allows ∙ not-true allowed refusal) in
-      let named = says ∙ ap (λ (s : Snapshot). slipIn program times locks tasks s (getD order index 0)) kept in
+      let kept = made ∙ step-kept program waits locks p (getD order index 0) (sym allows ∙ not-true allowed refusal) in
+      let named = says ∙ ap (λ (s : Snapshot). slipIn program waits locks tasks s (getD order index 0)) kept in
       (λ j. record { number = named j; place = index; state = kept j })
-      ∙ replay-refused program times locks tasks start order p index reached finished lt goes {r = record { allowed = allowed; state = after }} whole refusal
+      ∙ replay-refused program waits locks tasks start order p index reached finished lt goes {r = record { allowed = allowed; state = after }} whole refusal
 
-  pub byte-goes : not allowed ≡ false → Reached program times locks tasks start order after (index + 1)
+  pub byte-goes : not allowed ≡ false → Reached program waits locks tasks start order after (index + 1)
   byte-goes allowance =
-      replay-goes program times locks tasks start order p index reached finished lt goes {r = record { allowed = allowed; state = after }} whole allowance
+      replay-goes program waits locks tasks start order p index reached finished lt goes {r = record { allowed = allowed; state = after }} whole allowance

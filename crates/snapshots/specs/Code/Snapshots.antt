@@ -5,12 +5,12 @@ use mathlib.Core.Bool.{Bool}
 use mathlib.Core.List.{List}
 use Rattle.order.specs.declared.Frame.{Frame}
 
--- the store, for each task the number of its first job not yet begun, a flag for each failed job, and the active jobs,
--- the first `depth` of the eight, in the order in which they started. Jobs of one task begin in order, so a job has
--- begun if its number is below its task's first job not yet begun.
+-- the store, for each task the number of its first job not yet ended, a flag for each failed job, and the active jobs,
+-- the first `depth` of the eight, in the order in which they started. Jobs of one task end in order, so a job has
+-- ended if its number is below its task's first job not yet ended.
 pub record Snapshot : Type 0 where
   pub store : List ℕ
-  pub upcoming : List ℕ
+  pub unended : List ℕ
   pub failed : List Bool
   pub depth : ℕ
   pub stack : List Frame

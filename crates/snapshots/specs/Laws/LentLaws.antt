@@ -28,7 +28,7 @@ use Rattle.timing.specs.Relations.{noJob, base}
 use Rattle.timing.specs.Laws.TimeableLaws.{task-read}
 use Rattle.timing.specs.Laws.JobFacts.{jobs-few}
 use Rattle.order.specs.Laws.LengthLaws.{body-short}
-use Rattle.snapshots.specs.Code.Shows.{Lends}
+use Rattle.snapshots.specs.Code.Shows.{LendsTimes}
 use Rattle.snapshots.specs.Code.SnapshotSteps.{ownerIn, instructionIn, arrivalIn, latestIn}
 use Rattle.snapshots.specs.Code.Lent.{BodiesTo, OwnersTo, TimesTo}
 
@@ -253,19 +253,22 @@ body-lent {a} ok owners i p known inside =
     ∙ sym (body-at e p (omega (arith, body-length e shape)))
     ∙ ap (λ (x : TaskEntry). getD (bodyOf x) p endInstruction) same
 
--- filled from an accepted table's parts, the arrays hold the table
-pub arrays-lent : {a : Accepted} → IsAccepted a → {list : JobList} → list ≡ jobListOf (a .jobs)
+-- filled from an accepted table's parts, the arrays hold the table and its jobs' times
+pub times-lent : {a : Accepted} → IsAccepted a → {list : JobList} → list ≡ jobListOf (a .jobs)
     → {program times : List ℕ} → OwnersTo (a .table) list (list .count) program → TimesTo list (list .count) times
-    → Lends a program times (record { count = a .table .locks; ceilings = a .table .ceilings })
+    → LendsTimes a program times (record { count = a .table .locks; ceilings = a .table .ceilings })
 unfolding ceilingsOf base jobListOf
-arrays-lent {a} ok {list} listed {program} {times} owners held =
+times-lent {a} ok {list} listed {program} {times} owners held =
     let few = jobs-few (ok .isTimed) in
     let counted : list .count ≡ length (a .jobs) = ap (λ (l : JobList). l .count) listed in
     record {
-      owner = λ x isX. owners .owned (x .0) (omega arith) ∙ ap (λ (j : JobRecord). j .task .0) (record-listed list a x listed (omega arith));
-      noOwner = λ x le lt. owners .unowned x (omega arith) lt;
+      table =
+          record {
+            owner = λ x isX. owners .owned (x .0) (omega arith) ∙ ap (λ (j : JobRecord). j .task .0) (record-listed list a x listed (omega arith));
+            noOwner = λ x le lt. owners .unowned x (omega arith) lt;
+            body = λ i p known inside. body-lent ok owners i p known inside;
+            ceilings = refl;
+          };
       arrival = λ x isX. held .arrivals (x .0) (omega arith) ∙ ap (λ (j : JobRecord). j .arrival) (record-listed list a x listed (omega arith));
       latest = λ x isX. held .finishes (x .0) (omega arith) ∙ ap (λ (j : JobRecord). j .latest) (record-listed list a x listed (omega arith));
-      body = λ i p known inside. body-lent ok owners i p known inside;
-      ceilings = refl;
     }

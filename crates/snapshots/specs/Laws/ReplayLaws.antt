@@ -6,7 +6,7 @@ use mathlib.Core.Logic.{inl, inr}
 use Prim.Native.Nat.{ℕ, zero, suc, _+_, _/_, _≤_, _<_}
 use native.Mathlib.Decide.{ℕ-discrete, decLt}
 use native.Mathlib.Omega.{arith}
-use mathlib.Core.Bool.{Bool, true, false, _||_}
+use mathlib.Core.Bool.{true, false}
 use mathlib.Core.List.{List, [], _∷_}
 use mathlib.Core.Option.{Option, none, some}
 use lib.ListN.{getD}
@@ -16,14 +16,14 @@ use Rattle.taskfile.specs.Laws.JudgingLaws.{tasks-length}
 use Rattle.notation.specs.Checked.{Checked, refused, passed}
 use Rattle.notation.specs.Laws.CheckedLaws.{require-holds, require-fails}
 use Rattle.notation.specs.Laws.ListLaws.{upTo-length, getD-upTo}
-use Rattle.notation.specs.Lists.{any, from, upTo, if_then_else_}
+use Rattle.notation.specs.Lists.{from, upTo, if_then_else_}
 use Rattle.notation.specs.Laws.TestLaws.{test-decided}
 use Rattle.timing.specs.declared.Job.{Job}
 use Rattle.timing.specs.Accepted.{Accepted}
 use Rattle.timing.specs.Relations.{IsJob, base}
 use Rattle.machine.specs.Ends.{noFlags}
 use Rattle.snapshots.specs.Code.Snapshots.{Snapshot, ReplayEnd}
-use Rattle.order.specs.Code.Invariant.{hasBegun, Invariant}
+use Rattle.order.specs.Code.Invariant.{Invariant}
 use Rattle.timing.specs.Laws.JobFacts.{jobs-few}
 use Rattle.order.specs.Laws.LengthLaws.{left, step-left}
 use Rattle.order.specs.Orders.{step}
@@ -37,30 +37,30 @@ use Rattle.snapshots.specs.Laws.SnapshotLaws.{step-agreed, finished-agre
 use Rattle.snapshots.specs.Laws.TurnAgreed.{turn-turned}
 use Rattle.snapshots.specs.Code.SnapshotSteps.{ownerIn, stackOf, turnIn, stepIn, finishedIn, slipIn, replayIn, firstFrom, firstSnapshot}
 use Rattle.timing.specs.Code.IsAccepted.{IsAccepted}
-use Rattle.order.specs.States.{State, initial, hasEnded, isActive, allEnded}
+use Rattle.order.specs.States.{State, initial, hasEnded, allEnded}
 use Rattle.order.specs.Laws.StepLaws.{step-keeps, no-flag}
 use Rattle.snapshots.specs.Code.ReplayParts.{ReplayEndsAs, replayedOf, ReplayedAs}
 
 -- ---- one byte
 
-module _ (program times : List ℕ) (locks : Ceilings) (tasks : ℕ) (p : Snapshot) (index byte : ℕ) (bytes : List ℕ) where
+module _ (program waits : List ℕ) (locks : Ceilings) (tasks : ℕ) (p : Snapshot) (index byte : ℕ) (bytes : List ℕ) where
   -- a byte after the end
   pub replay-extra : finishedIn program p ≡ true
-      → replayIn program times locks tasks p index (byte ∷ bytes) ≡ record { number = 32; place = index; state = p }
+      → replayIn program waits locks tasks p index (byte ∷ bytes) ≡ record { number = 32; place = index; state = p }
   unfolding replayIn
   replay-extra e = rw (e, replayIn) refl
 
   -- a byte that is no step
-  pub replay-illegal : finishedIn program p ≡ false → stepIn program times locks p byte .allowed ≡ false
-      → replayIn program times locks tasks p index (byte ∷ bytes)
-      ≡ record { number = slipIn program times locks tasks p byte; place = index; state = p }
+  pub replay-illegal : finishedIn program p ≡ false → stepIn program waits locks p byte .allowed ≡ false
+      → replayIn program waits locks tasks p index (byte ∷ bytes)
+      ≡ record { number = slipIn program waits locks tasks p byte; place = index; state = p }
   unfolding replayIn
   replay-illegal e illegal = rw (e, illegal, replayIn) refl
 
   -- a byte that is one
-  pub replay-on : finishedIn program p ≡ false → stepIn program times locks p byte .allowed ≡ true
-      → replayIn program times locks tasks p index (byte ∷ bytes)
-      ≡ replayIn program times locks tasks (stepIn program times locks p byte .state) (suc index) bytes
+  pub replay-on : finishedIn program p ≡ false → stepIn program waits locks p byte .allowed ≡ true
+      → replayIn program waits locks tasks p index (byte ∷ bytes)
+      ≡ replayIn program waits locks tasks (stepIn program waits locks p byte .state) (suc index) bytes
   unfolding replayIn
   replay-on e allowed = rw (e, allowed, replayIn) refl
 
@@ -109,17 +109,17 @@ first-beyond program k x start (suc n) le lt h =
       | no apart ↦ omega (arith, first-on program k start n (h start le), first-beyond program k x (suc start) n (omega arith) (omega arith) h)
     ]
 
-module _ {a : Accepted} (ok : IsAccepted a) {program times : List ℕ} {locks : Ceilings} (lends : Lends a program times locks) where
+module _ {a : Accepted} (ok : IsAccepted a) {program waits : List ℕ} {locks : Ceilings} (lends : Lends a program waits locks) where
   -- task k's entry
-  first-upcoming : (store : List ℕ) (k : ℕ) → k < 8
-      → getD (firstSnapshot program store .upcoming) k 0 ≡ firstFrom program k 0 32
+  first-entry : (store : List ℕ) (k : ℕ) → k < 8
+      → getD (firstSnapshot program store .unended) k 0 ≡ firstFrom program k 0 32
   unfolding firstSnapshot upTo from
-  first-upcoming store k lt =
+  first-entry store k lt =
       map-at (λ k. firstFrom program k 0 32) (upTo 8) k 0 0 lt ∙ ap (λ (i : ℕ). firstFrom program i 0 32) (getD-upTo 8 k 0 lt)
 
-  none-begun : (x : Job) → hasBegun (initial a) x ≡ false
-  unfolding initial noFlags hasBegun hasEnded isActive any
-  none-begun x = ap (λ (b : Bool). b || false) (no-flag 32 (x .0))
+  none-ended : (x : Job) → hasEnded (initial a) x ≡ false
+  unfolding initial noFlags hasEnded
+  none-ended x = no-flag 32 (x .0)
 
   -- it shows the state that an order starts from
   pub first-shown : Shows a (firstSnapshot program (a .table .store)) (initial a)
@@ -131,23 +131,23 @@ module _ {a : Accepted} (ok : IsAccepted a) {program times : List ℕ} {locks : 
     depth = omega arith;
     full = refl;
     places = map-length _ (upTo 8) ∙ upTo-length 8;
-    begun = λ x isX.
+    ended = λ x isX.
         (let k = base a x in
-        let entry = first-upcoming (a .table .store) k (base-small ok x isX) in
-        let within = first-within program k (x .0) 0 32 (omega arith) (omega (arith, jobs-few (ok .isTimed))) (omega (arith, lends .owner x isX)) in
-        none-begun x ∙ sym (le-ltb (x .0) (getD (firstSnapshot program (a .table .store) .upcoming) k 0) (omega arith)));
+        let entry = first-entry (a .table .store) k (base-small ok x isX) in
+        let within = first-within program k (x .0) 0 32 (omega arith) (omega (arith, jobs-few (ok .isTimed))) (omega (arith, lends .table .owner x isX)) in
+        none-ended x ∙ sym (le-ltb (x .0) (getD (firstSnapshot program (a .table .store) .unended) k 0) (omega arith)));
     lowest = λ k x lt isX low.
-        (let entry = first-upcoming (a .table .store) k lt in
+        (let entry = first-entry (a .table .store) k lt in
         let lower : (y : ℕ) → y ≤ x .0 → ownerIn program y < k = λ y le.
         (let isY : IsJob a (record { 0 = y }) = omega arith in
-        omega (arith, lends .owner (record { 0 = y }) isY, base-rises ok (record { 0 = y }) x le isX)) in
+        omega (arith, lends .table .owner (record { 0 = y }) isY, base-rises ok (record { 0 = y }) x le isX)) in
         omega (arith, first-beyond program k (x .0) 0 32 (omega arith) (omega (arith, jobs-few (ok .isTimed))) lower));
   }
 
   -- ---- the replay
 
   replay-end : {p : Snapshot} {s : State} → Invariant a s → Shows a p s → (index : ℕ)
-      → ReplayEndsAs a (replayIn program times locks (a .table .tasks) p index []) (replayFrom a s index [])
+      → ReplayEndsAs a (replayIn program waits locks (a .table .tasks) p index []) (replayFrom a s index [])
   unfolding replayIn replayFrom if_then_else_
   replay-end {p} {s} inv shows index =
       let same = finished-agreed ok lends inv shows in
@@ -158,42 +158,42 @@ module _ {a : Accepted} (ok : IsAccepted a) {program times : List ℕ} {locks : 
 
   -- a byte that is no step slips alike
   slip-agreed : {p : Snapshot} {s : State} → Invariant a s → Shows a p s → (byte : ℕ)
-      → slipIn program times locks (a .table .tasks) p byte ≡ slipOf a s byte
+      → slipIn program waits locks (a .table .tasks) p byte ≡ slipOf a s byte
   unfolding slipIn slipOf isTask if_then_else_
   slip-agreed {p} {s} inv shows byte =
       let turned = turn-turned ok lends inv shows (byte / 16) in
       let tasks = tasks-length _ (ok .isMade .shaped) in
-      elim (test-decided (turnIn program times locks p (byte / 16) .due)) [
+      elim (test-decided (turnIn program waits locks p (byte / 16) .due)) [
         | inl e ↦ rw (tasks, e, turned .0 e .due) refl
         | inr e ↦ rw (tasks, e, turned .1 e) refl
       ]
 
   -- one byte keeps the two together
   replay-step : {p : Snapshot} {s : State} → Invariant a s → Shows a p s → (index byte : ℕ) (bytes : List ℕ)
-      → ((after : State) → Invariant a after → Shows a (stepIn program times locks p byte .state) after → ReplayEndsAs
-      a (replayIn program times locks (a .table .tasks) (stepIn program times locks p byte .state) (suc index) bytes)
+      → ((after : State) → Invariant a after → Shows a (stepIn program waits locks p byte .state) after → ReplayEndsAs
+      a (replayIn program waits locks (a .table .tasks) (stepIn program waits locks p byte .state) (suc index) bytes)
       (replayFrom a after (suc index) bytes))
-      → ReplayEndsAs a (replayIn program times locks (a .table .tasks) p index (byte ∷ bytes))
+      → ReplayEndsAs a (replayIn program waits locks (a .table .tasks) p index (byte ∷ bytes))
       (replayFrom a s index (byte ∷ bytes))
   replay-step {p} {s} inv shows index byte bytes onward =
       let same = finished-agreed ok lends inv shows in
       let agreed = step-agreed ok lends inv shows byte in
       elim (test-decided (allEnded a s)) [
         | inl e ↦
-            rw (byte-extra a s index byte bytes e, replay-extra program times locks _ p index byte bytes (same ∙ e)) (refl, refl)
-        | inr e ↦ elim (test-decided (stepIn program times locks p byte .allowed)) [
+            rw (byte-extra a s index byte bytes e, replay-extra program waits locks _ p index byte bytes (same ∙ e)) (refl, refl)
+        | inr e ↦ elim (test-decided (stepIn program waits locks p byte .allowed)) [
           | inl allowed ↦
               let made = agreed .0 allowed in
-              rw (byte-steps ok inv index byte bytes (made .1), replay-on program times locks _ p index byte bytes (same ∙ e) allowed)
+              rw (byte-steps ok inv index byte bytes (made .1), replay-on program waits locks _ p index byte bytes (same ∙ e) allowed)
               (onward (made .0) (step-keeps ok inv byte (made .1)) (made .2))
           | inr refusal ↦
-              rw (byte-slips a s index byte bytes e (agreed .1 refusal), replay-illegal program times locks _ p index byte bytes (same ∙ e) refusal)
+              rw (byte-slips a s index byte bytes e (agreed .1 refusal), replay-illegal program waits locks _ p index byte bytes (same ∙ e) refusal)
               (slip-agreed inv shows byte, refl)
         ]
       ]
 
   pub replay-agreed : (bytes : List ℕ) {p : Snapshot} {s : State} → Invariant a s → Shows a p s → (index : ℕ)
-      → ReplayEndsAs a (replayIn program times locks (a .table .tasks) p index bytes) (replayFrom a s index bytes)
+      → ReplayEndsAs a (replayIn program waits locks (a .table .tasks) p index bytes) (replayFrom a s index bytes)
   replay-agreed [] inv shows index = replay-end inv shows index
   replay-agreed (byte ∷ bytes) inv shows index =
       replay-step inv shows index byte bytes (λ after kept shown. replay-agreed bytes kept shown (suc index))

@@ -15,7 +15,7 @@ use Rattle.notation.specs.Lists.{if_then_else_, any, upTo}
 use Rattle.notation.specs.Laws.TestLaws.{and-first, and-second}
 use Rattle.snapshots.specs.Code.Snapshots.{Snapshot, Stepped}
 use Rattle.snapshots.specs.Laws.ReplayLaws.{replay-extra, replay-illegal, replay-on, first-on, first-stops}
-use Rattle.snapshots.specs.Code.SnapshotSteps.{ownerIn, stepIn, hasUpcoming, finishedIn, slipIn, replayIn, firstFrom}
+use Rattle.snapshots.specs.Code.SnapshotSteps.{ownerIn, stepIn, hasUnended, finishedIn, slipIn, replayIn, firstFrom}
 
 -- ---- the first job of a task
 
@@ -46,7 +46,7 @@ module _ (program : List ℕ) (p : Snapshot) where
   unfolding finishedIn
   finished-deep deep = sym (and-first (eqb (p .depth) 0) _ (ne-eqb (p .depth) 0 deep))
 
-  pub finished-flat : p .depth ≡ 0 → {b : Bool} → b ≡ any (hasUpcoming program (p .upcoming)) (upTo 8)
+  pub finished-flat : p .depth ≡ 0 → {b : Bool} → b ≡ any (hasUnended program (p .unended)) (upTo 8)
       → not b ≡ finishedIn program p
   unfolding finishedIn
   finished-flat flat e = ap not e ∙ sym (and-second (eqb (p .depth) 0) _ (eq-eqb (p .depth) 0 flat))
@@ -55,52 +55,52 @@ module _ (program : List ℕ) (p : Snapshot) where
 
 -- the whole replay is the replay of the bytes from an index on, from the state reached there
 abbrev pub Reached : List ℕ → List ℕ → Ceilings → ℕ → Snapshot → List ℕ → Snapshot → ℕ → Type 0
-Reached program times locks tasks start order p index =
-    replayIn program times locks tasks start 0 order ≡ replayIn program times locks tasks p index (drop index order)
+Reached program waits locks tasks start order p index =
+    replayIn program waits locks tasks start 0 order ≡ replayIn program waits locks tasks p index (drop index order)
 
-module _ (program times : List ℕ) (locks : Ceilings) (tasks : ℕ) (start : Snapshot) (order : List ℕ) (p : Snapshot)
-    (index : ℕ) (reached : Reached program times locks tasks start order p index)
+module _ (program waits : List ℕ) (locks : Ceilings) (tasks : ℕ) (start : Snapshot) (order : List ℕ) (p : Snapshot)
+    (index : ℕ) (reached : Reached program waits locks tasks start order p index)
     {b : Bool} (finished : b ≡ finishedIn program p) where
   next : index < length order
-      → replayIn program times locks tasks start 0 order ≡ replayIn program times locks tasks p index
+      → replayIn program waits locks tasks start 0 order ≡ replayIn program waits locks tasks p index
       (getD order index 0 ∷ drop (suc index) order)
-  next lt = reached ∙ ap (replayIn program times locks tasks p index) (drop-cons order index 0 lt)
+  next lt = reached ∙ ap (replayIn program waits locks tasks p index) (drop-cons order index 0 lt)
 
   pub replay-past : index < length order → b ≡ true
-      → record { number = 32; place = index; state = p } ≡ replayIn program times locks tasks start 0 order
-  replay-past lt h = sym (next lt ∙ replay-extra program times locks tasks p index (getD order index 0) (drop (suc index) order) (sym finished ∙ h))
+      → record { number = 32; place = index; state = p } ≡ replayIn program waits locks tasks start 0 order
+  replay-past lt h = sym (next lt ∙ replay-extra program waits locks tasks p index (getD order index 0) (drop (suc index) order) (sym finished ∙ h))
 
-  module _ (lt : index < length order) (h : b ≡ false) {r : Stepped} (made : r ≡ stepIn program times locks p (getD order index 0)) where
+  module _ (lt : index < length order) (h : b ≡ false) {r : Stepped} (made : r ≡ stepIn program waits locks p (getD order index 0)) where
     pub replay-refused : not (r .allowed) ≡ true
-        → record { number = slipIn program times locks tasks p (getD order index 0); place = index; state = p }
-        ≡ replayIn program times locks tasks start 0 order
+        → record { number = slipIn program waits locks tasks p (getD order index 0); place = index; state = p }
+        ≡ replayIn program waits locks tasks start 0 order
     replay-refused refusal =
-        sym (next lt ∙ replay-illegal program times locks tasks p index (getD order index 0) (drop (suc index) order) (sym finished ∙ h)
+        sym (next lt ∙ replay-illegal program waits locks tasks p index (getD order index 0) (drop (suc index) order) (sym finished ∙ h)
         (ap (λ (s : Stepped). s .allowed) (sym made) ∙ not-true (r .allowed) refusal))
 
-    pub replay-goes : not (r .allowed) ≡ false → Reached program times locks tasks start order (r .state) (index + 1)
+    pub replay-goes : not (r .allowed) ≡ false → Reached program waits locks tasks start order (r .state) (index + 1)
     replay-goes allowed =
-        next lt ∙ replay-on program times locks tasks p index (getD order index 0) (drop (suc index) order) (sym finished ∙ h)
+        next lt ∙ replay-on program waits locks tasks p index (getD order index 0) (drop (suc index) order) (sym finished ∙ h)
         (ap (λ (s : Stepped). s .allowed) (sym made) ∙ not-false (r .allowed) allowed)
-        ∙ ap (λ (s : Stepped). replayIn program times locks tasks (s .state) (suc index) (drop (suc index) order)) (sym made)
-        ∙ ap (λ (n : ℕ). replayIn program times locks tasks (r .state) n (drop n order)) (sym (add-one index))
+        ∙ ap (λ (s : Stepped). replayIn program waits locks tasks (s .state) (suc index) (drop (suc index) order)) (sym made)
+        ∙ ap (λ (n : ℕ). replayIn program waits locks tasks (r .state) n (drop n order)) (sym (add-one index))
 
   last : length order ≤ index
-      → replayIn program times locks tasks start 0 order ≡ replayIn program times locks tasks p index []
-  last le = reached ∙ ap (replayIn program times locks tasks p index) (drop-of-length-le order le)
+      → replayIn program waits locks tasks start 0 order ≡ replayIn program waits locks tasks p index []
+  last le = reached ∙ ap (replayIn program waits locks tasks p index) (drop-of-length-le order le)
 
   ended : (c : Bool) → finishedIn program p ≡ c
-      → replayIn program times locks tasks p index [] ≡ record
+      → replayIn program waits locks tasks p index [] ≡ record
       { number = if c then 0 else 31; place = if c then 0 else index; state = p }
   unfolding replayIn
   ended c e = rw e refl
 
   pub replay-whole : length order ≤ index → b ≡ true
-      → record { number = 0; place = 0; state = p } ≡ replayIn program times locks tasks start 0 order
+      → record { number = 0; place = 0; state = p } ≡ replayIn program waits locks tasks start 0 order
   unfolding if_then_else_
   replay-whole le h = sym (last le ∙ ended true (sym finished ∙ h))
 
   pub replay-short : length order ≤ index → b ≡ false
-      → record { number = 31; place = index; state = p } ≡ replayIn program times locks tasks start 0 order
+      → record { number = 31; place = index; state = p } ≡ replayIn program waits locks tasks start 0 order
   unfolding if_then_else_
   replay-short le h = sym (last le ∙ ended false (sym finished ∙ h))

@@ -12,11 +12,11 @@ use mathlib.Core.List.{List, [], _∷_, reverse, reverse-append}
 use mathlib.Core.Option.{none, some, bind}
 use lib.ListN.{length, getD, set, take, length-set}
 use lib.Dec.{ltb, eqb}
-use lib.Seq.{getD-set-same, getD-set-other, take-suc-set}
+use lib.Seq.{getD-set-same, getD-set-other, take-suc-set, take-set-le}
 use borrow.Author.Tests.{eqb-true, eq-eqb, lt-ltb, le-ltb, not-true}
 use Rattle.taskfile.specs.declared.Ceilings.{Ceilings}
 use Rattle.notation.specs.Laws.ListLaws.{getD-upTo}
-use Rattle.notation.specs.Lists.{if_then_else_, any, member, from, upTo}
+use Rattle.notation.specs.Lists.{if_then_else_, member, from, upTo}
 use Rattle.notation.specs.Ordered.{Every}
 use Rattle.notation.specs.Laws.TestLaws.{and-both, and-holds, or-left, test-decided, not-both, not-true-false, both-ways}
 use Rattle.timing.specs.declared.Job.{Job}
@@ -34,22 +34,18 @@ use Rattle.order.specs.Laws.LengthLaws.{body-short}
 use Rattle.order.specs.Orders.{Turn, turnOf, nextOf, performed, stepWith, step}
 use Rattle.notation.specs.Laws.QuantifierLaws.{none-at, at-none}
 use Rattle.timing.specs.Laws.JobNumberLaws.{all-jobs, jobs-all}
-use Rattle.snapshots.specs.Laws.ShowLaws.{owned-shown, job-owned, first-unbegun, first-waits}
+use Rattle.snapshots.specs.Laws.ShowLaws.{active-top, unended, owned-shown, job-owned, first-unended, first-open}
 use Rattle.timing.specs.Laws.BaseLaws.{base-rises, base-small}
 use Rattle.snapshots.specs.Code.Shows.{Lends, Shows}
-use Rattle.snapshots.specs.Code.SnapshotSteps.{instructionIn, ownedBy, stackOf, topOf, turnIn, afterIn, offeredIn, madeIn, stepWithIn, dueStep, stepIn, hasUpcoming, finishedIn}
+use Rattle.snapshots.specs.Code.SnapshotSteps.{instructionIn, ownedBy, stackOf, topOf, turnIn, afterIn, offeredIn, madeIn, stepWithIn, dueStep, stepIn, hasUnended, finishedIn}
 use Rattle.timing.specs.Code.IsAccepted.{IsAccepted}
-use Rattle.order.specs.States.{State, hasEnded, isActive, allEnded}
-use Rattle.order.specs.Laws.StepLaws.{GoodTurn, good-turn, afterEffect, performed-is, begun-before, begun-stays, begun-here, active-ended, active-goes}
-use Rattle.snapshots.specs.Laws.TurnAgreed.{Turned, active-top, no-active, turn-turned}
+use Rattle.order.specs.States.{State, hasEnded, allEnded}
+use Rattle.order.specs.Laws.StepLaws.{GoodTurn, good-turn, afterEffect, performed-is, ended-here, ended-stays, ended-other, unended-here, active-ended, active-goes}
+use Rattle.snapshots.specs.Laws.TurnAgreed.{Turned, turn-turned}
 
 -- ---- the step
 
-ended-first : (s : State) (y : Job) → hasEnded s y ≡ true → hasBegun s y ≡ true
-unfolding hasBegun
-ended-first s y h = or-left (hasEnded s y) _ h
-
-module _ {a : Accepted} (ok : IsAccepted a) {program times : List ℕ} {locks : Ceilings} (lends : Lends a program times locks)
+module _ {a : Accepted} (ok : IsAccepted a) {program waits : List ℕ} {locks : Ceilings} (lends : Lends a program waits locks)
     {p : Snapshot} {s : State} (inv : Invariant a s) (shows : Shows a p s) where
   module _ {turn : Turn} (good : GoodTurn a s turn) (i : ℕ) (task : base a (turn .frame .job) ≡ i) (under : ℕ)
       (below : turn .under ≡ reverse (take under (p .stack))) (room : under < 8) where
@@ -71,7 +67,7 @@ module _ {a : Accepted} (ok : IsAccepted a) {program times : List ℕ} {locks : 
         let known = job-task (ok .isTimed) x isX in
         let inside = good .running .inside in (
           omega (arith, inside, body-short (ok .isMade .shaped) owner known),
-          ap (λ (k : ℕ). instructionIn program k (turn .frame .local .next)) (sym task) ∙ lends .body owner (turn .frame .local .next) known inside,
+          ap (λ (k : ℕ). instructionIn program k (turn .frame .local .next)) (sym task) ∙ lends .table .body owner (turn .frame .local .next) known inside,
         )
 
     module _ (effect : Effect) where
@@ -84,7 +80,9 @@ module _ {a : Accepted} (ok : IsAccepted a) {program times : List ℕ} {locks : 
       -- the turn's job is active on, or has ended
       stack-shown : (b : Bool) → effect .ended ≡ b → s′ .active ≡ reverse (stackOf p′)
       unfolding stackOf afterIn if_then_else_
-      stack-shown true e = active-ended ok inv good effect e ∙ below ∙ rw e refl
+      stack-shown true e =
+          active-ended ok inv good effect e ∙ below
+          ∙ ap reverse (sym (take-set-le under (p .stack) under (record { job = x; local = effect .local }) (omega arith))) ∙ rw e refl
       stack-shown false e =
           active-goes ok inv good effect e
           ∙ ap (λ (fs : List Frame). record { job = x; local = effect .local } ∷ fs) below
@@ -97,58 +95,74 @@ module _ {a : Accepted} (ok : IsAccepted a) {program times : List ℕ} {locks : 
       depth-shown true = omega arith
       depth-shown false = omega arith
 
-      full-shown : (b : Bool)
-          → length (if b then p .stack else set (p .stack) under (record { job = x; local = effect .local })) ≡ 8
-      unfolding if_then_else_
-      full-shown true = shows .full
-      full-shown false = length-set (p .stack) under _ ∙ shows .full
+      -- the first jobs not yet ended, by whether the turn's job has
+      abbrev unendedBy : Bool → List ℕ
+      unendedBy b = if b then set (p .unended) i (x .0 + 1) else p .unended
 
-      -- a job of the turn's task has begun if its number is no higher
-      begun-task : (y : Job) → IsJob a y → base a y ≡ i → hasBegun s′ y ≡ ltb (y .0) (x .0 + 1)
-      begun-task y isY same =
+      places-shown : (b : Bool) → length (unendedBy b) ≡ 8
+      unfolding if_then_else_
+      places-shown true = length-set (p .unended) i (x .0 + 1) ∙ shows .places
+      places-shown false = shows .places
+
+      -- a job of the turn's task has ended with that if its number is no higher
+      ended-task : effect .ended ≡ true → (y : Job) → IsJob a y → base a y ≡ i
+          → hasEnded s′ y ≡ ltb (y .0) (x .0 + 1)
+      unfolding hasBegun
+      ended-task e y isY same =
           elim (ℕ-discrete (y .0) (x .0)) [
             | yes equal ↦
-                ap (λ (n : ℕ). hasBegun s′ (record { 0 = n })) equal ∙ begun-here ok inv good effect
+                ap (λ (n : ℕ). hasEnded s′ (record { 0 = n })) equal ∙ ended-here ok inv good effect e
                 ∙ sym (lt-ltb (y .0) (x .0 + 1) (omega arith))
             | no apart ↦ elim (decLt (y .0) (x .0)) [
               | yes lower ↦
-                  begun-stays ok inv good effect y apart (ended-first s y (good .preceded y isY (same-task (ok .isTimed) y x lower isX (same ∙ sym task))))
+                  ended-stays ok inv good effect y (good .preceded y isY (same-task (ok .isTimed) y x lower isX (same ∙ sym task)))
                   ∙ sym (lt-ltb (y .0) (x .0 + 1) (omega arith))
               | no higher ↦
-                  not-true-false _ (λ begun.
-                  not-both _ (inv .preceded x y isX isY (same-task (ok .isTimed) x y (omega arith) isY (task ∙ sym same)) (begun-before ok inv good effect y apart begun))
+                  ended-other ok inv good effect y apart
+                  ∙ not-true-false _ (λ ended.
+                  not-both _ (inv .preceded x y isX isY (same-task (ok .isTimed) x y (omega arith) isY (task ∙ sym same)) (or-left (hasEnded s y) _ ended))
                   (good .running .unended))
                   ∙ sym (le-ltb (y .0) (x .0 + 1) (omega arith))
             ]
           ]
 
-      begun-other : (y : Job) → (y .0 ≡ x .0 → ⊥) → hasBegun s′ y ≡ hasBegun s y
-      begun-other y apart = both-ways _ _ (begun-before ok inv good effect y apart) (begun-stays ok inv good effect y apart)
-
-      begun-shown : (y : Job) → IsJob a y
-          → hasBegun s′ y ≡ ltb (y .0) (getD (set (p .upcoming) i (x .0 + 1)) (base a y) 0)
-      begun-shown y isY =
-          elim (ℕ-discrete (base a y) i) [
-            | yes same ↦
-                begun-task y isY same
-                ∙ ap (λ (n : ℕ). ltb (y .0) n) (sym (getD-set-same (p .upcoming) i (x .0 + 1) 0 (omega (arith, shows .places, small))))
-                ∙ ap (λ (k : ℕ). ltb (y .0) (getD (set (p .upcoming) i (x .0 + 1)) k 0)) (sym same)
-            | no apart ↦
-                begun-other y (λ equal. apart (ap (λ (n : ℕ). base a (record { 0 = n })) equal ∙ task))
-                ∙ shows .begun y isY
-                ∙ ap (λ (n : ℕ). ltb (y .0) n) (sym (getD-set-other (p .upcoming) i (base a y) (x .0 + 1) 0 apart))
+      -- where it goes on, the same jobs have ended as before
+      ended-kept : effect .ended ≡ false → (y : Job) → hasEnded s′ y ≡ hasEnded s y
+      ended-kept e y =
+          elim (ℕ-discrete (y .0) (x .0)) [
+            | yes equal ↦
+                ap (λ (n : ℕ). hasEnded s′ (record { 0 = n })) equal ∙ unended-here ok inv good effect e
+                ∙ sym (ap (λ (n : ℕ). hasEnded s (record { 0 = n })) equal ∙ good .running .unended)
+            | no apart ↦ ended-other ok inv good effect y apart
           ]
 
-      lowest-shown : (k : ℕ) (y : Job) → k < 8 → IsJob a y → base a y < k
-          → y .0 < getD (set (p .upcoming) i (x .0 + 1)) k 0
-      lowest-shown k y lt isY low =
+      ended-shown : (b : Bool) → effect .ended ≡ b → (y : Job) → IsJob a y
+          → hasEnded s′ y ≡ ltb (y .0) (getD (unendedBy b) (base a y) 0)
+      unfolding if_then_else_
+      ended-shown false e y isY = ended-kept e y ∙ shows .ended y isY
+      ended-shown true e y isY =
+          elim (ℕ-discrete (base a y) i) [
+            | yes same ↦
+                ended-task e y isY same
+                ∙ ap (λ (n : ℕ). ltb (y .0) n) (sym (getD-set-same (p .unended) i (x .0 + 1) 0 (omega (arith, shows .places, small))))
+                ∙ ap (λ (k : ℕ). ltb (y .0) (getD (set (p .unended) i (x .0 + 1)) k 0)) (sym same)
+            | no apart ↦
+                ended-other ok inv good effect y (λ equal. apart (ap (λ (n : ℕ). base a (record { 0 = n })) equal ∙ task))
+                ∙ shows .ended y isY
+                ∙ ap (λ (n : ℕ). ltb (y .0) n) (sym (getD-set-other (p .unended) i (base a y) (x .0 + 1) 0 apart))
+          ]
+
+      lowest-shown : (b : Bool) (k : ℕ) (y : Job) → k < 8 → IsJob a y → base a y < k → y .0 < getD (unendedBy b) k 0
+      unfolding if_then_else_
+      lowest-shown false k y lt isY low = shows .lowest k y lt isY low
+      lowest-shown true k y lt isY low =
           elim (ℕ-discrete k i) [
             | yes same ↦
                 let lower : x .0 ≤ y .0 → ⊥ = λ le. omega (arith, base-rises ok x y le isY) in
-                let stored : getD (set (p .upcoming) i (x .0 + 1)) k 0 ≡ x .0 + 1 =
-                ap (λ (n : ℕ). getD (set (p .upcoming) i (x .0 + 1)) n 0) same ∙ getD-set-same (p .upcoming) i (x .0 + 1) 0 (omega (arith, shows .places, small)) in
+                let stored : getD (set (p .unended) i (x .0 + 1)) k 0 ≡ x .0 + 1 =
+                ap (λ (n : ℕ). getD (set (p .unended) i (x .0 + 1)) n 0) same ∙ getD-set-same (p .unended) i (x .0 + 1) 0 (omega (arith, shows .places, small)) in
                 omega arith
-            | no apart ↦ rw (getD-set-other (p .upcoming) i k (x .0 + 1) 0 apart) (shows .lowest k y lt isY low)
+            | no apart ↦ rw (getD-set-other (p .unended) i k (x .0 + 1) 0 apart) (shows .lowest k y lt isY low)
           ]
 
       -- the snapshot after its effect shows the state after it
@@ -159,10 +173,10 @@ module _ {a : Accepted} (ok : IsAccepted a) {program times : List ℕ} {locks : 
         failed = ap (flagged (effect .failed) (x .0)) (shows .failed);
         active = stack-shown (effect .ended) refl;
         depth = depth-shown (effect .ended);
-        full = full-shown (effect .ended);
-        places = length-set (p .upcoming) i (x .0 + 1) ∙ shows .places;
-        begun = begun-shown;
-        lowest = lowest-shown;
+        full = length-set (p .stack) under _ ∙ shows .full;
+        places = places-shown (effect .ended);
+        ended = ended-shown (effect .ended) refl;
+        lowest = lowest-shown (effect .ended);
       }
 
   -- what the code makes of a byte is what the definition makes of it
@@ -227,9 +241,9 @@ module _ {a : Accepted} (ok : IsAccepted a) {program times : List ℕ} {locks : 
 
   -- a byte is an allowed step of the snapshot exactly if it is one of the state, and then leads to what shows the
   -- state after it
-  pub step-agreed : (byte : ℕ) → Agreed byte (stepIn program times locks p byte)
+  pub step-agreed : (byte : ℕ) → Agreed byte (stepIn program waits locks p byte)
   unfolding stepIn
-  step-agreed byte = due-agreed byte (turnIn program times locks p (byte / 16)) (turn-turned ok lends inv shows (byte / 16))
+  step-agreed byte = due-agreed byte (turnIn program waits locks p (byte / 16)) (turn-turned ok lends inv shows (byte / 16))
 
   -- ---- the end
 
@@ -238,48 +252,47 @@ module _ {a : Accepted} (ok : IsAccepted a) {program times : List ℕ} {locks : 
     unfolding finishedIn
     depth-none = eqb-true (p .depth) 0 (and-both (eqb (p .depth) 0) _ finished .0)
 
-    none-upcoming : (k : ℕ) → k < 8 → hasUpcoming program (p .upcoming) k ≡ false
+    none-unended : (k : ℕ) → k < 8 → hasUnended program (p .unended) k ≡ false
     unfolding finishedIn upTo from
-    none-upcoming k lt =
-        ap (hasUpcoming program (p .upcoming)) (sym (getD-upTo 8 k 0 lt))
-        ∙ none-at (hasUpcoming program (p .upcoming)) (upTo 8) k 0 (not-true _ (and-both (eqb (p .depth) 0) _ finished .1)) lt
+    none-unended k lt =
+        ap (hasUnended program (p .unended)) (sym (getD-upTo 8 k 0 lt))
+        ∙ none-at (hasUnended program (p .unended)) (upTo 8) k 0 (not-true _ (and-both (eqb (p .depth) 0) _ finished .1)) lt
 
-    -- a job that has not ended is active, or its task has one not yet begun
+    -- a job that has not ended is one of its task's
     finished-ended : (x : Job) → IsJob a x → hasEnded s x ≡ true
-    unfolding hasBegun isActive any hasUpcoming
+    unfolding hasUnended
     finished-ended x isX = elim (test-decided (hasEnded s x)) [
       | inl ended ↦ ended
-      | inr unended ↦
-          let idle : isActive s x ≡ false = ap (any (λ f. eqb (f .job .0) (x .0))) (no-active ok lends inv shows depth-none) in
-          let first = first-unbegun ok lends inv shows x isX (rw (unended, idle) refl) in
-          let owned = ap (λ (k : ℕ). ownedBy program k (getD (p .upcoming) (base a x) 0)) (sym (first .2))
-          ∙ job-owned ok lends inv shows (record { 0 = getD (p .upcoming) (base a x) 0 }) (first .1) in
-          absurd (not-both _ owned (none-upcoming (base a x) (base-small ok x isX)))
+      | inr running ↦
+          let first = first-unended ok shows x isX running in
+          let owned = ap (λ (k : ℕ). ownedBy program k (unended ok shows (base a x) .0)) (sym (first .2))
+          ∙ job-owned (lends .table) ok (unended ok shows (base a x)) (first .1) in
+          absurd (not-both _ owned (none-unended (base a x) (base-small ok x isX)))
     ]
 
   module _ (ended : (x : Job) → IsJob a x → hasEnded s x ≡ true) where
     ended-flat : p .depth ≡ 0
     ended-flat = elim (decLt 0 (p .depth)) [
       | yes deeper ↦
-          let top = subst (Every (IsRunning a s)) (active-top ok lends inv shows deeper) (inv .running) .0 in
+          let top = subst (Every (IsRunning a s)) (active-top shows deeper) (inv .running) .0 in
           absurd (not-both _ (ended (topOf p .job) (top .job)) (top .unended))
       | no flat ↦ omega arith
     ]
 
-    ended-upcoming : (k : ℕ) → k < 8 → hasUpcoming program (p .upcoming) k ≡ false
-    unfolding hasUpcoming
-    ended-upcoming k lt = not-true-false _ (λ h.
-        (let owned = owned-shown ok lends inv shows k _ lt h in
-        first-waits ok lends inv shows k (owned .0) (owned .1) (ended-first s _ (ended _ (owned .0)))))
+    ended-unended : (k : ℕ) → k < 8 → hasUnended program (p .unended) k ≡ false
+    unfolding hasUnended
+    ended-unended k lt = not-true-false _ (λ h.
+        (let owned = owned-shown (lends .table) k _ lt h in
+        first-open ok shows k (owned .0) (owned .1) (ended _ (owned .0))))
 
     ended-finished : finishedIn program p ≡ true
     unfolding finishedIn upTo from
     ended-finished =
         and-holds (eqb (p .depth) 0) _ (eq-eqb _ _ ended-flat)
-        (ap not (at-none (hasUpcoming program (p .upcoming)) (upTo 8) 0
-        (λ k lt. ap (hasUpcoming program (p .upcoming)) (getD-upTo 8 k 0 lt) ∙ ended-upcoming k lt)))
+        (ap not (at-none (hasUnended program (p .unended)) (upTo 8) 0
+        (λ k lt. ap (hasUnended program (p .unended)) (getD-upTo 8 k 0 lt) ∙ ended-unended k lt)))
 
-  -- all jobs have ended exactly if none is active and no task has one not yet begun
+  -- all jobs have ended exactly if none is active and no task has one not yet ended
   pub finished-agreed : finishedIn program p ≡ allEnded a s
   unfolding allEnded
   finished-agreed =

@@ -21,7 +21,7 @@ use Rattle.machine.specs.Laws.WithinLaws.{fresh-within}
 use Rattle.order.specs.declared.Frame.{Frame}
 use Rattle.snapshots.specs.declared.Due.{Due}
 use Rattle.snapshots.specs.Code.Snapshots.{Snapshot}
-use Rattle.snapshots.specs.Code.SnapshotSteps.{Program, noFrame, nobody, beyond, startsIn, startIn, topOf, runsIn, turnIn, afterIn, firstSnapshot}
+use Rattle.snapshots.specs.Code.SnapshotSteps.{Program, noFrame, nobody, beyond, startsIn, startTurn, startIn, topOf, runsIn, topTurn, turnIn, afterIn, firstSnapshot}
 use Rattle.snapshots.specs.Code.SnapshotWithin.{AllWithin}
 
 -- the job in a frame holds no more than it can
@@ -48,32 +48,28 @@ first-snapshot-within program store = record {
 
 -- ---- whose turn it is
 
-module _ (program times : List ℕ) (locks : Ceilings) (p : Snapshot) (i : ℕ) where
-  start-within : LocksWithin (startIn program times locks p i .frame .local)
-  unfolding startIn if_then_else_ nobody
-  start-within = elim (test-decided (startsIn program times locks p i)) [
+module _ (program waits : List ℕ) (locks : Ceilings) (p : Snapshot) (i : ℕ) where
+  start-within : LocksWithin (startIn program waits locks p i .frame .local)
+  unfolding startIn startTurn if_then_else_ nobody
+  start-within = elim (test-decided (startsIn program waits locks p i)) [
     | inl starts ↦ rw starts fresh-within
     | inr stays ↦ rw stays no-frame-within
   ]
 
-  turn-within : AllWithin p → LocksWithin (turnIn program times locks p i .frame .local)
-  unfolding turnIn if_then_else_ topOf
+  turn-within : AllWithin p → LocksWithin (turnIn program waits locks p i .frame .local)
+  unfolding turnIn topTurn if_then_else_ topOf
   turn-within all = elim (test-decided (runsIn program p i)) [
     | inl runs ↦ rw runs (all .each (p .depth - 1))
     | inr other ↦ rw other start-within
   ]
 
-  pub due-within : AllWithin p → {d : Due} → d ≡ turnIn program times locks p i → LocksWithin (d .frame .local)
+  pub due-within : AllWithin p → {d : Due} → d ≡ turnIn program waits locks p i → LocksWithin (d .frame .local)
   due-within all is = subst (λ (d : Due). LocksWithin (d .frame .local)) (sym is) (turn-within all)
 
 -- ---- what it does
 
 pub after-within : {p : Snapshot} → AllWithin p → (x : Job) (under i : ℕ) (effect : Effect) → LocksWithin (effect .local)
     → AllWithin (afterIn p x under i effect)
-unfolding afterIn if_then_else_
-after-within {p} all x under i effect own = record {
-  each = λ k. elim (test-decided (effect .ended)) [
-    | inl ended ↦ rw ended (all .each k)
-    | inr goes ↦ rw goes (set-each FrameWithin beyond (p .stack) (all .each) under (record { job = x; local = effect .local }) own k)
-  ];
-}
+unfolding afterIn
+after-within {p} all x under i effect own =
+    record { each = set-each FrameWithin beyond (p .stack) (all .each) under (record { job = x; local = effect .local }) own }

@@ -13,10 +13,10 @@ use borrow.Author.Tests.{ltb-true, lt-ltb, le-ltb, not-true, not-false}
 use Rattle.taskfile.specs.declared.Ceilings.{Ceilings}
 use Rattle.notation.specs.Lists.{if_then_else_}
 use Rattle.notation.specs.Laws.TestLaws.{and-both, and-holds, and-first, and-second, and-last, test-decided}
-use Rattle.machine.specs.Instructions.{fresh}
 use Rattle.snapshots.specs.declared.Due.{Due}
 use Rattle.snapshots.specs.Code.Snapshots.{Snapshot, Stepped}
-use Rattle.snapshots.specs.Code.SnapshotSteps.{ownedBy, waits, nobody, startsIn, startIn, topOf, runsIn, turnIn, stepWithIn, dueStep, stepIn}
+use Rattle.snapshots.specs.Laws.StartLaws.{owned-job, starts-says}
+use Rattle.snapshots.specs.Code.SnapshotSteps.{ownedBy, nobody, levelIn, startsIn, startTurn, startIn, topOf, runsIn, topTurn, turnIn, stepWithIn, dueStep, stepIn}
 
 -- ---- who runs
 
@@ -35,65 +35,55 @@ module _ (program : List ℕ) (p : Snapshot) (i : ℕ) where
   runs-top small deep e =
       e ∙ sym (and-second (ltb i 8 && ltb 0 (p .depth)) _ (and-holds (ltb i 8) _ (lt-ltb i 8 small) (lt-ltb 0 (p .depth) (omega arith))))
 
-  owned-low : (x : ℕ) → ownedBy program i x ≡ true → x < 32
-  unfolding ownedBy
-  owned-low x h = ltb-true x 32 (and-both (ltb x 32) _ h .0)
-
   -- who runs is active, and a job of one of the eight tasks
   pub runs-says : runsIn program p i ≡ true → (i < 8) × (0 < p .depth) × (topOf p .job .0 < 32)
   unfolding runsIn
   runs-says h =
       let tests = and-both (ltb i 8 && ltb 0 (p .depth)) _ h in
       let front = and-both (ltb i 8) _ (tests .0) in
-      (ltb-true i 8 (front .0), ltb-true 0 (p .depth) (front .1), owned-low (topOf p .job .0) (tests .1))
+      (ltb-true i 8 (front .0), ltb-true 0 (p .depth) (front .1), owned-job program i _ (tests .1))
 
   pub runs-deep : {b : Bool} → b ≡ runsIn program p i → b ≡ true → 1 ≤ p .depth
   runs-deep e h = runs-says (sym e ∙ h) .1
 
 -- ---- the turn
 
-module _ (program times : List ℕ) (locks : Ceilings) (p : Snapshot) (i : ℕ) where
+module _ (program waits : List ℕ) (locks : Ceilings) (p : Snapshot) (i : ℕ) where
   -- who starts has room, and is a job of one of the eight tasks
-  starts-says : startsIn program times locks p i ≡ true → (i < 8) × (p .depth < 8) × (getD (p .upcoming) i 0 < 32)
-  unfolding startsIn
-  starts-says h =
-      let y = getD (p .upcoming) i 0 in
-      let e4 = and-both (ltb i 8 && ltb (p .depth) 8 && ownedBy program i y && not (waits program times (p .upcoming) y)) _ h in
-      let e3 = and-both (ltb i 8 && ltb (p .depth) 8 && ownedBy program i y) _ (e4 .0) in
-      let e2 = and-both (ltb i 8 && ltb (p .depth) 8) _ (e3 .0) in
-      let e1 = and-both (ltb i 8) _ (e2 .0) in
-      (ltb-true i 8 (e1 .0), ltb-true (p .depth) 8 (e1 .1), owned-low program p i y (e2 .1))
+  starts-bounds : startsIn program waits locks p i ≡ true → (i < 8) × (p .depth < 8) × (getD (p .unended) i 0 < 32)
+  starts-bounds h =
+      let start = starts-says program waits (levelIn program locks p) p i h in
+      (start .task, start .room, owned-job program i _ (start .owned))
 
   abbrev Bounded : Due → Type 0
   Bounded d = d .due ≡ true → (i < 8) × (d .under < 8) × (d .frame .job .0 < 32)
 
-  start-bounded : Bounded (startIn program times locks p i)
-  unfolding startIn if_then_else_ nobody
+  start-bounded : Bounded (startIn program waits locks p i)
+  unfolding startIn startTurn if_then_else_ nobody
   start-bounded =
-      elim (test-decided (startsIn program times locks p i)) [
+      elim (test-decided (startsIn program waits locks p i)) [
         | inl e ↦
-            let is : startIn program times locks p i
-            ≡ record { due = true; frame = record { job = record { 0 = getD (p .upcoming) i 0 }; local = fresh }; under = p .depth } = rw e refl in
-            subst Bounded (sym is) (λ h. starts-says e)
+            let is : startIn program waits locks p i ≡ startTurn p i = rw e refl in
+            subst Bounded (sym is) (λ h. starts-bounds e)
         | inr e ↦
-            let is : startIn program times locks p i ≡ nobody = rw e refl in
+            let is : startIn program waits locks p i ≡ nobody = rw e refl in
             subst Bounded (sym is) (λ h. absurd (true≢false (sym h)))
       ]
 
-  turn-bounded : p .depth ≤ 8 → Bounded (turnIn program times locks p i)
-  unfolding turnIn if_then_else_
+  turn-bounded : p .depth ≤ 8 → Bounded (turnIn program waits locks p i)
+  unfolding turnIn topTurn if_then_else_
   turn-bounded le =
       elim (test-decided (runsIn program p i)) [
         | inl e ↦
             let says = runs-says program p i e in
-            let is : turnIn program times locks p i ≡ record { due = true; frame = topOf p; under = p .depth - 1 } = rw e refl in
+            let is : turnIn program waits locks p i ≡ topTurn p = rw e refl in
             subst Bounded (sym is) (λ h. (says .0, omega arith, says .2))
         | inr e ↦
-            let is : turnIn program times locks p i ≡ startIn program times locks p i = rw e refl in
+            let is : turnIn program waits locks p i ≡ startIn program waits locks p i = rw e refl in
             subst Bounded (sym is) start-bounded
       ]
 
-  module _ {d : Due} (is : d ≡ turnIn program times locks p i) (le : p .depth ≤ 8) where
+  module _ {d : Due} (is : d ≡ turnIn program waits locks p i) (le : p .depth ≤ 8) where
     -- a turn that is due is one of the eight tasks, and its numbers have a place in the arrays
     pub due-task : d .due ≡ true → i < 8
     due-task h = subst Bounded (sym is) (turn-bounded le) h .0
@@ -102,29 +92,29 @@ module _ (program times : List ℕ) (locks : Ceilings) (p : Snapshot) (i : ℕ) 
     due-bounds h = let says = subst Bounded (sym is) (turn-bounded le) h in (says .1, says .2)
 
     -- so a turn meets what its maker says of it
-    pub turn-made : (d ≡ turnIn program times locks p i) × (d .due ≡ true → (d .under < 8) × (d .frame .job .0 < 32))
+    pub turn-made : (d ≡ turnIn program waits locks p i) × (d .due ≡ true → (d .under < 8) × (d .frame .job .0 < 32))
     turn-made = (is, due-bounds)
 
   pub turn-runs : {b : Bool} → b ≡ runsIn program p i → b ≡ true
-      → record { due = true; frame = topOf p; under = p .depth - 1 } ≡ turnIn program times locks p i
+      → topTurn p ≡ turnIn program waits locks p i
   unfolding turnIn if_then_else_
   turn-runs e h = rw (sym e ∙ h) refl
 
-  pub turn-starts : {b : Bool} → b ≡ runsIn program p i → b ≡ false → {d : Due} → d ≡ startIn program times locks p i
-      → d ≡ turnIn program times locks p i
+  pub turn-starts : {b : Bool} → b ≡ runsIn program p i → b ≡ false → {d : Due} → d ≡ startIn program waits locks p i
+      → d ≡ turnIn program waits locks p i
   unfolding turnIn if_then_else_
   turn-starts e h is = rw (sym e ∙ h) is
 
 -- ---- the step
 
-module _ (program times : List ℕ) (locks : Ceilings) (p : Snapshot) (byte : ℕ) {d : Due}
-    (is : d ≡ turnIn program times locks p (byte / 16)) where
-  step-of : dueStep program p (byte / 16) (byte % 16) d ≡ stepIn program times locks p byte
+module _ (program waits : List ℕ) (locks : Ceilings) (p : Snapshot) (byte : ℕ) {d : Due}
+    (is : d ≡ turnIn program waits locks p (byte / 16)) where
+  step-of : dueStep program p (byte / 16) (byte % 16) d ≡ stepIn program waits locks p byte
   unfolding stepIn
   step-of = ap (dueStep program p (byte / 16) (byte % 16)) is
 
   -- where nobody is due, there is no step
-  pub step-none : not (d .due) ≡ true → record { allowed = false; state = p } ≡ stepIn program times locks p byte
+  pub step-none : not (d .due) ≡ true → record { allowed = false; state = p } ≡ stepIn program waits locks p byte
   unfolding dueStep if_then_else_
   step-none h =
       let stays : dueStep program p (byte / 16) (byte % 16) d ≡ record { allowed = false; state = p } = rw (not-true (d .due) h) refl in
@@ -132,7 +122,7 @@ module _ (program times : List ℕ) (locks : Ceilings) (p : Snapshot) (byte : �
 
   -- else the job that is due steps
   pub step-due : not (d .due) ≡ false → {r : Stepped}
-      → r ≡ stepWithIn program p (d .frame) (d .under) (byte / 16) (byte % 16) → r ≡ stepIn program times locks p byte
+      → r ≡ stepWithIn program p (d .frame) (d .under) (byte / 16) (byte % 16) → r ≡ stepIn program waits locks p byte
   unfolding dueStep if_then_else_
   step-due h made =
       let goes : dueStep program p (byte / 16) (byte % 16) d ≡ stepWithIn program p (d .frame) (d .under) (byte / 16) (byte % 16) =

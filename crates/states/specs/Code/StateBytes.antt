@@ -1,5 +1,5 @@
 -- A state of an order in one array of 192 bytes, which is lent to the functions that read it and copied once a move.
--- Bytes 0 to 7 are the store; from 8 on stands for each task the number of its first job not yet begun, from 16 on a
+-- Bytes 0 to 7 are the store; from 8 on stands for each task the number of its first job not yet ended, from 16 on a
 -- flag for each of 32 jobs, 1 if it has failed; byte 48 is the number of active jobs; and from 64 on stand 16 bytes
 -- for each of them: its number, a byte that is not used, its next position in two bytes, the low one first, its four
 -- registers, and a byte for each lock. Bytes 49 to 63 are not used. `snapshotIn` is the snapshot that such bytes hold.
@@ -40,7 +40,7 @@ unfoldable pub snapshotIn : List ℕ → Snapshot
 snapshotIn bytes =
     record {
       store = bytesAt bytes 0 8;
-      upcoming = bytesAt bytes 8 8;
+      unended = bytesAt bytes 8 8;
       failed = map (flagIn bytes) (upTo 32);
       depth = getD bytes 48 0;
       stack = map (frameIn bytes) (upTo 8);

@@ -1,70 +1,52 @@
--- `steps::step_with` meets its contract: the effect that it writes is the one of the definition's instruction on the
--- state's store.
+-- `steps::step_with` meets its contract: the job placed is the one of the frame, and what it performs there is the
+-- definition's instruction on the state's store.
 -- Assumes nothing.
+use mathlib.Core.Path.{_∙_}
+use Rattle.steps.specs.Laws.EffectWrites.{placed-inside, placed-within, step-made}
 use borrow.Author.Needs.{needs}
-use Rattle.machine.specs.Laws.WithinLaws.{perform-within}
-use Rattle.steps.specs.Laws.StepCases.{made-so}
 use Rattle.steps.proofs.step_with.Statement.{statement}
 use Rattle.steps.proofs.step_with.Tie as tie
 
 instruction-at-requires : tie.Need-instruction-at-requires
 instruction-at-requires c κs = search needs
 
-element-copy-out-t14 : tie.Need-element-copy-out-t14
-element-copy-out-t14 c = search needs
+put-frame-requires : tie.Need-put-frame-requires
+put-frame-requires c κs = search needs
 
-element-copy-out-t17 : tie.Need-element-copy-out-t17
-element-copy-out-t17 c = search needs
+perform-in-requires : tie.Need-perform-in-requires
+perform-in-requires c κs =
+    let placed = c .before in
+    let start = placed .before .before .before .before .before in
+    let put = placed .put-frame .ensures in
+    (put .same ∙ start .pre .1 .0 .whole, start .pre .0 .2, placed-inside (start .pre .0 .2) put (start .pre .0 .1), placed-within (start .pre .0 .2) put (start .pre .1 .1))
 
-element-copy-out-t20 : tie.Need-element-copy-out-t20
-element-copy-out-t20 c = search needs
+ends-requires : tie.Need-ends-requires
+ends-requires c κs = search needs
 
-element-copy-out-t23 : tie.Need-element-copy-out-t23
-element-copy-out-t23 c = search needs
-
-element-copy-out-t26 : tie.Need-element-copy-out-t26
-element-copy-out-t26 c = search needs
-
-element-copy-out-t29 : tie.Need-element-copy-out-t29
-element-copy-out-t29 c = search needs
-
-element-copy-out-t32 : tie.Need-element-copy-out-t32
-element-copy-out-t32 c = search needs
-
-element-copy-out-t35 : tie.Need-element-copy-out-t35
-element-copy-out-t35 c = search needs
-
-perform-instruction-requires : tie.Need-perform-instruction-requires
-perform-instruction-requires c κs = search needs
-
-put-effect-requires : tie.Need-put-effect-requires
-put-effect-requires c κs =
+note-requires : tie.Need-note-requires
+note-requires c κs =
     let performed = c .before .before in
-    let start = performed .before .before .before .before .before .before .before .before .before .before .before in
-    let own = perform-within _ _ _ _ (start .pre .1 .1) in
-    (start .pre .1 .0, start .pre .0 .0, start .pre .0 .2, start .pre .0 .3, rw (performed .perform-instruction .ensures) own)
+    let placed = performed .before .before in
+    let start = placed .before .before .before .before .before in
+    (performed .perform-in .ensures .1 .same ∙ placed .put-frame .ensures .same ∙ start .pre .1 .0 .whole, start .pre .0 .0, start .pre .0 .2, start .pre .0 .3)
 
 returns : tie.Need-returns
 returns c =
     let performed = c .before .before .before in
-    let read = performed .before .before .before .before .before .before .before .before .before in
-    let start = read .before .before in
-    let put = c .put-effect .ensures in
-    (made-so _ _ (start .args .f) _ _ _ (read .instruction-at .ensures) (performed .perform-instruction .ensures) (put .0), put .1)
+    let placed = performed .before .before in
+    let read = placed .before .before in
+    let start = read .before .before .before in
+    let done = performed .perform-in .ensures in
+    step-made (start .pre .0 .2) (placed .put-frame .ensures) _ _ _ (read .instruction-at .ensures) (start .pre .1 .0) (start .pre .1 .1) (done .0)
+    (done .1) (c .before .ends .ensures _ _ _) (c .note .ensures)
 
 pub step-with-spec : {M : Type 1} → statement M
 step-with-spec =
     tie.close
     (tie.spec
     instruction-at-requires
-    element-copy-out-t14
-    element-copy-out-t17
-    element-copy-out-t20
-    element-copy-out-t23
-    element-copy-out-t26
-    element-copy-out-t29
-    element-copy-out-t32
-    element-copy-out-t35
-    perform-instruction-requires
-    put-effect-requires
+    put-frame-requires
+    perform-in-requires
+    ends-requires
+    note-requires
     returns)

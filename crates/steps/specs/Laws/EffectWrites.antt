@@ -1,156 +1,225 @@
--- Laws of the writes that an effect makes in a state's bytes: they hold the snapshot after it.
+-- Laws of the writes that a step makes in a state's bytes: its job is placed and performs its instruction there, and what
+-- came of it is noted. The bytes then hold the snapshot after the step.
 -- Assumes nothing.
 use mathlib.Core.Path.{_≡_, refl, sym, ap, subst, _∙_}
 use mathlib.Core.Logic.{_⊎_, inl, inr}
 use Prim.Native.Nat.{ℕ, _+_, _≤_, _<_}
 use native.Mathlib.Decide.{decLt}
 use native.Mathlib.Omega.{arith}
-use mathlib.Core.Bool.{true, false, not}
+use mathlib.Core.Bool.{Bool, true, false, not}
 use mathlib.Core.List.{List, map}
 use lib.ListN.{length, getD, set, length-set}
 use lib.Dec.{eqb}
 use lib.Seq.{getD-set-same, getD-set-other}
 use Rattle.notation.specs.Lists.{if_then_else_, upTo, bytesAt}
 use Rattle.timing.specs.declared.Job.{Job}
+use Rattle.taskfile.specs.declared.Instruction.{Instruction}
 use Rattle.machine.specs.declared.Effect.{Effect}
+use Rattle.machine.specs.declared.Local.{Local}
+use Rattle.machine.specs.Instructions.{perform}
+use Rattle.machine.specs.Laws.WithinLaws.{perform-within}
 use Rattle.machine.specs.Ends.{flagged}
 use Rattle.machine.specs.Code.Within.{LocksWithin}
-use Rattle.snapshots.specs.Code.SnapshotSteps.{afterIn}
+use Rattle.order.specs.declared.Frame.{Frame}
+use Rattle.performing.specs.Code.Performed.{Performed}
+use Rattle.snapshots.specs.Code.SnapshotSteps.{instructionIn, afterIn, madeIn}
 use Rattle.snapshots.specs.Code.SnapshotWithin.{AllWithin}
 use Rattle.snapshots.specs.Laws.SnapshotWithinLaws.{after-within}
-use Rattle.states.specs.Code.StateBytes.{frameAt, frameIn, flagIn, snapshotIn, IsState, Replaced, FrameReplaced}
-use Rattle.states.specs.Laws.StateWrites.{bytes-new, bytes-same, bytes-set}
+use Rattle.states.specs.Code.StateBytes.{frameAt, frameIn, flagIn, snapshotIn, IsState, FrameReplaced}
+use Rattle.states.specs.Laws.StateWrites.{bytes-same, bytes-set}
 use Rattle.notation.specs.Laws.TabulateLaws.{same-values, set-values}
 use Rattle.states.specs.Laws.FrameWrites.{frame-same}
+use Rattle.steps.specs.Code.Noted.{Noted}
 
--- ---- what is written whether the job ends or not
+-- ---- what is noted
 
--- the effect's store, the number of the task's next job, and the job's flag if it has failed
-pub record Noted (before after : List ℕ) (x i : ℕ) (effect : Effect) : Type 0 where
-  pub same : length after ≡ length before
-  pub store : bytesAt after 0 8 ≡ effect .store
-  pub upcoming : bytesAt after 8 8 ≡ set (bytesAt before 8 8) i (x + 1)
-  pub failed : map (flagIn after) (upTo 32) ≡ flagged (effect .failed) x (map (flagIn before) (upTo 32))
-  pub rest : (k : ℕ) → 48 ≤ k → getD after k 0 ≡ getD before k 0
+-- the job's flag, if it has failed
+abbrev pub flaggedBytes : List ℕ → ℕ → Bool → List ℕ
+flaggedBytes before x b = if b then set before (16 + x) 1 else before
 
-module _ (before stored : List ℕ) (x i : ℕ) (effect : Effect) (whole : length before ≡ 192) (eight : length (effect .store) ≡ 8)
-    (done : Replaced before stored 0 (effect .store)) (task : i < 8) where
-  abbrev begun : List ℕ
-  begun = set stored (8 + i) (x + 1)
-
-  -- past the store, the bytes of the tasks' next jobs are the only ones written
-  begun-kept : (k : ℕ) → 8 ≤ k → (k ≡ 8 + i → ⊥) → getD begun k 0 ≡ getD before k 0
-  begun-kept k high apart = getD-set-other stored (8 + i) k (x + 1) 0 apart ∙ done .outside k (inr (omega arith))
-
-  begun-store : bytesAt begun 0 8 ≡ effect .store
-  begun-store =
-      bytes-same stored begun 0 8 (λ k low high. getD-set-other stored (8 + i) k (x + 1) 0 (λ e. omega arith))
-      ∙ bytes-new before stored 0 (effect .store) 8 eight done
-
-  begun-upcoming : bytesAt begun 8 8 ≡ set (bytesAt before 8 8) i (x + 1)
-  begun-upcoming =
-      bytes-set before begun 8 8 i (x + 1) (getD-set-same stored (8 + i) (x + 1) 0 (omega (arith, done .same)))
-      (λ k low high apart. begun-kept k low apart)
-
-  begun-length : length begun ≡ length before
-  begun-length = length-set stored (8 + i) (x + 1) ∙ done .same
-
-  -- the job has not failed
-  pub noted-sound : effect .failed ≡ false → Noted before begun x i effect
+module _ (before : List ℕ) (x : ℕ) (whole : length before ≡ 192) (job : x < 32) where
+  flag-written : (b : Bool) → map (flagIn (flaggedBytes before x b)) (upTo 32) ≡ flagged b x (map (flagIn before) (upTo 32))
   unfolding flagged flagIn if_then_else_
-  noted-sound sound = record {
-    same = begun-length;
-    store = begun-store;
-    upcoming = begun-upcoming;
-    failed =
-        same-values (flagIn begun) (flagIn before) 32 (λ k lt. ap (λ (b : ℕ). not (eqb b 0)) (begun-kept (16 + k) (omega arith) (λ e. omega arith)))
-        ∙ rw sound refl;
-    rest = λ k high. begun-kept k (omega arith) (λ e. omega arith);
-  }
+  flag-written false = refl
+  flag-written true =
+      set-values (flagIn (set before (16 + x) 1)) (flagIn before) 32 x true
+      (ap (λ (b : ℕ). not (eqb b 0)) (getD-set-same before (16 + x) 1 0 (omega arith)))
+      (λ k lt apart. ap (λ (b : ℕ). not (eqb b 0)) (getD-set-other before (16 + x) (16 + k) 1 0 (λ e. apart (omega arith))))
 
-  -- it has
-  pub noted-failed : x < 32 → effect .failed ≡ true → Noted before (set begun (16 + x) 1) x i effect
-  unfolding flagged flagIn if_then_else_
-  noted-failed job failed = record {
-    same = length-set begun (16 + x) 1 ∙ begun-length;
-    store = bytes-same begun (set begun (16 + x) 1) 0 8 (λ k low high. getD-set-other begun (16 + x) k 1 0 (λ e. omega arith)) ∙ begun-store;
-    upcoming = bytes-same begun (set begun (16 + x) 1) 8 8 (λ k low high. getD-set-other begun (16 + x) k 1 0 (λ e. omega arith)) ∙ begun-upcoming;
-    failed =
-        set-values (flagIn (set begun (16 + x) 1)) (flagIn before) 32 x true
-        (ap (λ (b : ℕ). not (eqb b 0)) (getD-set-same begun (16 + x) 1 0 (omega (arith, begun-length))))
-        (λ k lt apart. ap (λ (b : ℕ). not (eqb b 0))
-        (getD-set-other begun (16 + x) (16 + k) 1 0 (λ e. apart (omega arith)) ∙ begun-kept (16 + k) (omega arith) (λ e. omega arith)))
-        ∙ rw failed refl;
-    rest = λ k high. getD-set-other begun (16 + x) k 1 0 (λ e. omega arith) ∙ begun-kept k (omega arith) (λ e. omega arith);
-  }
+  flag-length : (b : Bool) → length (flaggedBytes before x b) ≡ length before
+  unfolding if_then_else_
+  flag-length false = refl
+  flag-length true = length-set before (16 + x) 1
 
--- ---- and then the active jobs
+  flag-kept : (b : Bool) (k : ℕ) → (k < 16) ⊎ (48 ≤ k) → getD (flaggedBytes before x b) k 0 ≡ getD before k 0
+  unfolding if_then_else_
+  flag-kept false k off = refl
+  flag-kept true k off =
+      getD-set-other before (16 + x) k 1 0 (λ e. elim off [ inl low ↦ omega arith | inr high ↦ omega arith ])
 
-module _ {before noted : List ℕ} {x : Job} {i : ℕ} {effect : Effect} (state : IsState before)
-    (own : LocksWithin (effect .local)) (n : Noted before noted (x .0) i effect) (under : ℕ) (few : under < 8) where
-  -- the bytes below 48 kept, the rest as it should be
-  made : (after : List ℕ) → ((k : ℕ) → k < 48 → getD after k 0 ≡ getD noted k 0)
-      → getD after 48 0 ≡ (if effect .ended then under else under + 1)
-      → map (frameIn after) (upTo 8) ≡ (if effect .ended then map (frameIn before) (upTo 8) else set
-      (map (frameIn before) (upTo 8)) under (record { job = x; local = effect .local }))
-      → snapshotIn after ≡ afterIn (snapshotIn before) x under i effect
+  module _ (b : Bool) (flags : List ℕ) (is : flags ≡ flaggedBytes before x b) (under i : ℕ) (task : i < 8) where
+    long : length flags ≡ 192
+    long = ap length is ∙ flag-length b ∙ whole
+
+    kept : (k : ℕ) → (k < 16) ⊎ (48 ≤ k) → getD flags k 0 ≡ getD before k 0
+    kept k off = ap (λ (l : List ℕ). getD l k 0) is ∙ flag-kept b k off
+
+    marked : map (flagIn flags) (upTo 32) ≡ flagged b x (map (flagIn before) (upTo 32))
+    marked = ap (λ (l : List ℕ). map (flagIn l) (upTo 32)) is ∙ flag-written b
+
+    -- the job goes on
+    noted-false : Noted before (set flags 48 (under + 1)) x under i b false
+    unfolding if_then_else_ flagIn
+    noted-false = record {
+      same = length-set flags 48 (under + 1) ∙ long ∙ sym whole;
+      unended = bytes-same before (set flags 48 (under + 1)) 8 8 (λ k low high. getD-set-other flags 48 k (under + 1) 0 (λ e. omega arith) ∙ kept k (inl (omega arith)));
+      flags =
+          same-values (flagIn (set flags 48 (under + 1))) (flagIn flags) 32
+          (λ k lt. ap (λ (n : ℕ). not (eqb n 0)) (getD-set-other flags 48 (16 + k) (under + 1) 0 (λ e. omega arith))) ∙ marked;
+      depth = getD-set-same flags 48 (under + 1) 0 (omega (arith, long));
+      rest = λ k off.
+          getD-set-other flags 48 k (under + 1) 0 (λ e. elim off [ inl low ↦ omega arith | inr high ↦ omega arith ])
+          ∙ kept k (elim off [ inl low ↦ inl (omega arith) | inr high ↦ inr (omega arith) ]);
+    }
+
+    pub noted-on : {e : Bool} → e ≡ false → Noted before (set flags 48 (under + 1)) x under i b e
+    noted-on h = subst (Noted before (set flags 48 (under + 1)) x under i b) (sym h) noted-false
+
+    -- it has ended
+    abbrev ended : List ℕ
+    ended = set (set flags (8 + i) (x + 1)) 48 under
+
+    ended-kept : (k : ℕ) → (k ≡ 8 + i → ⊥) → (k ≡ 48 → ⊥) → getD ended k 0 ≡ getD flags k 0
+    ended-kept k other off =
+        getD-set-other (set flags (8 + i) (x + 1)) 48 k under 0 off ∙ getD-set-other flags (8 + i) k (x + 1) 0 other
+
+    noted-true : Noted before ended x under i b true
+    unfolding if_then_else_ flagIn
+    noted-true = record {
+      same = length-set (set flags (8 + i) (x + 1)) 48 under ∙ length-set flags (8 + i) (x + 1) ∙ long ∙ sym whole;
+      unended =
+          bytes-set before ended 8 8 i (x + 1)
+          (getD-set-other (set flags (8 + i) (x + 1)) 48 (8 + i) under 0 (λ e. omega arith) ∙ getD-set-same flags (8 + i) (x + 1) 0 (omega (arith, long)))
+          (λ k low high apart. ended-kept k apart (λ e. omega arith) ∙ kept k (inl (omega arith)));
+      flags =
+          same-values (flagIn ended) (flagIn flags) 32
+          (λ k lt. ap (λ (n : ℕ). not (eqb n 0)) (ended-kept (16 + k) (λ e. omega arith) (λ e. omega arith))) ∙ marked;
+      depth = getD-set-same (set flags (8 + i) (x + 1)) 48 under 0 (omega (arith, long, length-set flags (8 + i) (x + 1)));
+      rest = λ k off.
+          ended-kept k (λ e. elim off [ inl low ↦ omega arith | inr high ↦ omega arith ]) (λ e. elim off [ inl low ↦ omega arith | inr high ↦ omega arith ])
+          ∙ kept k (elim off [ inl low ↦ inl (omega arith) | inr high ↦ inr (omega arith) ]);
+    }
+
+    pub noted-ended : {e : Bool} → e ≡ true → Noted before ended x under i b e
+    noted-ended h = subst (Noted before ended x under i b) (sym h) noted-true
+
+-- the flag as it was written
+pub flag-raised : (before : List ℕ) (x : ℕ) {b : Bool} → b ≡ true → set before (16 + x) 1 ≡ flaggedBytes before x b
+unfolding if_then_else_
+flag-raised before x h = rw h refl
+
+pub flag-left : (before : List ℕ) (x : ℕ) {b : Bool} → b ≡ false → before ≡ flaggedBytes before x b
+unfolding if_then_else_
+flag-left before x h = rw h refl
+
+-- ---- the whole step
+
+module _ {before placed done after : List ℕ} {f : Frame} {under i : ℕ} {effect : Effect} (state : IsState before) (few : under < 8)
+    (own : LocksWithin (effect .local)) (put : FrameReplaced before placed under f) (made : Performed placed done under effect)
+    (n : Noted done after (f .job .0) under i (effect .failed) (effect .ended)) where
+  -- what lies outside the store and the job's bytes is as it was before the note
+  outside : (k : ℕ) → 8 ≤ k → (k < frameAt under) ⊎ (frameAt under + 16 ≤ k) → getD done k 0 ≡ getD before k 0
+  outside k high off = made .outside k high off ∙ put .outside k off
+
+  away : (k j : ℕ) → (k ≡ under → ⊥) → frameAt k ≤ j → j < frameAt k + 16 → (j < frameAt under) ⊎ (frameAt under + 16 ≤ j)
+  unfolding frameAt
+  away k j apart low high = elim (decLt k under) [ yes lower ↦ inl (omega arith) | no other ↦ inr (omega arith) ]
+
+  below : (k : ℕ) → k < 64 → (k < frameAt under) ⊎ (frameAt under + 16 ≤ k)
+  unfolding frameAt
+  below k low = inl (omega arith)
+
+  -- the job's bytes
+  frame-here : frameIn after under ≡ record { job = f .job; local = effect .local }
+  unfolding frameAt
+  frame-here =
+      frame-same done after under (λ j low high. n .rest j (inr (omega arith))) ∙ made .frame
+      ∙ ap (λ (g : Frame). record { job = g .job; local = effect .local }) (put .inside)
+
+  frame-other : (k : ℕ) → k < 8 → (k ≡ under → ⊥) → frameIn after k ≡ frameIn before k
+  unfolding frameAt
+  frame-other k lt apart =
+      frame-same before after k
+      (λ j low high. n .rest j (inr (omega arith)) ∙ outside j (omega arith) (away k j apart low high))
+
+  -- the bytes hold the snapshot after the step
+  step-written : snapshotIn after ≡ afterIn (snapshotIn before) (f .job) under i effect
   unfolding snapshotIn afterIn flagIn
-  made after low depth stack =
+  step-written =
       λ t.
       record {
-        store = (bytes-same noted after 0 8 (λ k a b. low k (omega arith)) ∙ n .store) t;
-        upcoming = (bytes-same noted after 8 8 (λ k a b. low k (omega arith)) ∙ n .upcoming) t;
+        store = (bytes-same done after 0 8 (λ k low high. n .rest k (inl (omega arith))) ∙ made .store) t;
+        unended =
+            (n .unended ∙ ap (λ (l : List ℕ). if effect .ended then set l i (f .job .0 + 1) else l)
+            (bytes-same before done 8 8 (λ k low high. outside k low (below k (omega arith))))) t;
         failed =
-            (same-values (flagIn after) (flagIn noted) 32 (λ k lt. ap (λ (b : ℕ). not (eqb b 0)) (low (16 + k) (omega arith))) ∙ n .failed) t;
-        depth = depth t;
-        stack = stack t;
+            (n .flags ∙ ap (flagged (effect .failed) (f .job .0))
+            (same-values (flagIn done) (flagIn before) 32
+            (λ k lt. ap (λ (m : ℕ). not (eqb m 0)) (outside (16 + k) (omega arith) (below (16 + k) (omega arith)))))) t;
+        depth = n .depth t;
+        stack = (set-values (frameIn after) (frameIn before) 8 under (record { job = f .job; local = effect .local }) frame-here frame-other) t;
       }
 
-  -- these bytes are a state then
-  made-state : (after : List ℕ) → length after ≡ length noted → getD after 48 0 ≤ 8
-      → snapshotIn after ≡ afterIn (snapshotIn before) x under i effect
-      → (snapshotIn after ≡ afterIn (snapshotIn before) x under i effect) × IsState after
-  made-state after same deep is = (
-    is,
-    record {
-      whole = same ∙ n .same ∙ state .whole;
-      few = deep;
-      within = subst AllWithin (sym is) (after-within (state .within) x under i effect own);
-    },
-  )
+  depth-few : (b : Bool) → (if b then under else under + 1) ≤ 8
+  unfolding if_then_else_
+  depth-few true = omega arith
+  depth-few false = omega arith
 
-  -- the job has ended
-  pub effect-ended-written : effect .ended ≡ true
-      → (snapshotIn (set noted 48 under) ≡ afterIn (snapshotIn before) x under i effect) × IsState (set noted 48 under)
-  unfolding frameAt if_then_else_
-  effect-ended-written ended =
-      made-state (set noted 48 under) (length-set noted 48 under) (omega (arith, depth))
-      (made (set noted 48 under) (λ k lt. getD-set-other noted 48 k under 0 (λ e. omega arith)) (depth ∙ rw ended refl)
-      (same-values (frameIn (set noted 48 under)) (frameIn before) 8 (λ k lt. frame-same before (set noted 48 under) k
-      (λ j low high. getD-set-other noted 48 j under 0 (λ e. omega arith) ∙ n .rest j (omega arith)))
-      ∙ rw ended refl))
-    where
-      depth : getD (set noted 48 under) 48 0 ≡ under
-      depth = getD-set-same noted 48 under 0 (omega (arith, n .same, state .whole))
+  -- and are a state
+  step-whole : IsState after
+  step-whole = record {
+    whole = n .same ∙ made .same ∙ put .same ∙ state .whole;
+    few = omega (arith, n .depth, depth-few (effect .ended));
+    within = subst AllWithin (sym step-written) (after-within (state .within) (f .job) under i effect own);
+  }
 
-  -- it goes on
-  pub effect-goes-on : effect .ended ≡ false → (after : List ℕ)
-      → FrameReplaced (set noted 48 (under + 1)) after under (record { job = x; local = effect .local })
-      → (snapshotIn after ≡ afterIn (snapshotIn before) x under i effect) × IsState after
-  unfolding frameAt if_then_else_
-  effect-goes-on goes after placed =
-      made-state after (placed .same ∙ length-set noted 48 (under + 1)) (omega (arith, depth))
-      (made after
-      (λ k lt. placed .outside k (inl (omega arith)) ∙ getD-set-other noted 48 k (under + 1) 0 (λ e. omega arith))
-      (depth ∙ rw goes refl)
-      (set-values (frameIn after) (frameIn before) 8 under (record { job = x; local = effect .local }) (placed .inside)
-      (λ k lt apart. frame-same before after k
-      (λ j low high. placed .outside j (away k j apart low high) ∙ getD-set-other noted 48 j (under + 1) 0 (λ e. omega arith) ∙ n .rest j (omega arith)))
-      ∙ rw goes refl))
-    where
-      depth : getD after 48 0 ≡ under + 1
-      depth = placed .outside 48 (inl (omega arith)) ∙ getD-set-same noted 48 (under + 1) 0 (omega (arith, n .same, state .whole))
+-- ---- the step of the definition
 
-      away : (k j : ℕ) → (k ≡ under → ⊥) → frameAt k ≤ j → j < frameAt k + 16
-          → (j < frameAt under) ⊎ (frameAt under + 16 ≤ j)
-      away k j apart low high = elim (decLt k under) [ yes lower ↦ inl (omega arith) | no other ↦ inr (omega arith) ]
+module _ {before placed : List ℕ} {f : Frame} {under : ℕ} (few : under < 8) (put : FrameReplaced before placed under f) where
+  -- the job placed is the frame's
+  placed-local : frameIn placed under .local ≡ f .local
+  placed-local = ap (λ (g : Frame). g .local) (put .inside)
+
+  pub placed-inside : f .local .next < 16 → frameIn placed under .local .next < 16
+  placed-inside lt = rw placed-local lt
+
+  pub placed-within : LocksWithin (f .local) → LocksWithin (frameIn placed under .local)
+  placed-within own = subst LocksWithin (sym placed-local) own
+
+  placed-store : bytesAt placed 0 8 ≡ bytesAt before 0 8
+  unfolding frameAt
+  placed-store = bytes-same before placed 0 8 (λ k low high. put .outside k (inl (omega arith)))
+
+  module _ (program : List ℕ) (i v : ℕ) {o : Instruction} (read : o ≡ instructionIn program i (f .local .next)) where
+    abbrev effect : Effect
+    effect = perform o v (frameIn placed under .local) (bytesAt placed 0 8)
+
+    -- what it performs there is what the definition has it perform
+    same-effect : effect ≡ perform (instructionIn program i (f .local .next)) v (f .local) (bytesAt before 0 8)
+    same-effect =
+        ap (λ (l : Local). perform o v l (bytesAt placed 0 8)) placed-local
+        ∙ ap (perform o v (f .local)) placed-store
+        ∙ ap (λ (n : Instruction). perform n v (f .local) (bytesAt before 0 8)) read
+
+    pub step-made : IsState before → LocksWithin (f .local) → {failed : Bool} → failed ≡ effect .failed
+        → {done : List ℕ} → Performed placed done under effect → {ended : Bool} → effect .ended ≡ ended
+        → {after : List ℕ} → Noted done after (f .job .0) under i failed ended
+        → (snapshotIn after ≡ madeIn program (snapshotIn before) f under i v) × IsState after
+    unfolding madeIn snapshotIn
+    step-made state own {failed} fails {done} made {ended} ends {after} n =
+        let within = perform-within o v (frameIn placed under .local) (bytesAt placed 0 8) (placed-within own) in
+        let noted : Noted done after (f .job .0) under i (effect .failed) (effect .ended) =
+        subst (λ (b : Bool). Noted done after (f .job .0) under i b (effect .ended)) fails (subst (Noted done after (f .job .0) under i failed) (sym ends) n) in (
+          step-written state few within put made noted ∙ ap (afterIn (snapshotIn before) (f .job) under i) same-effect,
+          step-whole state few within put made noted,
+        )

@@ -3,63 +3,42 @@
 use mathlib.Core.Path.{_≡_, sym, ap, _∙_}
 use Prim.Native.Nat.{ℕ, _/_, _%_, _<_}
 use mathlib.Core.Bool.{Bool, true, false, not}
-use mathlib.Core.List.{List, [], _∷_}
-use lib.ListN.{getD}
+use mathlib.Core.List.{List}
 use borrow.Author.Tests.{not-true, not-false}
 use Rattle.taskfile.specs.declared.Ceilings.{Ceilings}
-use Rattle.taskfile.specs.declared.Instruction.{Instruction}
-use Rattle.machine.specs.declared.Effect.{Effect}
-use Rattle.machine.specs.Instructions.{perform}
 use Rattle.snapshots.specs.declared.Due.{Due}
-use Rattle.order.specs.declared.Frame.{Frame}
 use Rattle.snapshots.specs.Code.Snapshots.{Snapshot, Stepped}
-use Rattle.snapshots.specs.Code.SnapshotSteps.{instructionIn, turnIn, afterIn, stepIn, offeredIn, madeIn}
+use Rattle.snapshots.specs.Code.SnapshotSteps.{turnIn, stepIn, offeredIn, madeIn}
 use Rattle.snapshots.specs.Laws.TurnLaws.{due-task, step-none, step-due}
 use Rattle.states.specs.Code.StateBytes.{snapshotIn, IsState}
-use Rattle.notation.specs.Lists.{bytesAt}
 use Rattle.snapshots.specs.Laws.StepPartLaws.{with-offered, with-refused}
-use Rattle.states.specs.Laws.FrameReads.{eight-read}
 
--- what an instruction makes of the store read byte by byte
-pub made-so : (program bytes : List ℕ) (f : Frame) (under i v : ℕ) {instruction : Instruction} {effect : Effect}
-    {q : Snapshot} → instruction ≡ instructionIn program i (f .local .next)
-    → effect ≡ perform instruction v (f .local) (getD bytes 0 0 ∷ getD bytes 1 0 ∷ getD bytes 2 0 ∷ getD bytes 3 0
-    ∷ getD bytes 4 0 ∷ getD bytes 5 0 ∷ getD bytes 6 0 ∷ getD bytes 7 0 ∷ [])
-    → q ≡ afterIn (snapshotIn bytes) (f .job) under i effect → q ≡ madeIn program (snapshotIn bytes) f under i v
-unfolding madeIn snapshotIn
-made-so program bytes f under i v {instruction} read done after =
-    after
-    ∙ ap (afterIn (snapshotIn bytes) (f .job) under i)
-    (done
-    ∙ ap (perform instruction v (f .local)) (eight-read bytes 0)
-    ∙ ap (λ (n : Instruction). perform n v (f .local) (bytesAt bytes 0 8)) read)
-
-module _ (program times : List ℕ) (locks : Ceilings) (bytes : List ℕ) (byte : ℕ) {d : Due}
-    (is : d ≡ turnIn program times locks (snapshotIn bytes) (byte / 16)) where
+module _ (program waits : List ℕ) (locks : Ceilings) (bytes : List ℕ) (byte : ℕ) {d : Due}
+    (is : d ≡ turnIn program waits locks (snapshotIn bytes) (byte / 16)) where
   -- a turn that is due is of one of the eight tasks
   pub task-small : IsState bytes → not (d .due) ≡ false → byte / 16 < 8
   unfolding snapshotIn
-  task-small whole due = due-task program times locks (snapshotIn bytes) (byte / 16) is (whole .few) (not-false (d .due) due)
+  task-small whole due = due-task program waits locks (snapshotIn bytes) (byte / 16) is (whole .few) (not-false (d .due) due)
 
   abbrev Is : Bool → Snapshot → Type 0
   Is allowed state =
-      (allowed ≡ stepIn program times locks (snapshotIn bytes) byte .allowed) × (state ≡ stepIn program times locks (snapshotIn bytes) byte .state)
+      (allowed ≡ stepIn program waits locks (snapshotIn bytes) byte .allowed) × (state ≡ stepIn program waits locks (snapshotIn bytes) byte .state)
 
   parts : {allowed : Bool} {state : Snapshot}
-      → record { allowed = allowed; state = state } ≡ stepIn program times locks (snapshotIn bytes) byte
+      → record { allowed = allowed; state = state } ≡ stepIn program waits locks (snapshotIn bytes) byte
       → Is allowed state
   parts e = (ap (λ (r : Stepped). r .allowed) e, ap (λ (r : Stepped). r .state) e)
 
   -- nobody is due
   pub step-nobody : not (d .due) ≡ true → Is false (snapshotIn bytes)
-  step-nobody h = parts (step-none program times locks (snapshotIn bytes) byte is h)
+  step-nobody h = parts (step-none program waits locks (snapshotIn bytes) byte is h)
 
   module _ (due : not (d .due) ≡ false) {b : Bool} (offer : b ≡ offeredIn program (d .frame) (byte / 16) (byte % 16)) where
     -- the value is not on offer
     pub step-refused : not b ≡ true → Is false (snapshotIn bytes)
     step-refused h =
         parts
-        (step-due program times locks (snapshotIn bytes) byte is due
+        (step-due program waits locks (snapshotIn bytes) byte is due
         (sym (with-refused program (snapshotIn bytes) (d .frame) (d .under) (byte / 16) (byte % 16) (sym offer ∙ not-true b h))))
 
     -- it is
@@ -67,6 +46,6 @@ module _ (program times : List ℕ) (locks : Ceilings) (bytes : List ℕ) (byte 
         → q ≡ madeIn program (snapshotIn bytes) (d .frame) (d .under) (byte / 16) (byte % 16) → Is true q
     step-made h made =
         parts
-        (step-due program times locks (snapshotIn bytes) byte is due
+        (step-due program waits locks (snapshotIn bytes) byte is due
         (ap (λ (p : Snapshot). record { allowed = true; state = p }) made
         ∙ sym (with-offered program (snapshotIn bytes) (d .frame) (d .under) (byte / 16) (byte % 16) (sym offer ∙ not-false b h))))

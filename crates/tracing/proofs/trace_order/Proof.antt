@@ -11,12 +11,12 @@ use Rattle.tracing.proofs.trace_order.Statement.{statement}
 use Rattle.tracing.proofs.trace_order.Tie as tie
 
 abbrev Inv-loop : tie.InvT-loop
-Inv-loop program times locks order marks₀ guesses₀ s₀ r₀ index₀ marks guesses s r index =
+Inv-loop program waits locks order marks₀ guesses₀ s₀ r₀ index₀ marks guesses s r index =
     AreNoted s marks guesses
-    × Reaches program times locks (notedOf s₀ r₀ marks₀ guesses₀) order (notedOf s r marks guesses) index
+    × Reaches program waits locks (notedOf s₀ r₀ marks₀ guesses₀) order (notedOf s r marks guesses) index
 
 abbrev μ-loop : tie.MeasureT-loop
-μ-loop program times locks order marks₀ guesses₀ s₀ r₀ index₀ marks guesses s r index = length order - index
+μ-loop program waits locks order marks₀ guesses₀ s₀ r₀ index₀ marks guesses s r index = length order - index
 
 loop-holds : tie.Need-loop-holds Inv-loop μ-loop
 loop-holds c = (c .before .pre .1, refl)

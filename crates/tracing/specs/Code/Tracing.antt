@@ -58,14 +58,14 @@ dueNoted program i value d n =
 
 -- after the step that a byte asks for
 unfoldable pub stepNoted : Program → LentTimes → Ceilings → TraceState → ℕ → TraceState
-stepNoted program times locks n byte =
-    dueNoted program (byte / 16) (byte % 16) (turnIn program times locks (n .state) (byte / 16)) n
+stepNoted program waits locks n byte =
+    dueNoted program (byte / 16) (byte % 16) (turnIn program waits locks (n .state) (byte / 16)) n
 
 -- after the steps of an order's bytes
 unfoldable pub orderNoted : Program → LentTimes → Ceilings → TraceState → List ℕ → TraceState
-orderNoted program times locks n [] = n
-orderNoted program times locks n (byte ∷ bytes) =
-    orderNoted program times locks (stepNoted program times locks n byte) bytes
+orderNoted program waits locks n [] = n
+orderNoted program waits locks n (byte ∷ bytes) =
+    orderNoted program waits locks (stepNoted program waits locks n byte) bytes
 
 -- ---- in arrays
 
@@ -79,15 +79,15 @@ pub record AreNoted (s marks guesses : List ℕ) : Type 0 where
   pub room : length guesses ≡ 256
 
 -- what a byte's step leaves
-pub record NotedStep (program times : List ℕ) (locks : Ceilings) (n : TraceState) (byte : ℕ) (s marks guesses : List ℕ)
+pub record NotedStep (program waits : List ℕ) (locks : Ceilings) (n : TraceState) (byte : ℕ) (s marks guesses : List ℕ)
     (r : Round) : Type 0 where
   pub whole : AreNoted s marks guesses
-  pub is : notedOf s r marks guesses ≡ stepNoted program times locks n byte
+  pub is : notedOf s r marks guesses ≡ stepNoted program waits locks n byte
 
 -- what an order leaves
-pub record NotedOrder (program times : List ℕ) (locks : Ceilings) (n : TraceState) (order marks guesses : List ℕ)
+pub record NotedOrder (program waits : List ℕ) (locks : Ceilings) (n : TraceState) (order marks guesses : List ℕ)
     : Type 0 where
   pub isMarks : IsMarks marks
   pub room : length guesses ≡ 256
-  pub marks-are : marks ≡ orderNoted program times locks n order .marks
-  pub guesses-are : guesses ≡ orderNoted program times locks n order .guesses
+  pub marks-are : marks ≡ orderNoted program waits locks n order .marks
+  pub guesses-are : guesses ≡ orderNoted program waits locks n order .guesses

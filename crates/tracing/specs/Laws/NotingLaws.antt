@@ -74,24 +74,24 @@ guess-room guesses room r store eight =
 
 -- ---- a step
 
-module _ (program times : List ℕ) (locks : Ceilings) (s : List ℕ) (r : Round) (marks guesses : List ℕ) (byte : ℕ)
-    {d : Due} (is : d ≡ turnIn program times locks (snapshotIn s) (byte / 16)) where
+module _ (program waits : List ℕ) (locks : Ceilings) (s : List ℕ) (r : Round) (marks guesses : List ℕ) (byte : ℕ)
+    {d : Due} (is : d ≡ turnIn program waits locks (snapshotIn s) (byte / 16)) where
   abbrev n : TraceState
   n = notedOf s r marks guesses
 
   of-due : {after : TraceState} → after ≡ dueNoted program (byte / 16) (byte % 16) d n
-      → after ≡ stepNoted program times locks n byte
+      → after ≡ stepNoted program waits locks n byte
   unfolding stepNoted
   of-due e = e ∙ ap (λ (t : Due). dueNoted program (byte / 16) (byte % 16) t n) is
 
   -- nobody is due
-  pub noting-idle : not (d .due) ≡ true → n ≡ stepNoted program times locks n byte
+  pub noting-idle : not (d .due) ≡ true → n ≡ stepNoted program waits locks n byte
   unfolding dueNoted if_then_else_
   noting-idle h = of-due (rw (not-true (d .due) h) refl)
 
   module _ (due : not (d .due) ≡ false) where
     -- no job is so far
-    pub noting-beyond : 16 ≤ d .frame .local .next → n ≡ stepNoted program times locks n byte
+    pub noting-beyond : 16 ≤ d .frame .local .next → n ≡ stepNoted program waits locks n byte
     unfolding dueNoted if_then_else_
     noting-beyond le = of-due (rw (not-false (d .due) due, le-ltb (d .frame .local .next) 16 le) refl)
 
@@ -99,7 +99,7 @@ module _ (program times : List ℕ) (locks : Ceilings) (s : List ℕ) (r : Round
     module _ (lt : d .frame .local .next < 16) (s′ : List ℕ)
         (made : snapshotIn s′ ≡ madeIn program (snapshotIn s) (d .frame) (d .under) (byte / 16) (byte % 16))
         {marks′ : List ℕ} (marked : marks′ ≡ noteIn marks (d .frame .job .0) r (byte % 16)) where
-      step-is : stepNoted program times locks n byte ≡ notedIn (snapshotIn s′) (d .under) (d .frame .job) (byte % 16) n
+      step-is : stepNoted program waits locks n byte ≡ notedIn (snapshotIn s′) (d .under) (d .frame .job) (byte % 16) n
       unfolding dueNoted if_then_else_
       step-is =
           sym (of-due
@@ -109,13 +109,13 @@ module _ (program times : List ℕ) (locks : Ceilings) (s : List ℕ) (r : Round
       -- which ends its job
       pub noting-ends : getD s′ 48 0 ≡ d .under → {q : Round} {guesses′ : List ℕ}
           → (q .0 ≡ roundIn (r .0)) × (guesses′ ≡ guessIn guesses (r .0) (bytesAt s′ 0 8))
-          → notedOf s′ q marks′ guesses′ ≡ stepNoted program times locks n byte
+          → notedOf s′ q marks′ guesses′ ≡ stepNoted program waits locks n byte
       unfolding notedIn if_then_else_ snapshotIn
       noting-ends ends next = sym (step-is ∙ rw (eq-eqb _ _ ends, sym marked, sym (next .0), sym (next .1)) refl)
 
       -- or does not
       pub noting-goes : (getD s′ 48 0 ≡ d .under → ⊥)
-          → notedOf s′ r marks′ guesses ≡ stepNoted program times locks n byte
+          → notedOf s′ r marks′ guesses ≡ stepNoted program waits locks n byte
       unfolding notedIn if_then_else_ snapshotIn
       noting-goes goes = sym (step-is ∙ rw (ne-eqb _ _ goes, sym marked) refl)
 
@@ -128,24 +128,24 @@ eight-bytes s = values-length (λ k. getD s (0 + k) 0) 8
 
 -- the whole trace is that of the bytes from an index on, from where it stands
 abbrev pub Reaches : List ℕ → List ℕ → Ceilings → TraceState → List ℕ → TraceState → ℕ → Type 0
-Reaches program times locks start order n index =
-    orderNoted program times locks start order ≡ orderNoted program times locks n (drop index order)
+Reaches program waits locks start order n index =
+    orderNoted program waits locks start order ≡ orderNoted program waits locks n (drop index order)
 
-module _ (program times : List ℕ) (locks : Ceilings) (start : TraceState) (order : List ℕ) (n : TraceState) (index : ℕ)
-    (reached : Reaches program times locks start order n index) where
+module _ (program waits : List ℕ) (locks : Ceilings) (start : TraceState) (order : List ℕ) (n : TraceState) (index : ℕ)
+    (reached : Reaches program waits locks start order n index) where
   pub reaches-next : index < length order → {after : TraceState}
-      → after ≡ stepNoted program times locks n (getD order index 0)
-      → Reaches program times locks start order after (index + 1)
+      → after ≡ stepNoted program waits locks n (getD order index 0)
+      → Reaches program waits locks start order after (index + 1)
   unfolding orderNoted
   reaches-next lt {after} e =
       reached
-      ∙ ap (orderNoted program times locks n) (drop-cons order index 0 lt)
-      ∙ ap (λ (m : TraceState). orderNoted program times locks m (drop (suc index) order)) (sym e)
-      ∙ ap (λ (k : ℕ). orderNoted program times locks after (drop k order)) (sym (add-one index))
+      ∙ ap (orderNoted program waits locks n) (drop-cons order index 0 lt)
+      ∙ ap (λ (m : TraceState). orderNoted program waits locks m (drop (suc index) order)) (sym e)
+      ∙ ap (λ (k : ℕ). orderNoted program waits locks after (drop k order)) (sym (add-one index))
 
-  pub reaches-end : length order ≤ index → n ≡ orderNoted program times locks start order
+  pub reaches-end : length order ≤ index → n ≡ orderNoted program waits locks start order
   unfolding orderNoted
-  reaches-end le = sym (reached ∙ ap (orderNoted program times locks n) (drop-of-length-le order le))
+  reaches-end le = sym (reached ∙ ap (orderNoted program waits locks n) (drop-of-length-le order le))
 
 -- the arrays after a step are whole
 pub noted-whole : {s marks guesses marks′ : List ℕ} (x : ℕ) (r : Round) (value : ℕ) → IsState s → IsMarks marks

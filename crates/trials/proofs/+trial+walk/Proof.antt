@@ -1,5 +1,5 @@
 use Prim.Native.Nat.{ℕ, _+_, _-_, _*_, _<_}
-use Rattle.trials.specs.Laws.AnswerLaws.{stops-answer, ends-answer, finds-answer, cut-answer, on-answer, ended-answer, none-left-answer, tried-answer, move-bounds}
+use Rattle.trials.specs.Laws.AnswerLaws.{ends-answer, none-answer, stops-answer, finds-answer, cut-answer, on-answer, ended-answer, none-left-answer, tried-answer, move-bounds}
 use Rattle.trials.specs.Laws.TryingLaws.{Trying, trying-starts}
 use mathlib.Core.Path.{sym, _∙_}
 use lib.ListN.{length-set}
@@ -15,7 +15,8 @@ use Rattle.trials.proofs.walk.Kinds as walk-kinds
 use Rattle.trials.proofs.+trial+walk.Lts-walk as walk-lts
 use Rattle.ends.proofs.finished.Reads as finished-reads
 use Rattle.moves.proofs.next_move.Reads as next-move-reads
-use Rattle.moves.proofs.top_job.Reads as top-job-reads
+use Rattle.moves.proofs.running_task.Reads as running-task-reads
+use Rattle.precedence.proofs.level.Reads as level-reads
 use Rattle.steps.proofs.step_with.Reads as step-with-reads
 use Rattle.outcomes.proofs.ended.Reads as ended-reads
 use Rattle.outcomes.proofs.held.Reads as held-reads
@@ -43,126 +44,135 @@ walk-below t = and 4 walk-kinds.ps (falls 4 walk-kinds.ps _<_ μ-walk t) walk.Pr
 
 -- what the functions called ask and give, calls inside the cycle below the measure t
 abbrev trial-claims : ℕ → trial-lts.Claims
-trial-claims t = (top-job-reads.Asked, top-job-reads.Learnt, next-move-reads.Asked, next-move-reads.Learnt, stopped-reads.Asked, stopped-reads.Learnt, step-with-reads.Asked, step-with-reads.Learnt, walk-below t, walk.Post, held-reads.Asked, held-reads.Learnt)
+trial-claims t = (running-task-reads.Asked, running-task-reads.Learnt, level-reads.Asked, level-reads.Learnt, next-move-reads.Asked, next-move-reads.Learnt, held-reads.Asked, held-reads.Learnt, stopped-reads.Asked, stopped-reads.Learnt, step-with-reads.Asked, step-with-reads.Learnt, walk-below t, walk.Post)
 
 abbrev walk-claims : ℕ → walk-lts.Claims
 walk-claims t = (finished-reads.Asked, finished-reads.Learnt, ended-reads.Asked, ended-reads.Learnt, held-reads.Asked, held-reads.Learnt, trial-below t, trial.Post)
 
 abbrev trial-Inv-loop : trial-lts.InvT-loop
-trial-Inv-loop program times locks s left count allowance out₀ made₀ top m₀ out made m = Trying program times locks (snapshotIn s) left count made allowance m out₀ out
+trial-Inv-loop program waits locks s left count allowance out₀ made₀ top low at₀ out made at = Trying program waits locks (snapshotIn s) left count made allowance at out₀ out
 
 abbrev trial-μ-loop : trial-lts.MeasureT-loop
-trial-μ-loop program times locks s left count allowance out₀ made₀ top m₀ out made m = 128 - m .byte
+trial-μ-loop program waits locks s left count allowance out₀ made₀ top low at₀ out made at = 128 - at
 
-trial-top-job-requires : (t : ℕ) → trial-lts.Need-top-job-requires (trial-claims t) (trial-at t) trial.Post trial-Inv-loop trial-μ-loop
-trial-top-job-requires t c κs = c .before .pre .1 .1
+trial-running-task-requires : (t : ℕ) → trial-lts.Need-running-task-requires (trial-claims t) (trial-at t) trial.Post trial-Inv-loop trial-μ-loop
+trial-running-task-requires t c κs = c .before .pre .1 .1
 
-trial-next-move-requires : (t : ℕ) → trial-lts.Need-next-move-requires (trial-claims t) (trial-at t) trial.Post trial-Inv-loop trial-μ-loop
-trial-next-move-requires t c κs = (c .before .before .pre .1 .0, c .before .before .pre .1 .1, omega arith, c .top-job .ensures)
+trial-level-requires : (t : ℕ) → trial-lts.Need-level-requires (trial-claims t) (trial-at t) trial.Post trial-Inv-loop trial-μ-loop
+trial-level-requires t c κs = (c .before .before .pre .1 .0, c .before .before .pre .1 .1)
 
 trial-loop-holds : (t : ℕ) → trial-lts.Need-loop-holds (trial-claims t) (trial-at t) trial.Post trial-Inv-loop trial-μ-loop
-trial-loop-holds t c = trying-starts (c .before .before .before .pre .1 .3) (c .next-move .ensures)
+trial-loop-holds t c = trying-starts (c .before .before .before .pre .1 .3)
+
+trial-next-move-requires : (t : ℕ) → trial-lts.Need-next-move-requires (trial-claims t) (trial-at t) trial.Post trial-Inv-loop trial-μ-loop
+trial-next-move-requires t c κs =
+    let start = c .before .before .before .before .before in
+    (start .pre .1 .1, omega (arith, c .loop-test .taken), c .before .before .before .running-task .ensures)
+
+trial-held-requires : (t : ℕ) → trial-lts.Need-held-requires (trial-claims t) (trial-at t) trial.Post trial-Inv-loop trial-μ-loop
+trial-held-requires t c κs = tt
+
+trial-same-length : (t : ℕ) → trial-lts.Need-same-length (trial-claims t) (trial-at t) trial.Post trial-Inv-loop trial-μ-loop
+trial-same-length t c = c .before .before .before .before .before .loop .inv .same
+
+trial-returns : (t : ℕ) → trial-lts.Need-returns (trial-claims t) (trial-at t) trial.Post trial-Inv-loop trial-μ-loop
+trial-returns t c =
+    let head = c .before .before .before .before .before in
+    none-answer (head .before .before .before .before .pre .1 .2) (head .loop .inv) (c .before .before .before .next-move .ensures _ (c .before .before .before .before .before .before .level .ensures)) (c .held .ensures) (c .before .if1 .taken)
 
 trial-stopped-requires : (t : ℕ) → trial-lts.Need-stopped-requires (trial-claims t) (trial-at t) trial.Post trial-Inv-loop trial-μ-loop
 trial-stopped-requires t c κs = tt
 
-trial-same-length : (t : ℕ) → trial-lts.Need-same-length (trial-claims t) (trial-at t) trial.Post trial-Inv-loop trial-μ-loop
-trial-same-length t c = c .before .before .before .before .loop .inv .same
+trial-same-length-2 : (t : ℕ) → trial-lts.Need-same-length-2 (trial-claims t) (trial-at t) trial.Post trial-Inv-loop trial-μ-loop
+trial-same-length-2 t c = c .before .before .before .before .before .before .loop .inv .same
 
-trial-returns : (t : ℕ) → trial-lts.Need-returns (trial-claims t) (trial-at t) trial.Post trial-Inv-loop trial-μ-loop
-trial-returns t c =
-    let head = c .before .before .before .before in
-    stops-answer (head .before .before .before .before .pre .1 .2) (head .loop .inv) (c .stopped .ensures) (c .before .before .if1 .taken) (c .before .if2 .taken)
+trial-returns-2 : (t : ℕ) → trial-lts.Need-returns-2 (trial-claims t) (trial-at t) trial.Post trial-Inv-loop trial-μ-loop
+trial-returns-2 t c =
+    let head = c .before .before .before .before .before .before in
+    stops-answer (head .before .before .before .before .pre .1 .2) (head .loop .inv) (c .before .before .before .before .next-move .ensures _ (c .before .before .before .before .before .before .before .level .ensures)) (c .before .before .if1 .left) (c .stopped .ensures) (c .before .if2 .taken)
 
 trial-sub-out : (t : ℕ) → trial-lts.Need-sub-out (trial-claims t) (trial-at t) trial.Post trial-Inv-loop trial-μ-loop
-trial-sub-out t c = omega (arith, c .before .before .before .before .before .before .before .pre .1 .2)
+trial-sub-out t c = omega (arith, c .before .before .before .before .before .before .before .before .before .pre .1 .2)
 
 trial-slice-write-out : (t : ℕ) → trial-lts.Need-slice-write-out (trial-claims t) (trial-at t) trial.Post trial-Inv-loop trial-μ-loop
 trial-slice-write-out t c =
-    let head = c .before .before .before in
+    let head = c .before .before .before .before .before in
     omega (arith, head .loop .inv .same, head .before .before .before .before .pre .1 .4)
 
 trial-step-with-requires : (t : ℕ) → trial-lts.Need-step-with-requires (trial-claims t) (trial-at t) trial.Post trial-Inv-loop trial-μ-loop
 unfolding snapshotIn
 trial-step-with-requires t c κs =
-    let head = c .before .before .before .before .before .before .before .before .before in
-    let start = head .before .before .before .before in
-    let lt = c .before .before .before .before .before .before .before .if1 .taken in
-    let bounds = move-bounds (head .loop .inv .next) lt (start .pre .1 .1 .few) (start .pre .1 .1 .within) in
+    let start = c .before .before .before .before .before .before .before .before .before .before .before .before .before .before .before in
+    let bounds = move-bounds (c .before .before .before .before .before .before .before .before .before .next-move .ensures _ (c .before .before .before .before .before .before .before .before .before .before .before .before .level .ensures)) (c .before .before .before .before .before .before .before .if1 .left) (start .pre .1 .1 .few) (start .pre .1 .1 .within) in
     ((bounds .1, bounds .2, bounds .0, omega arith), (start .pre .1 .1, bounds .3))
 
 trial-add-walk : (t : ℕ) → trial-lts.Need-add-walk (trial-claims t) (trial-at t) trial.Post trial-Inv-loop trial-μ-loop
-trial-add-walk t c = omega (arith, c .before .before .before .before .before .before .before .before .if2 .left, c .before .before .before .before .before .before .before .before .before .before .before .before .before .before .before .fits .allowance)
+trial-add-walk t c = omega (arith, c .before .before .before .before .before .before .before .before .if2 .left, c .before .before .before .before .before .before .before .before .before .before .before .before .before .before .before .before .before .fits .allowance)
 
 trial-walk-requires : (t : ℕ) → trial-lts.Need-walk-requires (trial-claims t) (trial-at t) trial.Post trial-Inv-loop trial-μ-loop
 trial-walk-requires t c κs =
-    let head = c .before .before .before .before .before .before .before .before .before .before .before .before in
-    let start = head .before .before .before .before in
-    let trying = head .loop .inv in (
+    let head = c .before .before .before .before .before .before .before .before .before .before .before .before .before .before in
+    let start = head .before .before .before .before in (
       omega (arith, start .pre .0),
       (
         start .pre .1 .0,
         c .before .before .step-with .ensures .1,
         omega (arith, start .pre .1 .2),
         omega (arith, c .before .before .before .before .before .before .before .before .before .if2 .left),
-        simp length-set (omega (arith, trying .same, start .pre .1 .4)),
+        simp length-set (omega (arith, head .loop .inv .same, start .pre .1 .4)),
       ),
     )
 
-trial-same-length-2 : (t : ℕ) → trial-lts.Need-same-length-2 (trial-claims t) (trial-at t) trial.Post trial-Inv-loop trial-μ-loop
-trial-same-length-2 t c =
-    let head = c .before .before .before .before .before .before .before .before .before .before .before .before .before .before .before .before in
-    let start = head .before .before .before .before in
-    let answer = finds-answer (start .pre .1 .2) (head .loop .inv) (c .before .before .before .before .before .before .before .before .before .before .before .before .before .before .if1 .taken) (start .pre .1 .4) (c .before .before .before .before .before .before .step-with .ensures .0) (c .before .before .before .walk .ensures) (c .if3 .taken) in
-    answer .0 .0
-
-trial-returns-2 : (t : ℕ) → trial-lts.Need-returns-2 (trial-claims t) (trial-at t) trial.Post trial-Inv-loop trial-μ-loop
-trial-returns-2 t c =
-    let head = c .before .before .before .before .before .before .before .before .before .before .before .before .before .before .before .before in
-    let start = head .before .before .before .before in
-    finds-answer (start .pre .1 .2) (head .loop .inv) (c .before .before .before .before .before .before .before .before .before .before .before .before .before .before .if1 .taken) (start .pre .1 .4) (c .before .before .before .before .before .before .step-with .ensures .0) (c .before .before .before .walk .ensures) (c .if3 .taken)
-
-trial-same-length-3 : (t : ℕ) → trial-lts.Need-same-length-3 (trial-claims t) (trial-at t) trial.Post trial-Inv-loop trial-μ-loop
-trial-same-length-3 t c =
-    let head = c .before .before .before .before .before .before .before .before .before .before .before .before .before .before .before .before .before in
-    let start = head .before .before .before .before in
-    let answer = cut-answer (start .pre .1 .2) (head .loop .inv) (c .before .before .before .before .before .before .before .before .before .before .before .before .before .before .before .if1 .taken) (start .pre .1 .4) (c .before .before .before .before .before .before .before .step-with .ensures .0) (c .before .before .before .before .walk .ensures) (c .if4 .taken) in
-    answer .0 .0
-
 trial-returns-3 : (t : ℕ) → trial-lts.Need-returns-3 (trial-claims t) (trial-at t) trial.Post trial-Inv-loop trial-μ-loop
 trial-returns-3 t c =
-    let head = c .before .before .before .before .before .before .before .before .before .before .before .before .before .before .before .before .before in
+    let walked = c .before .before .before in
+    let stepped = walked .before .before .before in
+    let chosen = stepped .before .before .before .before .before .before .before .before in
+    let head = chosen .before .before .before .before in
     let start = head .before .before .before .before in
-    cut-answer (start .pre .1 .2) (head .loop .inv) (c .before .before .before .before .before .before .before .before .before .before .before .before .before .before .before .if1 .taken) (start .pre .1 .4) (c .before .before .before .before .before .before .before .step-with .ensures .0) (c .before .before .before .before .walk .ensures) (c .if4 .taken)
+    finds-answer (start .pre .1 .2) (head .loop .inv) (chosen .before .before .next-move .ensures _ (chosen .before .before .before .before .before .level .ensures)) (chosen .if1 .left) (start .pre .1 .4) (stepped .step-with .ensures .0) (walked .walk .ensures) (c .if3 .taken)
 
-trial-next-move-requires-2 : (t : ℕ) → trial-lts.Need-next-move-requires-2 (trial-claims t) (trial-at t) trial.Post trial-Inv-loop trial-μ-loop
-trial-next-move-requires-2 t c κs =
-    let head = c .before .before .before .before .before .before .before .before .before .before .before .before .before .before .before .before .before in
-    let start = head .before .before .before .before in
-    (start .pre .1 .0, start .pre .1 .1, head .loop .inv .next .bounded, head .before .before .top-job .ensures)
-
-trial-loop-less : (t : ℕ) → trial-lts.Need-loop-less (trial-claims t) (trial-at t) trial.Post trial-Inv-loop trial-μ-loop
-trial-loop-less t c =
-    let head = c .before .before .before .before .before .before .before .before .before .before .before .before .before .before .before .before .before .before in
-    let lt = c .before .before .before .before .before .before .before .before .before .before .before .before .before .before .before .before .if1 .taken in
-    omega (arith, lt, head .loop .inv .next .onward lt, c .next-move2 .ensures .ahead)
-
-trial-loop-again : (t : ℕ) → trial-lts.Need-loop-again (trial-claims t) (trial-at t) trial.Post trial-Inv-loop trial-μ-loop
-trial-loop-again t c =
-    let head = c .before .before .before .before .before .before .before .before .before .before .before .before .before .before .before .before .before .before in
-    let start = head .before .before .before .before in
-    on-answer (start .pre .1 .2) (head .loop .inv) (c .before .before .before .before .before .before .before .before .before .before .before .before .before .before .before .before .if1 .taken) (start .pre .1 .4) (c .before .before .before .before .before .before .before .before .step-with .ensures .0) (c .before .before .before .before .before .walk .ensures) (c .before .before .if3 .left) (c .before .if4 .left) (c .next-move2 .ensures)
-
-trial-held-requires : (t : ℕ) → trial-lts.Need-held-requires (trial-claims t) (trial-at t) trial.Post trial-Inv-loop trial-μ-loop
-trial-held-requires t c κs = tt
-
-trial-same-length-4 : (t : ℕ) → trial-lts.Need-same-length-4 (trial-claims t) (trial-at t) trial.Post trial-Inv-loop trial-μ-loop
-trial-same-length-4 t c = c .before .before .before .loop .inv .same
+trial-same-length-3 : (t : ℕ) → trial-lts.Need-same-length-3 (trial-claims t) (trial-at t) trial.Post trial-Inv-loop trial-μ-loop
+trial-same-length-3 t c = trial-returns-3 t c .0 .0
 
 trial-returns-4 : (t : ℕ) → trial-lts.Need-returns-4 (trial-claims t) (trial-at t) trial.Post trial-Inv-loop trial-μ-loop
 trial-returns-4 t c =
-    let head = c .before .before .before in
-    ends-answer (head .before .before .before .before .pre .1 .2) (head .loop .inv) (c .held .ensures) (c .before .if1 .left)
+    let walked = c .before .before .before .before in
+    let stepped = walked .before .before .before in
+    let chosen = stepped .before .before .before .before .before .before .before .before in
+    let head = chosen .before .before .before .before in
+    let start = head .before .before .before .before in
+    cut-answer (start .pre .1 .2) (head .loop .inv) (chosen .before .before .next-move .ensures _ (chosen .before .before .before .before .before .level .ensures)) (chosen .if1 .left) (start .pre .1 .4) (stepped .step-with .ensures .0) (walked .walk .ensures) (c .if4 .taken)
+
+trial-same-length-4 : (t : ℕ) → trial-lts.Need-same-length-4 (trial-claims t) (trial-at t) trial.Post trial-Inv-loop trial-μ-loop
+trial-same-length-4 t c = trial-returns-4 t c .0 .0
+
+trial-loop-less : (t : ℕ) → trial-lts.Need-loop-less (trial-claims t) (trial-at t) trial.Post trial-Inv-loop trial-μ-loop
+trial-loop-less t c =
+    let tried = c .before .before .before .before .before .before .before .before .before .before .before .before .before .before .before .before .before in
+    let next = tried .next-move .ensures _ (tried .before .before .before .level .ensures) in
+    let lt = c .before .before .before .before .before .before .before .before .before .before .before .before .before .before .before .if1 .left in
+    omega (arith, lt, next .ahead, next .onward lt)
+
+trial-loop-again : (t : ℕ) → trial-lts.Need-loop-again (trial-claims t) (trial-at t) trial.Post trial-Inv-loop trial-μ-loop
+trial-loop-again t c =
+    let walked = c .before .before .before .before in
+    let stepped = walked .before .before .before in
+    let chosen = stepped .before .before .before .before .before .before .before .before in
+    let head = chosen .before .before .before .before in
+    let start = head .before .before .before .before in
+    on-answer (start .pre .1 .2) (head .loop .inv) (chosen .before .before .next-move .ensures _ (chosen .before .before .before .before .before .level .ensures)) (chosen .if1 .left) (start .pre .1 .4) (stepped .step-with .ensures .0) (walked .walk .ensures) (c .before .if3 .left) (c .if4 .left)
+
+trial-held-requires-2 : (t : ℕ) → trial-lts.Need-held-requires-2 (trial-claims t) (trial-at t) trial.Post trial-Inv-loop trial-μ-loop
+trial-held-requires-2 t c κs = tt
+
+trial-same-length-5 : (t : ℕ) → trial-lts.Need-same-length-5 (trial-claims t) (trial-at t) trial.Post trial-Inv-loop trial-μ-loop
+trial-same-length-5 t c = c .before .before .loop .inv .same
+
+trial-returns-5 : (t : ℕ) → trial-lts.Need-returns-5 (trial-claims t) (trial-at t) trial.Post trial-Inv-loop trial-μ-loop
+trial-returns-5 t c =
+    let head = c .before .before in
+    ends-answer (head .before .before .before .before .pre .1 .2) (head .loop .inv) (c .held2 .ensures) (c .before .loop-test .left)
 
 walk-finished-requires : (t : ℕ) → walk-lts.Need-finished-requires (walk-claims t) (walk-at t) walk.Post
 walk-finished-requires t c κs = tt
@@ -210,27 +220,30 @@ pub +trial+walk-spec : {M : Type 1} → statement M
     trial.Post
     trial-Inv-loop
     trial-μ-loop
-    (trial-top-job-requires t)
-    (trial-next-move-requires t)
+    (trial-running-task-requires t)
+    (trial-level-requires t)
     (trial-loop-holds t)
-    (trial-stopped-requires t)
+    (trial-next-move-requires t)
+    (trial-held-requires t)
     (trial-same-length t)
     (trial-returns t)
+    (trial-stopped-requires t)
+    (trial-same-length-2 t)
+    (trial-returns-2 t)
     (trial-sub-out t)
     (trial-slice-write-out t)
     (trial-step-with-requires t)
     (trial-add-walk t)
     (trial-walk-requires t)
-    (trial-same-length-2 t)
-    (trial-returns-2 t)
     (trial-same-length-3 t)
     (trial-returns-3 t)
-    (trial-next-move-requires-2 t)
+    (trial-same-length-4 t)
+    (trial-returns-4 t)
     (trial-loop-less t)
     (trial-loop-again t)
-    (trial-held-requires t)
-    (trial-same-length-4 t)
-    (trial-returns-4 t))
+    (trial-held-requires-2 t)
+    (trial-same-length-5 t)
+    (trial-returns-5 t))
     λ t. walk-lts.spec (
       finished-reads.Asked,
       finished-reads.Learnt,

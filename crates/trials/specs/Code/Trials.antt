@@ -46,11 +46,11 @@ Left at allowance before after r = (length after ≡ length before) × (r .count
 -- ---- what the walk and the trial come to, for every table and state that the arrays and the snapshot hold
 
 abbrev pub WalksAs : List ℕ → List ℕ → Ceilings → Snapshot → ℕ → ℕ → ℕ → List ℕ → List ℕ → Outcome → Type 0
-WalksAs program times locks p left count allowance before after r =
-    (a : Accepted) (s : State) → IsAccepted a → Lends a program times locks → Invariant a s → Shows a p s
+WalksAs program waits locks p left count allowance before after r =
+    (a : Accepted) (s : State) → IsAccepted a → Lends a program waits locks → Invariant a s → Shows a p s
     → Came (walkFrom a left s) count allowance (512 - left) before after r
 
 abbrev pub TriesAs : List ℕ → List ℕ → Ceilings → Snapshot → ℕ → ℕ → ℕ → List ℕ → List ℕ → Outcome → Type 0
-TriesAs program times locks p left count allowance before after r =
-    (a : Accepted) (s : State) → IsAccepted a → Lends a program times locks → Invariant a s → Shows a p s
+TriesAs program waits locks p left count allowance before after r =
+    (a : Accepted) (s : State) → IsAccepted a → Lends a program waits locks → Invariant a s → Shows a p s
     → Came (trial (walkFrom a left) (moves a s)) count allowance (511 - left) before after r

@@ -63,17 +63,17 @@ ended-came p s store failed count allowance at buffer le =
           (came-held count allowance at buffer le (atEnd s) (rw good refl) refl)
     ]
 
-module _ {program times : List ℕ} {locks : Ceilings} {p : Snapshot} (left count allowance : ℕ) (buffer : List ℕ) (le : count ≤ allowance) where
+module _ {program waits : List ℕ} {locks : Ceilings} {p : Snapshot} (left count allowance : ℕ) (buffer : List ℕ) (le : count ≤ allowance) where
   -- a complete order fails if a job has
   pub walk-ended : finishedIn program p ≡ true
-      → WalksAs program times locks p left count allowance buffer buffer (endedAt p count (512 - left))
+      → WalksAs program waits locks p left count allowance buffer buffer (endedAt p count (512 - left))
   walk-ended finished a s ok lends inv shows =
       let ended = sym (finished-agreed ok lends inv shows) ∙ finished in
       subst (λ (w : Walked). Came w count allowance (512 - left) buffer buffer (endedAt p count (512 - left))) (sym (walk-end a s left ended))
       (ended-came p s (shows .store) (shows .failed) count allowance (512 - left) buffer le)
 
   pub walk-none-left : finishedIn program p ≡ false → left ≡ 0
-      → WalksAs program times locks p left count allowance buffer buffer (heldAt count)
+      → WalksAs program waits locks p left count allowance buffer buffer (heldAt count)
   walk-none-left going empty a s ok lends inv shows =
       let unended = sym (finished-agreed ok lends inv shows) ∙ going in
       let is : walkFrom a left s ≡ record { failing = none; count = 0 } = ap (λ (n : ℕ). walkFrom a n s) empty ∙ walk-cut a s unended in
@@ -81,10 +81,10 @@ module _ {program times : List ℕ} {locks : Ceilings} {p : Snapshot} (left coun
       (came-held count allowance (512 - left) buffer le _ refl refl)
 
 -- where jobs are left, the walk is the trial of the moves
-pub walk-tried : {program times : List ℕ} {locks : Ceilings} {p : Snapshot} {left count allowance : ℕ}
+pub walk-tried : {program waits : List ℕ} {locks : Ceilings} {p : Snapshot} {left count allowance : ℕ}
     {before after : List ℕ} {r : Outcome} → finishedIn program p ≡ false → 1 ≤ left → left ≤ 512
-    → TriesAs program times locks p (left - 1) count allowance before after r
-    → WalksAs program times locks p left count allowance before after r
+    → TriesAs program waits locks p (left - 1) count allowance before after r
+    → WalksAs program waits locks p left count allowance before after r
 walk-tried {left = left} {count} {allowance} {before} {after} {r} going some-left few tries a s ok lends inv shows =
     let unended = sym (finished-agreed ok lends inv shows) ∙ going in
     let less : left ≡ suc (left - 1) = omega arith in

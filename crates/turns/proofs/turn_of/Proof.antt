@@ -1,7 +1,7 @@
 -- `turns::turn_of` meets its contract: the two returns are the two cases of the turn, whose numbers are bounded by a
 -- law of it.
 -- Assumes nothing.
-use native.Mathlib.Omega.{arith}
+use Rattle.states.specs.Code.StateBytes.{snapshotIn}
 use Rattle.states.specs.Laws.StateReads.{runs-deep-read, turn-runs-read, turn-starts-read}
 use borrow.Author.Needs.{needs}
 use Rattle.turns.proofs.turn_of.Statement.{statement}
@@ -10,20 +10,16 @@ use Rattle.turns.proofs.turn_of.Tie as tie
 runs-requires : tie.Need-runs-requires
 runs-requires c κs = search needs
 
-element-copy-out-top : tie.Need-element-copy-out-top
-element-copy-out-top c = search needs
-
-sub-top : tie.Need-sub-top
-sub-top c = runs-deep-read _ _ _ (c .before .before .runs .ensures) (c .before .if1 .taken)
-
-frame-at-requires : tie.Need-frame-at-requires
-frame-at-requires c κs =
-    omega (arith, c .before .before .before .pre .1 .few, runs-deep-read _ _ _ (c .before .before .runs .ensures) (c .before .if1 .taken))
+top-turn-requires : tie.Need-top-turn-requires
+unfolding snapshotIn
+top-turn-requires c κs =
+    let running = c .before in
+    (running .before .pre .1, runs-deep-read _ _ _ (running .runs .ensures) (c .if1 .taken))
 
 returns : tie.Need-returns
 returns c =
-    let running = c .before .before in
-    turn-runs-read _ _ _ _ _ (running .before .before .pre .1) (running .before .runs .ensures) (running .if1 .taken) (c .frame-at .ensures)
+    let running = c .before in
+    turn-runs-read _ _ _ _ _ (running .before .before .pre .1) (running .before .runs .ensures) (running .if1 .taken) (c .top-turn .ensures)
 
 start-of-requires : tie.Need-start-of-requires
 start-of-requires c κs = search needs
@@ -34,13 +30,4 @@ returns-2 c =
     turn-starts-read _ _ _ _ _ (other .before .before .pre .1) (other .before .runs .ensures) (other .if1 .left) (c .start-of .ensures)
 
 pub turn-of-spec : {M : Type 1} → statement M
-turn-of-spec =
-    tie.close
-    (tie.spec
-    runs-requires
-    element-copy-out-top
-    sub-top
-    frame-at-requires
-    returns
-    start-of-requires
-    returns-2)
+turn-of-spec = tie.close (tie.spec runs-requires top-turn-requires returns start-of-requires returns-2)

@@ -44,7 +44,7 @@ use Rattle.walk.specs.Walks.{EndedOrder, Walked, walk}
 
 pub walk-lent : {t : Table} {list : JobList} {l : Lent} {allowance : ℕ} {before after : List ℕ} {r : Outcome}
     → LentOf t list l
-    → WalksAs (l .program) (l .times) (l .locks) (snapshotIn (l .start)) 512 0 allowance before after r
+    → WalksAs (l .program) (l .waits) (l .locks) (snapshotIn (l .start)) 512 0 allowance before after r
     → WalkOf t list allowance before after r
 unfolding walk
 walk-lent lent walks a ok table listed =

@@ -8,8 +8,8 @@ use Rattle.plan_check.specs.Laws.CheckLaws.{table-checked}
 use Rattle.plan_check.proofs.entries.check_table.Statement.{statement}
 use Rattle.plan_check.proofs.entries.check_table.Tie as tie
 
-lend-requires : tie.Need-lend-requires
-lend-requires c κs = search needs
+lend-times-requires : tie.Need-lend-times-requires
+lend-times-requires c κs = search needs
 
 run-plan-requires : tie.Need-run-plan-requires
 run-plan-requires c κs = search needs
@@ -29,11 +29,11 @@ returns c =
     let joined = c .before .before in
     let ran = joined .before .before .before .before .before .before .before in
     let lent = ran .before .before .before .before in
-    table-checked _ (lent .lend .ensures) (ran .run-plan .ensures)
+    table-checked _ (lent .lend-times .ensures) (ran .run-plan .ensures)
     (⊎-elim (λ w. inl (w .0 .taken, w .6 ∙ w .5 .ensures)) (λ w. inr (w .0 .left, w .1)) (joined .if1 .came))
     (c .end-store .ensures)
 
 pub check-table-spec : {M : Type 1} → statement M
 check-table-spec =
     tie.close
-    (tie.spec lend-requires run-plan-requires legality-fault-requires end-store-requires returns)
+    (tie.spec lend-times-requires run-plan-requires legality-fault-requires end-store-requires returns)

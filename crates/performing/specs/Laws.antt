@@ -1,0 +1,4 @@
+pub mod EndLaws
+pub mod PartReads
+pub mod PartWrites
+pub mod PerformedLaws
