@@ -1,5 +1,7 @@
+pub mod AllowedLaws
 pub mod DueLaws
-pub mod FirstLaws
+pub mod MoveLaws
 pub mod NextLaws
 pub mod OfferLaws
+pub mod PositionLaws
 pub mod RunningLaws

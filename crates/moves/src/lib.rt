@@ -2,9 +2,9 @@
 use locals::values::highest;
 use locals::values::lowest;
 use machine::POSITIONS;
+use performing::parts::next_in;
 use programs::instruction_at;
 use snapshots::DEPTH;
-use snapshots::Due;
 use snapshots::FRAME;
 use snapshots::LAST_VALUE;
 use snapshots::NO_MOVE;
@@ -16,26 +16,18 @@ use snapshots::STATE;
 use snapshots::VALUES;
 use snapshots::WAITS;
 use starts::may_start;
-use starts::no_turn;
-use starts::start_turn;
 use taskfile::Instruction;
 use taskfile::Task;
 use taskfile::limits::MOST_JOBS;
 use taskfile::limits::MOST_TASKS;
-use turns::top_turn;
 ghost use mathlib.Core.Path.{_≡_};
-ghost use Prim.Native.Nat.{_≤_, _<_};
+ghost use mathlib.Core.Bool.{true};
+ghost use mathlib.Core.List.{List};
+ghost use Prim.Native.Nat.{ℕ, _+_, _*_, _≤_, _<_};
 ghost use Rattle.taskfile.specs.declared.Ceilings.{Ceilings};
-ghost use Rattle.snapshots.specs.Code.SnapshotSteps.{levelIn};
+ghost use Rattle.snapshots.specs.Code.SnapshotSteps.{levelIn, stepIn};
 ghost use Rattle.states.specs.Code.StateBytes.{snapshotIn, IsState};
-ghost use Rattle.moves.specs.Code.MoveParts.{NextStep, MoveOf, noMove, firstByte, firstFrom, runningTask, valueAfter};
-
-// A move: its order byte, or `NO_MOVE`, the byte from which on the next move is looked for, and whose turn it is.
-pub struct Candidate {
-    pub byte: u8,
-    pub next: u8,
-    pub turn: Due,
-}
+ghost use Rattle.moves.specs.Code.MoveParts.{NextStep, FirstStart, StepOf, firstFrom, positionIn, runningTask};
 
 // The first value from v on that is on offer at an instruction, or `VALUES`. None above 15 fits an order's byte.
 pub fn first_from(o: Instruction, v: u8) -> u8
@@ -52,56 +44,20 @@ pub fn first_from(o: Instruction, v: u8) -> u8
     first
 }
 
-// The byte from which on the next move is looked for after a step at this byte, which is one of this instruction: the
-// next value, or the next task's first byte where that was the last.
-pub fn byte_after(o: Instruction, byte: u8) -> u8
-    requires { ⌜ byte < 128 ⌝ }
-    ensures { λ r. ⌜ r ≡ valueAfter o byte ⌝ }
+// The first byte of task i from the value v on that is a step, where its job whose turn it is stands at this position;
+// or `NO_MOVE`, where none of the task's is.
+pub fn byte_from(program: &[u8; PROGRAM], i: Task, position: u16, v: u8) -> u8
+    requires { ⌜ i .0 < 8 ⌝ }
+    ensures { λ m. ⌜ StepOf (now (program .entry)) (i .0) position v m ⌝ }
 {
-    let next_task = VALUES * (byte / VALUES + 1);
-    if highest(o) <= byte % VALUES {
-        return next_task;
+    if POSITIONS <= position {
+        return NO_MOVE;
     }
-    if byte % VALUES == LAST_VALUE {
-        return next_task;
+    let first = first_from(instruction_at(program, i, position), v);
+    if VALUES <= first {
+        return NO_MOVE;
     }
-    byte + 1
-}
-
-// No move is left.
-pub fn no_move() -> Candidate
-    ensures { λ m. ⌜ m ≡ noMove ⌝ }
-{
-    Candidate {
-        byte: NO_MOVE,
-        next: NO_MOVE,
-        turn: no_turn(),
-    }
-}
-
-// The first move from `byte` on of the task whose turn this is, if it has one.
-pub fn move_of(program: &[u8; PROGRAM], d: Due, byte: u8) -> Candidate
-    requires { ⌜ byte < 128 ⌝ }
-    ensures { λ m. ⌜ MoveOf (now (program .entry)) d byte m ⌝ }
-{
-    let f = d.frame;
-    let local = f.local;
-    let next = local.next;
-    if POSITIONS <= next {
-        return no_move();
-    }
-    let i = byte / VALUES;
-    let o = instruction_at(program, Task(i), next);
-    let v = first_from(o, byte % VALUES);
-    if VALUES <= v {
-        return no_move();
-    }
-    let found = VALUES * i + v;
-    Candidate {
-        byte: found,
-        next: byte_after(o, found),
-        turn: d,
-    }
+    VALUES * i.0 + first
 }
 
 // The task of the active job started last, or `NO_TASK`.
@@ -120,50 +76,84 @@ pub fn running_task(program: &[u8; PROGRAM], s: &[u8; STATE]) -> u8
     program[OWNERS + (x as usize)]
 }
 
-// The first byte from `byte` on of a task that is not below `top`, the running job's, or `NO_TASK`: no task below has
-// a turn.
-pub fn first_byte(top: u8, byte: u8) -> u8
-    ensures { λ r. ⌜ r ≡ firstByte top byte ⌝ }
+// Where the job stands whose turn task i's is: the running job, if `top` is that task, or else one that starts.
+pub fn position_of(s: &[u8; STATE], top: u8, i: u8) -> u16
+    requires { ⌜ IsState (now s) × (i ≡ top → 1 ≤ snapshotIn (now s) .depth) ⌝ }
+    ensures { λ n. ⌜ n ≡ positionIn (snapshotIn (now (s .entry))) top i ⌝ }
 {
-    if MOST_TASKS <= top {
-        return byte;
+    if i == top {
+        return next_in(s, s[DEPTH] - 1);
     }
-    let first = VALUES * top;
-    if byte < first {
-        return first;
-    }
-    byte
+    0
 }
 
-// The first byte from `byte` on that is a step, or `NO_MOVE`, where `top` is the running job's task and `low` the level
-// that a start must reach. The two are found once for a state.
+// The first byte of a task from i on that is a start, or `NO_MOVE`, where `low` is the level that a start must reach.
+pub fn start_from(
+    program: &[u8; PROGRAM],
+    waits: &[u8; WAITS],
+    s: &[u8; STATE],
+    low: u8,
+    i: u8,
+) -> u8
+    requires { ⌜ IsState (now s) × (i ≤ 8) ⌝ }
+    ensures { λ m. ⌜ ((locks : Ceilings) → low ≡ levelIn (now (program .entry)) locks (snapshotIn (now (s .entry)))
+        → low ≤ i
+        → NextStep (now (program .entry)) (now (waits .entry)) locks (snapshotIn (now (s .entry))) (16 * i) m) ⌝ }
+{
+    let mut k = i;
+    while k < MOST_TASKS {
+        if may_start(program, waits, s, low, Task(k)) {
+            let m = byte_from(program, Task(k), 0, 0);
+            if m < NO_MOVE {
+                return m;
+            }
+        }
+        k += 1;
+    }
+    NO_MOVE
+}
+
+// The first move of a state, or `NO_MOVE`, where `top` is the running job's task and `start` the first start. The two
+// are found once for a state.
+pub fn first_move(program: &[u8; PROGRAM], s: &[u8; STATE], top: u8, start: u8) -> u8
+    requires { ⌜ IsState (now s) × (top ≡ runningTask (now program) (snapshotIn (now s))) ⌝ }
+    ensures { λ m. ⌜ ((waits : List ℕ) (locks : Ceilings)
+        → FirstStart (now (program .entry)) waits locks (snapshotIn (now (s .entry))) start
+        → NextStep (now (program .entry)) waits locks (snapshotIn (now (s .entry))) 0 m) ⌝ }
+{
+    if MOST_TASKS <= top {
+        return start;
+    }
+    let m = byte_from(program, Task(top), position_of(s, top, top), 0);
+    if m < NO_MOVE {
+        return m;
+    }
+    start
+}
+
+// The move after the one of this byte, or `NO_MOVE`: the next value on offer, or the next start.
 pub fn next_move(
     program: &[u8; PROGRAM],
     waits: &[u8; WAITS],
     s: &[u8; STATE],
     top: u8,
     low: u8,
+    start: u8,
     byte: u8,
-) -> Candidate
-    requires { ⌜ IsState (now s) × (byte ≤ 128) × (top ≡ runningTask (now program) (snapshotIn (now s))) ⌝ }
+) -> u8
+    requires { ⌜ IsState (now s) × (byte < 128) × (top ≡ runningTask (now program) (snapshotIn (now s))) ⌝ }
     ensures { λ m. ⌜ ((locks : Ceilings) → low ≡ levelIn (now (program .entry)) locks (snapshotIn (now (s .entry)))
-        → NextStep (now (program .entry)) (now (waits .entry)) locks (snapshotIn (now (s .entry))) byte m) ⌝ }
+        → FirstStart (now (program .entry)) (now (waits .entry)) locks (snapshotIn (now (s .entry))) start
+        → stepIn (now (program .entry)) (now (waits .entry)) locks (snapshotIn (now (s .entry))) byte .allowed ≡ true
+        → NextStep (now (program .entry)) (now (waits .entry)) locks (snapshotIn (now (s .entry))) (byte + 1) m) ⌝ }
 {
-    let mut at = first_byte(top, byte);
-    while at < NO_MOVE {
-        let i = at / VALUES;
-        if i == top {
-            let m = move_of(program, top_turn(s), at);
-            if m.byte < NO_MOVE {
-                return m;
-            }
-        } else if may_start(program, waits, s, low, Task(i)) {
-            let m = move_of(program, start_turn(s, Task(i)), at);
-            if m.byte < NO_MOVE {
-                return m;
-            }
-        }
-        at = VALUES * (at / VALUES + 1);
+    let i = byte / VALUES;
+    let m = byte_from(program, Task(i), position_of(s, top, i), byte % VALUES + 1);
+    if m < NO_MOVE {
+        return m;
     }
-    no_move()
+    if i == top {
+        return start;
+    }
+    start_from(program, waits, s, low, i + 1)
 }

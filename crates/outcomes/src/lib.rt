@@ -1,6 +1,7 @@
 // What a walk comes to, and what that answers and shows.
 use ends::failed_in;
 use ends::some_failed;
+use snapshots::ORDER_ROOM;
 use snapshots::STATE;
 use snapshots::STORE;
 use states::eight_at;
@@ -14,10 +15,10 @@ ghost use Prim.Native.Nat.{_<_, _^_};
 ghost use mathlib.Core.Bool.{true};
 ghost use Rattle.states.specs.Code.StateBytes.{snapshotIn};
 ghost use Rattle.walk.specs.WalkEntry.{refusal};
-ghost use Rattle.outcomes.specs.Code.Outcomes.{heldAt, stoppedAt, endedAt, answerOf, shownLength};
+ghost use Rattle.outcomes.specs.Code.Outcomes.{endedAt, outcomeOf, answerOf, shownLength};
 
-// What a walk comes to: whether a failing order was found, whether the allowance stopped it before, and the moves made
-// so far; of an order found also its length, its end store and its failed jobs.
+// What a walk comes to: whether a failing order was found, whether the allowance stopped it before, and the moves
+// made; of an order found also its length, its end store and its failed jobs.
 pub struct Outcome {
     pub found: bool,
     pub stopped: bool,
@@ -27,48 +28,36 @@ pub struct Outcome {
     pub failed: [bool; JOBS],
 }
 
+// What a walk answers while it goes on: the length of the failing order that it found, or one of these two numbers,
+// which no length is. That is a number and no struct, so that it is handed up in a register.
+
 // No order failed.
-pub fn held(count: u64) -> Outcome
-    ensures { λ r. ⌜ r ≡ heldAt count ⌝ }
-{
-    Outcome {
-        found: false,
-        stopped: false,
-        count: count,
-        length: 0,
-        store: [0; VARIABLES],
-        failed: [false; JOBS],
-    }
-}
+pub const HELD: usize = ORDER_ROOM + 1;
 
 // The allowance did not suffice.
-pub fn stopped(count: u64) -> Outcome
-    ensures { λ r. ⌜ r ≡ stoppedAt count ⌝ }
+pub const STOPPED: usize = ORDER_ROOM + 2;
+
+// The answer at a complete order of this length, which fails if a job has.
+pub fn ended(s: &[u8; STATE], length: usize) -> usize
+    ensures { λ r. ⌜ r ≡ endedAt (snapshotIn (now (s .entry))) length ⌝ }
 {
-    Outcome {
-        found: false,
-        stopped: true,
-        count: count,
-        length: 0,
-        store: [0; VARIABLES],
-        failed: [false; JOBS],
+    if some_failed(s) {
+        return length;
     }
+    HELD
 }
 
-// A complete order, which fails if a job has.
-pub fn ended(s: &[u8; STATE], count: u64, length: u64) -> Outcome
-    ensures { λ r. ⌜ r ≡ endedAt (snapshotIn (now (s .entry))) count length ⌝ }
+// What a walk comes to that answered r after so many moves, and left this state: an order found ends in it.
+pub fn outcome_of(r: usize, count: u64, s: &[u8; STATE]) -> Outcome
+    ensures { λ x. ⌜ x ≡ outcomeOf r count (snapshotIn (now (s .entry))) ⌝ }
 {
-    if !some_failed(s) {
-        return held(count);
-    }
     let store = eight_at(s, STORE);
     let failed = failed_in(s);
     Outcome {
-        found: true,
-        stopped: false,
+        found: r < HELD,
+        stopped: HELD < r,
         count: count,
-        length: length,
+        length: r as u64,
         store: store,
         failed: failed,
     }

@@ -1,2 +1,3 @@
 pub mod EffectWrites
+pub mod MovingLaws
 pub mod StepCases

@@ -93,8 +93,8 @@ pub struct Entries {
 
 // The locks' ceilings, how many there are, and the array that holds them.
 pub struct Ceilings {
-    pub count: u8,
     pub ceilings: [u8; LOCKS],
+    pub count: u8,
 }
 
 // The locks' ceilings and longest holding times, how many there are, and the arrays that hold them.

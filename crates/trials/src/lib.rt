@@ -1,97 +1,108 @@
 // The walk of a state and the trial of its moves, which call each other.
 use ends::finished;
+use moves::first_move;
 use moves::next_move;
 use moves::running_task;
-use outcomes::Outcome;
+use moves::start_from;
+use outcomes::HELD;
+use outcomes::STOPPED;
 use outcomes::ended;
-use outcomes::held;
-use outcomes::stopped;
 use precedence::level;
 use snapshots::LAST_STEP;
 use snapshots::NO_MOVE;
 use snapshots::ORDER_ROOM;
 use snapshots::PROGRAM;
 use snapshots::STATE;
-use snapshots::VALUES;
 use snapshots::WAITS;
-use steps::step_with;
+use steps::make_move;
 use taskfile::Ceilings;
-use taskfile::Task;
 ghost use Prim.Native.Nat.{_-_, _≤_, _<_};
 ghost use lib.ListN.{length};
+ghost use Rattle.outcomes.specs.Code.Outcomes.{outcomeOf};
 ghost use Rattle.states.specs.Code.StateBytes.{snapshotIn, IsState};
 ghost use Rattle.trials.specs.Code.Trials.{Left, WalksAs, TriesAs};
 
-// The walk of a state, on a path with room for `left` more bytes, when `count` moves were made before.
+// The walk of a state, on a path with room for `left` more bytes, when `count` moves were made before. It answers the
+// length of the failing order found, `HELD` or `STOPPED`, and leaves the moves made and the order's end state.
 pub fn walk(
     program: &[u8; PROGRAM],
     waits: &[u8; WAITS],
     locks: Ceilings,
-    s: &[u8; STATE],
+    s: &mut [u8; STATE],
     left: usize,
-    count: u64,
     allowance: u64,
+    count: &mut u64,
     out: &mut [u8],
-) -> Outcome
-    requires { ⌜ (locks .count ≤ 8) × IsState (now s) × (left ≤ 512) × (count ≤ allowance)
+) -> usize
+    requires { ⌜ (locks .count ≤ 8) × IsState (now s) × (left ≤ 512) × (now count ≤ allowance)
         × (512 ≤ length (now out)) ⌝ }
-    ensures room { λ r. ⌜ Left (512 - left) allowance (now (out .entry)) (now (out .exit)) r ⌝ }
+    ensures room { λ r. ⌜ Left (512 - left) allowance (now (out .entry)) (now (out .exit))
+        (outcomeOf r (now (count .exit)) (snapshotIn (now (s .exit)))) ⌝ }
     ensures came { λ r. ⌜ WalksAs (now (program .entry)) (now (waits .entry)) locks (snapshotIn (now (s .entry)))
-        left count allowance (now (out .entry)) (now (out .exit)) r ⌝ }
+        left (now (count .entry)) allowance (now (out .entry)) (now (out .exit))
+        (outcomeOf r (now (count .exit)) (snapshotIn (now (s .exit)))) ⌝ }
 {
     if finished(program, s) {
-        return ended(s, count, (ORDER_ROOM - left) as u64);
+        return ended(s, ORDER_ROOM - left);
     }
     if left == 0 {
-        return held(count);
+        return HELD;
     }
-    trial(program, waits, locks, s, left - 1, count, allowance, out)
+    trial(program, waits, locks, s, left - 1, allowance, count, out)
 }
 
-// The trial of a state's moves, each with room for `left` bytes after it.
+// The trial of a state's moves, each with room for `left` bytes after it. All but the last are made on a copy of the
+// state, the last on the state itself.
 pub fn trial(
     program: &[u8; PROGRAM],
     waits: &[u8; WAITS],
     locks: Ceilings,
-    s: &[u8; STATE],
+    s: &mut [u8; STATE],
     left: usize,
-    count: u64,
     allowance: u64,
+    count: &mut u64,
     out: &mut [u8],
-) -> Outcome
-    requires { ⌜ (locks .count ≤ 8) × IsState (now s) × (left < 512) × (count ≤ allowance)
+) -> usize
+    requires { ⌜ (locks .count ≤ 8) × IsState (now s) × (left < 512) × (now count ≤ allowance)
         × (512 ≤ length (now out)) ⌝ }
-    ensures room { λ r. ⌜ Left (511 - left) allowance (now (out .entry)) (now (out .exit)) r ⌝ }
+    ensures room { λ r. ⌜ Left (511 - left) allowance (now (out .entry)) (now (out .exit))
+        (outcomeOf r (now (count .exit)) (snapshotIn (now (s .exit)))) ⌝ }
     ensures came { λ r. ⌜ TriesAs (now (program .entry)) (now (waits .entry)) locks (snapshotIn (now (s .entry)))
-        left count allowance (now (out .entry)) (now (out .exit)) r ⌝ }
+        left (now (count .entry)) allowance (now (out .entry)) (now (out .exit))
+        (outcomeOf r (now (count .exit)) (snapshotIn (now (s .exit)))) ⌝ }
 {
-    let mut made = count;
     let top = running_task(program, s);
     let low = level(program, locks, s);
-    let mut at: u8 = 0;
+    let start = start_from(program, waits, s, low, low);
+    let mut at = first_move(program, s, top, start);
     while at < NO_MOVE {
-        let m = next_move(program, waits, s, top, low, at);
-        if NO_MOVE <= m.byte {
-            return held(made);
+        if allowance <= *count {
+            return STOPPED;
         }
-        if allowance <= made {
-            return stopped(made);
+        *count += 1;
+        out[LAST_STEP - left] = at;
+        let after = next_move(program, waits, s, top, low, start, at);
+        if NO_MOVE <= after {
+            make_move(program, s, top, at);
+            return walk(program, waits, locks, s, left, allowance, count, out);
         }
-        out[LAST_STEP - left] = m.byte;
-        let d = m.turn;
-        let f = d.frame;
         let mut next = *s;
-        let i = Task(m.byte / VALUES);
-        step_with(program, &mut next, f, d.under, i, m.byte % VALUES);
-        let r = walk(program, waits, locks, &next, left, made + 1, allowance, out);
-        if r.found {
+        make_move(program, &mut next, top, at);
+        let r = walk(
+            program,
+            waits,
+            locks,
+            &mut next,
+            left,
+            allowance,
+            count,
+            out,
+        );
+        if r != HELD {
+            *s = next;
             return r;
         }
-        if r.stopped {
-            return r;
-        }
-        made = r.count;
-        at = m.next;
+        at = after;
     }
-    held(made)
+    HELD
 }

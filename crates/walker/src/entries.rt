@@ -3,6 +3,7 @@ use acceptance::entries::accept_file;
 use lending::lend;
 use outcomes::Outcome;
 use outcomes::outcome_answer;
+use outcomes::outcome_of;
 use outcomes::refused_walk;
 use outcomes::shown_length;
 use snapshots::ORDER_ROOM;
@@ -30,17 +31,19 @@ pub fn walk_table(t: Table, list: JobList, allowance: u64, out: &mut [u8]) -> Ou
     let program = l.program;
     let waits = l.waits;
     let locks = l.locks;
-    let start = l.start;
-    walk(
+    let mut start = l.start;
+    let mut count: u64 = 0;
+    let r = walk(
         &program,
         &waits,
         locks,
-        &start,
+        &mut start,
         ORDER_ROOM,
-        0,
         allowance,
+        &mut count,
         out,
-    )
+    );
+    outcome_of(r, count, &start)
 }
 
 // The walk's entry: the file's numbers, then 20, then 21 or the verdict. The buffer's first 512 bytes hold the failing

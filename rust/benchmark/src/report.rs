@@ -275,7 +275,8 @@ Tables whose walk holds after about 20,000,000 moves, so that every move of the 
 other side is not the interpreter but a straightforward walker in Rust,
 `rust/benchmark/src/walker.rs`: over the same lent tables, by recursion, with one copy of the state a
 move, and built without overflow checks. Like the proved walk it passes over tasks below the running
-job's and tasks with no job left; its start test is document 01's, without a wait table. The ratio is
+job's and tasks with no job left; its start test is document 01's, without a wait table, and it makes
+a state's last move on a copy too, where the proved walk makes it on the state itself. The ratio is
 the proved walk's time by the walker's, each the median of {WALK_TURNS} walks in turn; both give one verdict and count. The proved
 walk's time has the reading of the file in it.
 

@@ -1,18 +1,18 @@
--- Laws of a task's turn, by the running job's task and the level: the running job's task has that job's turn, a task
--- below it none, and any other a start or none.
+-- Laws of a task's turn, by the running job's task and the level: the running job's task has that job's turn, another
+-- below the level none, and any other a start or none.
 -- Assumes nothing.
 use mathlib.Core.Path.{_≡_, refl, sym, ap, _∙_}
 use mathlib.Core.Logic.{inl, inr}
 use Prim.Native.Nat.{ℕ, _≤_, _<_}
 use native.Mathlib.Omega.{arith}
-use mathlib.Core.Bool.{Bool, true, false, true≢false, not, _&&_}
+use mathlib.Core.Bool.{Bool, true, false, true≢false, _&&_}
 use mathlib.Core.List.{List}
-use lib.Dec.{ltb, eqb}
+use lib.Dec.{ltb}
 use lib.ListN.{take}
-use borrow.Author.Tests.{ltb-true, eqb-true, eq-eqb, lt-ltb, not-false}
+use borrow.Author.Tests.{ltb-true, eqb-true, eq-eqb, lt-ltb}
 use Rattle.taskfile.specs.declared.Ceilings.{Ceilings}
 use Rattle.notation.specs.Lists.{if_then_else_}
-use Rattle.notation.specs.Laws.TestLaws.{and-both, and-holds, test-decided, not-both}
+use Rattle.notation.specs.Laws.TestLaws.{and-both, and-holds, test-decided}
 use Rattle.machine.specs.Laws.HeldLaws.{priority-base}
 use Rattle.snapshots.specs.declared.Due.{Due}
 use Rattle.snapshots.specs.Code.Snapshots.{Snapshot}
@@ -100,18 +100,30 @@ module _ (program : List ℕ) (p : Snapshot) (i : ℕ) (small : i < 8) {top : �
       pub turn-idle : b ≡ false → turnIn program waits locks p i .due ≡ false
       turn-idle h = idle other (starts-at ∙ h)
 
-    -- no task below the running job's has a turn: its base is below that job's present priority
-    pub low-idle : top < 8 → i < top → turnIn program waits locks p i .due ≡ false
-    unfolding barIn
-    low-idle near low =
-        let says = running-says program p (omega (arith, is)) in
-        let none : startsIn program waits locks p i ≡ false =
-        elim (test-decided (startsIn program waits locks p i)) [
-          | inl h ↦
-              let above = start.starts-says program waits (levelIn program locks p) p i h .above in
-              let over = start.level-over program locks p (λ flat. omega (arith, says .0)) i small above in
-              let ceilings = take (locks .count) (locks .ceilings) in
-              absurd (omega (arith, over, priority-base ceilings (ownerIn program (topOf p .job .0)) (topOf p .local .held), says .2, is))
-          | inr h ↦ h
-        ] in
-        idle (λ same. omega arith) none
+    -- no task below the level has a turn, the running job's apart
+    pub low-idle : (i ≡ top → ⊥) → i < levelIn program locks p → turnIn program waits locks p i .due ≡ false
+    low-idle other low = idle other (start.starts-low program waits (levelIn program locks p) p i low)
+
+    -- a turn that is due and not the running job's is the start of a task that is not below the level
+    module _ (other : i ≡ top → ⊥) (due : turnIn program waits locks p i .due ≡ true) where
+      due-starts : startsIn program waits locks p i ≡ true
+      due-starts = elim (test-decided (startsIn program waits locks p i)) [
+        | inl h ↦ h
+        | inr h ↦ absurd (true≢false (sym due ∙ idle other h))
+      ]
+
+      pub due-start : startTurn p i ≡ turnIn program waits locks p i
+      due-start = turn-start other refl refl due-starts
+
+      pub due-above : levelIn program locks p ≤ i
+      due-above = start.starts-says program waits (levelIn program locks p) p i due-starts .above
+
+  -- the running job's task is below the level: its base is not above that job's present priority
+  pub high-other : (locks : Ceilings) → levelIn program locks p ≤ i → i ≡ top → ⊥
+  unfolding barIn
+  high-other locks high here =
+      let says = running-says program p (omega (arith, is)) in
+      let over = start.level-over program locks p (λ flat. omega (arith, says .0)) i small high in
+      let ceilings = take (locks .count) (locks .ceilings) in
+      let base = priority-base ceilings (ownerIn program (topOf p .job .0)) (topOf p .local .held) in
+      omega (arith, over, base, says .2, is)

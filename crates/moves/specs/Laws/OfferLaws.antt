@@ -1,8 +1,8 @@
--- Laws of the values that a job may take: the first from one on, and where the next is looked for after a step.
+-- Laws of the values that a job may take: the first from one on.
 -- Assumes nothing.
 use mathlib.Core.Path.{_≡_, refl, sym, ap, subst, _∙_}
 use mathlib.Core.Logic.{inl, inr}
-use Prim.Native.Nat.{ℕ, _+_, _*_, _/_, _%_, _≤_, _<_}
+use Prim.Native.Nat.{ℕ, _≤_, _<_}
 use native.Mathlib.Decide.{decLt}
 use native.Mathlib.Omega.{arith}
 use mathlib.Core.Bool.{Bool, true, false, _&&_}
@@ -17,7 +17,7 @@ use Rattle.machine.specs.Instructions.{values}
 use Rattle.machine.specs.Laws.ValueLaws.{offered-within, offered-below, offered-above}
 use Rattle.order.specs.declared.Frame.{Frame}
 use Rattle.snapshots.specs.Code.SnapshotSteps.{instructionIn, offeredIn}
-use Rattle.moves.specs.Code.MoveParts.{raised, firstFrom, valueAfter}
+use Rattle.moves.specs.Code.MoveParts.{raised, firstFrom}
 
 -- ---- the first value
 
@@ -143,60 +143,3 @@ module _ (program : List ℕ) (f : Frame) (i : ℕ) where
               (ap (λ (n : Instruction). member (firstFrom o v) (values n)) (sym read) ∙ value .held lt);
           none-before = λ w le lt. not-offered w (value .none-before w le lt);
         }
-
--- ---- where the next value is looked for
-
-module _ (o : Instruction) (byte : ℕ) where
-  -- the definition by its test
-  after-test : (b : Bool) → (ltb (byte % 16) (highest o) && ltb (byte % 16) 15) ≡ b
-      → (if b then byte + 1 else 16 * (byte / 16 + 1)) ≡ valueAfter o byte
-  unfolding valueAfter
-  after-test b e = ap (λ (t : Bool). if t then byte + 1 else 16 * (byte / 16 + 1)) (sym e)
-
-  -- the highest value has none after it, and neither has 15
-  pub after-last : highest o ≤ byte % 16 → 16 * (byte / 16 + 1) ≡ valueAfter o byte
-  unfolding if_then_else_
-  after-last le = after-test false (and-first (ltb (byte % 16) (highest o)) _ (le-ltb (byte % 16) (highest o) le))
-
-  pub after-fifteen : byte % 16 ≡ 15 → 16 * (byte / 16 + 1) ≡ valueAfter o byte
-  unfolding if_then_else_
-  after-fifteen e = after-test false (and-last (ltb (byte % 16) (highest o)) _ (le-ltb (byte % 16) 15 (omega arith)))
-
-  -- else the next value comes next
-  pub after-value : byte % 16 < highest o → (byte % 16 ≡ 15 → ⊥) → byte + 1 ≡ valueAfter o byte
-  unfolding if_then_else_
-  after-value lt other =
-      after-test true
-      (and-holds (ltb (byte % 16) (highest o)) _ (lt-ltb (byte % 16) (highest o) lt) (lt-ltb (byte % 16) 15 (omega arith)))
-
--- `next` is a byte further on, and the bytes before it are the same task's with values that the job may not take
-abbrev Onward : List ℕ → Frame → ℕ → ℕ → Type 0
-Onward program f byte next =
-    (byte < next) × (next ≤ 128) × ((k : ℕ) → byte < k → k < next
-    → (k / 16 ≡ byte / 16) × (offeredIn program f (byte / 16) (k % 16) ≡ false))
-
--- so it is with where the next value is looked for
-pub after-onward : (program : List ℕ) (f : Frame) (byte : ℕ) → byte < 128 → {o : Instruction}
-    → o ≡ instructionIn program (byte / 16) (f .local .next) → {next : ℕ} → next ≡ valueAfter o byte
-    → Onward program f byte next
-unfolding if_then_else_
-after-onward program f byte small {o} read is =
-    let low = ltb (byte % 16) (highest o) in
-    elim (test-decided (low && ltb (byte % 16) 15)) [
-      | inl e ↦
-          subst (Onward program f byte) (after-test o byte true e ∙ sym is)
-          (omega arith, omega arith, λ k above lt. absurd (omega arith))
-      | inr e ↦
-          subst (Onward program f byte) (after-test o byte false e ∙ sym is) (
-            omega arith,
-            omega arith,
-            λ k above lt. (
-              omega arith,
-              not-offered program f (byte / 16) read (k % 16)
-                  (elim (test-decided low) [
-                    | inl holds ↦ absurd (omega (arith, ltb-false (byte % 16) 15 (other-fails low _ e holds)))
-                    | inr fails ↦ offered-above o (k % 16) (omega (arith, ltb-false (byte % 16) (highest o) fails))
-                  ]),
-            ),
-          )
-    ]

@@ -1,7 +1,7 @@
 -- The outcomes of a walk, as its functions yield them, and what they answer.
 -- Assumes nothing.
 use Prim.Native.Nat.{ℕ}
-use mathlib.Core.Bool.{true, false}
+use lib.Dec.{ltb}
 use Rattle.notation.specs.Lists.{if_then_else_, any}
 use Rattle.machine.specs.Ends.{noStore, noFlags}
 use Rattle.snapshots.specs.Code.Snapshots.{Snapshot}
@@ -10,20 +10,22 @@ use Rattle.walk.specs.declared.WalkAnswer.{WalkAnswer}
 use Rattle.walk.specs.WalkEntry.{refusal}
 use Rattle.outcomes.specs.declared.Outcome.{Outcome}
 
--- no order failed
-unfoldable pub heldAt : ℕ → Outcome
-heldAt count = record { found = false; stopped = false; count = count; length = 0; store = noStore; failed = noFlags }
+-- what a walk answers at a complete order of this length: the length if a job has failed, or 513, which no length is
+unfoldable pub endedAt : Snapshot → ℕ → ℕ
+endedAt p at = if any (λ flag. flag) (p .failed) then at else 513
 
--- the allowance did not suffice
-unfoldable pub stoppedAt : ℕ → Outcome
-stoppedAt count = record { found = false; stopped = true; count = count; length = 0; store = noStore; failed = noFlags }
-
--- a complete order, which fails if a job has
-unfoldable pub endedAt : Snapshot → ℕ → ℕ → Outcome
-endedAt p count at =
-    if any (λ flag. flag) (p .failed)
-    then record { found = true; stopped = false; count = count; length = at; store = p .store; failed = p .failed }
-    else heldAt count
+-- what a walk comes to that answered r after so many moves, and left this snapshot: 513 says that no order failed, a
+-- larger number that the allowance did not suffice, and a smaller one is the length of the order found, which ends so
+unfoldable pub outcomeOf : ℕ → ℕ → Snapshot → Outcome
+outcomeOf r count p =
+    record {
+      found = ltb r 513;
+      stopped = ltb 513 r;
+      count = count;
+      length = r;
+      store = p .store;
+      failed = p .failed;
+    }
 
 -- what an outcome answers
 unfoldable pub answerOf : Outcome → WalkAnswer

@@ -1,45 +1,42 @@
--- Laws of the outcomes of a walk: a complete order fails if a job has, and what each outcome answers and shows.
+-- Laws of the outcomes of a walk: a complete order fails if a job has, what a walk comes to, and what that answers and
+-- shows.
 -- Assumes nothing.
-use mathlib.Core.Path.{_≡_, refl, sym, ap₂, _∙_}
+use mathlib.Core.Path.{_≡_, refl, sym, _∙_}
 use Prim.Native.Nat.{ℕ}
-use mathlib.Core.Bool.{Bool, true, false, not}
+use mathlib.Core.Bool.{Bool, true, false}
 use mathlib.Core.List.{List}
 use Rattle.machine.specs.Ends.{noStore, noFlags}
 use Rattle.walk.specs.declared.Verdict.the-variants.{Holds, Fails}
 use Rattle.walk.specs.WalkEntry.{refusal}
-use lib.ListN.{length, replicate}
-use borrow.Author.Tests.{not-true, not-false}
+use lib.ListN.{replicate}
+use lib.Dec.{ltb}
 use Rattle.notation.specs.Lists.{any, if_then_else_, bytesAt}
 use Rattle.states.specs.Code.StateBytes.{snapshotIn}
-use Rattle.outcomes.specs.Code.Outcomes.{endedAt, heldAt, answerOf, shownLength}
+use Rattle.outcomes.specs.Code.Outcomes.{endedAt, outcomeOf, answerOf, shownLength}
 use Rattle.snapshots.specs.Code.Snapshots.{Snapshot}
 use Rattle.outcomes.specs.declared.Outcome.{Outcome}
 
--- ---- a complete order
+-- ---- a complete order, by whether a job failed
 
--- by whether a job failed
-module _ (p : Snapshot) (count at : ℕ) {b : Bool} (e : b ≡ any (λ flag. flag) (p .failed)) where
-  pub ended-held : not b ≡ true → {r : Outcome} → r ≡ heldAt count → r ≡ endedAt p count at
+module _ (p : Snapshot) (at : ℕ) {b : Bool} (e : b ≡ any (λ flag. flag) (p .failed)) where
+  pub ended-failed : b ≡ true → at ≡ endedAt p at
   unfolding endedAt if_then_else_
-  ended-held h is = rw (sym e ∙ not-true b h) is
+  ended-failed h = rw (sym e ∙ h) refl
 
-  pub ended-failed : not b ≡ false
-      → record { found = true; stopped = false; count = count; length = at; store = p .store; failed = p .failed }
-      ≡ endedAt p count at
+  pub ended-held : b ≡ false → 513 ≡ endedAt p at
   unfolding endedAt if_then_else_
-  ended-failed h = rw (sym e ∙ not-false b h) refl
+  ended-held h = rw (sym e ∙ h) refl
 
--- ---- a complete order that fails
+-- ---- what a walk comes to
 
-pub ended-shown : (bytes : List ℕ) (count at : ℕ) {b : Bool} {store : List ℕ} {failed : List Bool}
-    → b ≡ any (λ flag. flag) (snapshotIn bytes .failed) → not b ≡ false → store ≡ bytesAt bytes 0 8
+-- read from the bytes of the state that it left
+pub outcome-read : (bytes : List ℕ) (r count : ℕ) {store : List ℕ} {failed : List Bool} → store ≡ bytesAt bytes 0 8
     → failed ≡ snapshotIn bytes .failed
-    → record { found = true; stopped = false; count = count; length = at; store = store; failed = failed } ≡ endedAt
-    (snapshotIn bytes) count at
-unfolding snapshotIn
-ended-shown bytes count at e h stored flags =
-    ap₂ (λ (xs : List ℕ) (ys : List Bool). record { found = true; stopped = false; count = count; length = at; store = xs; failed = ys }) stored flags
-    ∙ ended-failed (snapshotIn bytes) count at e h
+    → record { found = ltb r 513; stopped = ltb 513 r; count = count; length = r; store = store; failed = failed }
+    ≡ outcomeOf r count (snapshotIn bytes)
+unfolding snapshotIn outcomeOf
+outcome-read bytes r count stored flags = λ t.
+    record { found = ltb r 513; stopped = ltb 513 r; count = count; length = r; store = stored t; failed = flags t }
 
 -- ---- the three answers
 

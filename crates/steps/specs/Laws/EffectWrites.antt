@@ -190,36 +190,39 @@ module _ {before placed : List ℕ} {f : Frame} {under : ℕ} (few : under < 8) 
   placed-local : frameIn placed under .local ≡ f .local
   placed-local = ap (λ (g : Frame). g .local) (put .inside)
 
-  pub placed-inside : f .local .next < 16 → frameIn placed under .local .next < 16
-  placed-inside lt = rw placed-local lt
-
-  pub placed-within : LocksWithin (f .local) → LocksWithin (frameIn placed under .local)
-  placed-within own = subst LocksWithin (sym placed-local) own
-
   placed-store : bytesAt placed 0 8 ≡ bytesAt before 0 8
   unfolding frameAt
   placed-store = bytes-same before placed 0 8 (λ k low high. put .outside k (inl (omega arith)))
 
-  module _ (program : List ℕ) (i v : ℕ) {o : Instruction} (read : o ≡ instructionIn program i (f .local .next)) where
+  -- its number and its position are read where it was placed
+  module _ (program : List ℕ) (i v : ℕ) {x at : ℕ} {o : Instruction} (job : x ≡ frameIn placed under .job .0)
+      (position : at ≡ frameIn placed under .local .next) (read : o ≡ instructionIn program i at) where
     abbrev effect : Effect
     effect = perform o v (frameIn placed under .local) (bytesAt placed 0 8)
 
     -- what it performs there is what the definition has it perform
     same-effect : effect ≡ perform (instructionIn program i (f .local .next)) v (f .local) (bytesAt before 0 8)
     same-effect =
-        ap (λ (l : Local). perform o v l (bytesAt placed 0 8)) placed-local
-        ∙ ap (perform o v (f .local)) placed-store
-        ∙ ap (λ (n : Instruction). perform n v (f .local) (bytesAt before 0 8)) read
+        ap (λ (n : Instruction). perform n v (frameIn placed under .local) (bytesAt placed 0 8))
+        (read ∙ ap (instructionIn program i) position)
+        ∙ ap (λ (l : Local). perform (instructionIn program i (l .next)) v l (bytesAt placed 0 8)) placed-local
+        ∙ ap (perform (instructionIn program i (f .local .next)) v (f .local)) placed-store
 
-    pub step-made : IsState before → LocksWithin (f .local) → {failed : Bool} → failed ≡ effect .failed
-        → {done : List ℕ} → Performed placed done under effect → {ended : Bool} → effect .ended ≡ ended
-        → {after : List ℕ} → Noted done after (f .job .0) under i failed ended
+    same-job : x ≡ f .job .0
+    same-job = job ∙ ap (λ (g : Frame). g .job .0) (put .inside)
+
+    pub step-made : IsState before → LocksWithin (frameIn placed under .local)
+        → {failed : Bool} → failed ≡ effect .failed → {done : List ℕ} → Performed placed done under effect
+        → {ended : Bool} → effect .ended ≡ ended → {after : List ℕ} → Noted done after x under i failed ended
         → (snapshotIn after ≡ madeIn program (snapshotIn before) f under i v) × IsState after
     unfolding madeIn snapshotIn
     step-made state own {failed} fails {done} made {ended} ends {after} n =
-        let within = perform-within o v (frameIn placed under .local) (bytesAt placed 0 8) (placed-within own) in
-        let noted : Noted done after (f .job .0) under i (effect .failed) (effect .ended) =
-        subst (λ (b : Bool). Noted done after (f .job .0) under i b (effect .ended)) fails (subst (Noted done after (f .job .0) under i failed) (sym ends) n) in (
+        let within = perform-within o v (frameIn placed under .local) (bytesAt placed 0 8) own in
+        let failing : Noted done after x under i (effect .failed) (effect .ended) =
+        subst (λ (b : Bool). Noted done after x under i b (effect .ended)) fails
+        (subst (Noted done after x under i failed) (sym ends) n) in
+        let noted =
+        subst (λ (y : ℕ). Noted done after y under i (effect .failed) (effect .ended)) same-job failing in (
           step-written state few within put made noted ∙ ap (afterIn (snapshotIn before) (f .job) under i) same-effect,
           step-whole state few within put made noted,
         )

@@ -39,6 +39,14 @@ pub record Came (walked : Walked) (count allowance at : ℕ) (before after : Lis
   pub whole : count + walked .count ≤ allowance
       → (r .stopped ≡ false) × WalkEndsAs (walked .failing) (count + walked .count) at after r
 
+-- no order failed, after so many moves
+abbrev pub Held : ℕ → Outcome → Type 0
+Held made r = (r .found ≡ false) × (r .stopped ≡ false) × (r .count ≡ made)
+
+-- the allowance did not suffice, after so many moves
+abbrev pub Stopped : ℕ → Outcome → Type 0
+Stopped made r = (r .found ≡ false) × (r .stopped ≡ true) × (r .count ≡ made)
+
 -- what a trial leaves beside its outcome
 abbrev pub Left : ℕ → ℕ → List ℕ → List ℕ → Outcome → Type 0
 Left at allowance before after r = (length after ≡ length before) × (r .count ≤ allowance) × Path at before after

@@ -20,8 +20,7 @@ use Rattle.order.specs.States.{State}
 use Rattle.walk.specs.Laws.ByteLaws.{stepsFrom, moves-steps, steps-skip, steps-some}
 use Rattle.outcomes.specs.declared.Outcome.{Outcome}
 use Rattle.walk.specs.Moves.{Move, moves}
-use Rattle.outcomes.specs.Code.Outcomes.{heldAt, stoppedAt}
-use Rattle.trials.specs.Code.Trials.{Path, WalkEndsAs, Came}
+use Rattle.trials.specs.Code.Trials.{Path, WalkEndsAs, Came, Held, Stopped}
 use Rattle.walk.specs.Walks.{EndedOrder, Walked, starting, afterMove, trial, walkFrom}
 
 -- the moves from a byte on are what is left of all moves: nothing failed before, and `made` moves were made with
@@ -120,9 +119,9 @@ module _ {a : Accepted} {s : State} {left count made allowance byte : ℕ} (few 
   whole = trial (walkFrom a left) (moves a s)
 
   -- no byte is left
-  pub trial-ends : 128 ≤ byte → Came whole count allowance (511 - left) before now (heldAt made)
-  unfolding trial stepsFrom heldAt
-  trial-ends past =
+  pub trial-ends : 128 ≤ byte → {r : Outcome} → Held made r → Came whole count allowance (511 - left) before now r
+  unfolding trial stepsFrom
+  trial-ends past {r} is =
       let none-left : 128 - byte ≡ 0 = omega arith in
       let nothing : whole .failing ≡ none = rest .failing ∙ ap (λ (n : ℕ). trial (walkFrom a left) (stepsFrom a s byte n) .failing) none-left in
       let made-all : count + whole .count ≡ made + 0 = rest .total ∙ ap (λ (n : ℕ). made + trial (walkFrom a left) (stepsFrom a s byte n) .count) none-left in
@@ -130,7 +129,7 @@ module _ {a : Accepted} {s : State} {left count made allowance byte : ℕ} (few 
         kept = path .kept;
         beyond = path .beyond;
         cut = λ over. absurd (omega arith);
-        whole = λ fits. (refl, subst (λ (o : Option EndedOrder). WalkEndsAs o (count + whole .count) (511 - left) now (heldAt made)) (sym nothing) (refl, omega arith));
+        whole = λ fits. (is .1, subst (λ (o : Option EndedOrder). WalkEndsAs o (count + whole .count) (511 - left) now r) (sym nothing) (is .0, omega (arith, is .2)));
       }
 
   module _ (lt : byte < 128) {after : State} (steps : step a s byte ≡ some after) where
@@ -148,12 +147,12 @@ module _ {a : Accepted} {s : State} {left count made allowance byte : ℕ} (few 
     counts = move-counts byte below others (below .failing) refl
 
     -- the allowance is spent
-    pub trial-stops : allowance ≤ made → Came whole count allowance (511 - left) before now (stoppedAt made)
-    unfolding stoppedAt
-    trial-stops spent = record {
+    pub trial-stops : allowance ≤ made → {r : Outcome} → Stopped made r
+        → Came whole count allowance (511 - left) before now r
+    trial-stops spent is = record {
       kept = path .kept;
       beyond = path .beyond;
-      cut = λ over. (refl, refl);
+      cut = λ over. (is .1, is .0);
       whole = λ fits. absurd (omega (arith, here .1, counts));
     }
 

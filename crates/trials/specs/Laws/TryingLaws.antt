@@ -19,8 +19,7 @@ use Rattle.order.specs.States.{State}
 use Rattle.order.specs.Laws.StepLaws.{step-keeps}
 use Rattle.outcomes.specs.declared.Outcome.{Outcome}
 use Rattle.trials.specs.Laws.TrialLaws.{Rest, rest-all, rest-skip, trial-ends, trial-stops, trial-finds, trial-cut, trial-on}
-use Rattle.outcomes.specs.Code.Outcomes.{heldAt, stoppedAt}
-use Rattle.trials.specs.Code.Trials.{Path, Came, Left, WalksAs, TriesAs}
+use Rattle.trials.specs.Code.Trials.{Path, Came, Held, Stopped, Left, WalksAs, TriesAs}
 use Rattle.moves.specs.Code.MoveParts.{NoStep}
 use Rattle.walk.specs.Walks.{walkFrom}
 
@@ -60,9 +59,10 @@ module _ {program waits : List ℕ} {locks : Ceilings} {p : Snapshot} {left coun
   module _ {made byte : ℕ} {before now : List ℕ} (few : left < 512)
       (trying : Trying program waits locks p left count made allowance byte before now) where
     -- it ends where no byte is left
-    pub trying-ends : 128 ≤ byte → TriesAs program waits locks p left count allowance before now (heldAt made)
-    trying-ends past a s ok lends inv shows =
-        trial-ends few (trying .within) (trying .rest a s ok lends inv shows) (trying .path) past
+    pub trying-ends : 128 ≤ byte → {r : Outcome} → Held made r
+        → TriesAs program waits locks p left count allowance before now r
+    trying-ends past is a s ok lends inv shows =
+        trial-ends few (trying .within) (trying .rest a s ok lends inv shows) (trying .path) past is
 
     -- at a byte that is a step
     module _ (lt : byte < 128) (allowed : stepIn program waits locks p byte .allowed ≡ true) where
@@ -76,11 +76,11 @@ module _ {program waits : List ℕ} {locks : Ceilings} {p : Snapshot} {left coun
       moved a s ok lends inv shows = step-agreed ok lends inv shows byte .0 allowed
 
       -- it stops where the allowance is spent
-      pub trying-stops : allowance ≤ made
-          → TriesAs program waits locks p left count allowance before now (stoppedAt made)
-      trying-stops spent a s ok lends inv shows =
+      pub trying-stops : allowance ≤ made → {r : Outcome} → Stopped made r
+          → TriesAs program waits locks p left count allowance before now r
+      trying-stops spent is a s ok lends inv shows =
           trial-stops few (trying .within) (trying .rest a s ok lends inv shows) (trying .path) lt
-          (moved a s ok lends inv shows .1) spent
+          (moved a s ok lends inv shows .1) spent is
 
       module _ {out : List ℕ} {r : Outcome} (room : 512 ≤ length now)
           (child : WalksAs program waits locks (stepIn program waits locks p byte .state) left (made + 1) allowance

@@ -12,18 +12,20 @@ lend-requires c κs = search needs
 
 walk-requires : tie.Need-walk-requires
 walk-requires c κs =
-    let made = c .before .before .before .before .before .before .before .before in
-    let lent = made .lend .ensures in
-    (lent .few, lent .whole, omega arith, omega arith, made .before .before .pre .2)
+    let lent = c .before .before .before .before .before .before .before .before .before .lend .ensures in
+    (lent .few, lent .whole, omega arith, omega arith, c .before .before .before .before .before .before .before .before .before .before .before .pre .2)
+
+outcome-of-requires : tie.Need-outcome-of-requires
+outcome-of-requires c κs = search needs
 
 same-length : tie.Need-same-length
-same-length c = c .before .before .walk .ensures .0 .0
+same-length c = c .before .before .before .before .walk .ensures .0 .0
 
 returns : tie.Need-returns
 returns c =
-    let walked = c .before .before .walk .ensures in
-    let lent = c .before .before .before .before .before .before .before .before .before .before .before .lend .ensures in
-    (walked .0 .0, walk-lent lent (walked .1))
+    let walked = c .before .before .before .before .walk .ensures in
+    let lent = c .before .before .before .before .before .before .before .before .before .before .before .before .before .before .lend .ensures in
+    (walked .0 .0, rw (c .outcome-of .ensures) (walk-lent lent (walked .1)))
 
 pub walk-table-spec : {M : Type 1} → statement M
-walk-table-spec = tie.close (tie.spec lend-requires walk-requires same-length returns)
+walk-table-spec = tie.close (tie.spec lend-requires walk-requires outcome-of-requires same-length returns)

@@ -1,0 +1,24 @@
+-- The move of an order byte on a snapshot, where the running job's task is known: whose turn it is, and what the move
+-- makes.
+-- Assumes nothing.
+use Prim.Native.Nat.{ℕ, _/_, _%_, _<_}
+use lib.Dec.{eqb}
+use Rattle.notation.specs.Lists.{if_then_else_}
+use Rattle.machine.specs.Code.Within.{LocksWithin}
+use Rattle.order.specs.declared.Frame.{Frame}
+use Rattle.snapshots.specs.declared.Due.{Due}
+use Rattle.snapshots.specs.Code.Snapshots.{Snapshot}
+use Rattle.snapshots.specs.Code.SnapshotSteps.{Program, startTurn, topTurn, madeIn}
+
+-- a job that can step: its number and its position are in range, and it holds no more than it can by then
+abbrev pub Steppable : Frame → Type 0
+Steppable f = (f .job .0 < 32) × (f .local .next < 16) × LocksWithin (f .local)
+
+-- whose turn task i's is: the running job's, if `top` is that task, or else that of a job that starts
+unfoldable pub moverIn : Snapshot → ℕ → ℕ → Due
+moverIn p top i = if eqb i top then topTurn p else startTurn p i
+
+-- the snapshot after the move
+unfoldable pub movedIn : Program → Snapshot → ℕ → ℕ → Snapshot
+movedIn program p top byte =
+    let d = moverIn p top (byte / 16) in madeIn program p (d .frame) (d .under) (byte / 16) (byte % 16)
