@@ -12,7 +12,6 @@ use lib.ListN.{length, getD, set, length-set}
 use lib.Dec.{eqb}
 use lib.Seq.{getD-set-same, getD-set-other}
 use Rattle.notation.specs.Lists.{if_then_else_, upTo, bytesAt}
-use Rattle.timing.specs.declared.Job.{Job}
 use Rattle.taskfile.specs.declared.Instruction.{Instruction}
 use Rattle.machine.specs.declared.Effect.{Effect}
 use Rattle.machine.specs.declared.Local.{Local}

@@ -1,7 +1,7 @@
 -- `trials::walk` and `trials::trial` meet their contracts. The measure falls with the room that is left. The loop's
 -- invariant: what was tried held, what is left starts at `at`, which is a step, and the state is as it was.
 -- Assumes nothing.
-use mathlib.Core.Path.{_≡_, refl, sym, ap, subst, _∙_}
+use mathlib.Core.Path.{_≡_, refl, sym, _∙_}
 use Prim.Native.Nat.{ℕ, _+_, _-_, _*_, _<_}
 use native.Mathlib.Omega.{arith}
 use mathlib.Core.Bool.{true}
@@ -94,7 +94,7 @@ trial-returns : (t : ℕ) → trial-lts.Need-returns (trial-claims t) (trial-at 
 trial-returns t c =
     let head = c .before .before .before in
     let lt = c .before .before .loop-test .taken in
-    stops-answer (head .before .before .before .before .before .before .before .before .before .before .pre .1 .2) (head .loop .inv .0) lt (head .loop .inv .1 lt) (outcome-stopped _ _ refl) (c .if1 .taken)
+    stops-answer (head .before .before .before .before .before .before .before .before .before .before .pre .1 .2) (head .loop .inv .0) lt (head .loop .inv .1 lt) (outcome-stopped _ _ refl) (omega (arith, c .if1 .taken))
 
 trial-add-count : (t : ℕ) → trial-lts.Need-add-count (trial-claims t) (trial-at t) trial.Post trial-Inv-loop trial-μ-loop
 trial-add-count t c = omega (arith, c .if1 .left, c .before .before .before .before .before .before .before .before .before .before .before .before .before .fits .allowance)

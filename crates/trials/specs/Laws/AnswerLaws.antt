@@ -13,9 +13,8 @@ use borrow.Author.Tests.{eqb-true, eqb-false}
 use Rattle.taskfile.specs.declared.Ceilings.{Ceilings}
 use Rattle.notation.specs.Lists.{if_then_else_}
 use Rattle.notation.specs.Laws.TestLaws.{test-decided}
-use Rattle.snapshots.specs.declared.Due.{Due}
 use Rattle.snapshots.specs.Code.Snapshots.{Snapshot, Stepped}
-use Rattle.snapshots.specs.Code.SnapshotSteps.{finishedIn, levelIn, startTurn, topTurn, turnIn, stepIn}
+use Rattle.snapshots.specs.Code.SnapshotSteps.{finishedIn, levelIn, turnIn, stepIn}
 use Rattle.snapshots.specs.Code.SnapshotWithin.{AllWithin}
 use Rattle.snapshots.specs.Laws.SnapshotWithinLaws.{due-within}
 use Rattle.snapshots.specs.Laws.TurnLaws.{due-bounds, step-due}
@@ -30,8 +29,7 @@ use Rattle.trials.specs.Laws.TrialLaws.{path-kept}
 use Rattle.trials.specs.Laws.TryingLaws.{Trying, trying-starts, trying-skips, trying-ends, trying-stops}
 use Rattle.trials.specs.Laws.TryingLaws.{trying-finds, trying-cut, trying-on}
 use Rattle.trials.specs.Code.Trials.{Held, Stopped, Left, WalksAs, TriesAs}
-use Rattle.trials.specs.Laws.WalkStateLaws.{outcome-held, outcome-stopped, outcome-other}
-use Rattle.trials.specs.Laws.WalkStateLaws.{walk-ended, walk-none-left, walk-tried}
+use Rattle.trials.specs.Laws.WalkStateLaws.{outcome-held, walk-ended, walk-none-left, walk-tried}
 
 -- ---- whose turn a move is
 
@@ -42,8 +40,9 @@ Movable bytes top byte =
     × (moverIn (snapshotIn bytes) top (byte / 16) .under < 8)
     × Steppable (moverIn (snapshotIn bytes) top (byte / 16) .frame))
 
-module _ (program waits : List ℕ) (locks : Ceilings) (p : Snapshot) {top : ℕ} (byte : ℕ) (running : top ≡ runningTask program p)
-    (small : byte < 128) (allowed : stepIn program waits locks p byte .allowed ≡ true) where
+module _ (program waits : List ℕ) (locks : Ceilings) (p : Snapshot) {top : ℕ} (byte : ℕ)
+    (running : top ≡ runningTask program p) (small : byte < 128)
+    (allowed : stepIn program waits locks p byte .allowed ≡ true) where
   mover-turn : moverIn p top (byte / 16) ≡ turnIn program waits locks p (byte / 16)
   unfolding moverIn if_then_else_
   mover-turn =
@@ -54,7 +53,8 @@ module _ (program waits : List ℕ) (locks : Ceilings) (p : Snapshot) {top : ℕ
 
   -- its numbers have a place in the arrays, and it holds no more than it can by then
   pub mover-bounds : p .depth ≤ 8 → AllWithin p
-      → (byte / 16 ≡ top → 1 ≤ p .depth) × (moverIn p top (byte / 16) .under < 8) × Steppable (moverIn p top (byte / 16) .frame)
+      → (byte / 16 ≡ top → 1 ≤ p .depth) × (moverIn p top (byte / 16) .under < 8)
+      × Steppable (moverIn p top (byte / 16) .frame)
   mover-bounds few all =
       let due = allowed-due program waits locks p byte allowed mover-turn in
       let bounds = due-bounds program waits locks p (byte / 16) mover-turn few due in
@@ -87,8 +87,8 @@ first-start program waits locks p {low} {m} level found =
     subst (λ (n : ℕ). NextStep program waits locks p (16 * n) m) level (found locks level (omega arith))
 
 -- the first move is where the trial starts
-pub first-answer : {program waits : List ℕ} {locks : Ceilings} {p : Snapshot} {left count allowance m : ℕ} {buffer : List ℕ}
-    → count ≤ allowance → NextStep program waits locks p 0 m
+pub first-answer : {program waits : List ℕ} {locks : Ceilings} {p : Snapshot} {left count allowance m : ℕ}
+    {buffer : List ℕ} → count ≤ allowance → NextStep program waits locks p 0 m
     → Trying program waits locks p left count count allowance m buffer buffer
 first-answer le next = trying-skips (next .ahead) (next .below) (next .none-before) (trying-starts le)
 
@@ -171,7 +171,8 @@ unchanged : (at count allowance : ℕ) (buffer : List ℕ) (r : Outcome) → cou
     → Left at allowance buffer buffer r
 unchanged at count allowance buffer r le e = (refl, omega arith, record { kept = refl; beyond = refl })
 
-module _ {program waits : List ℕ} {locks : Ceilings} {p : Snapshot} (left : ℕ) {count allowance : ℕ} (buffer : List ℕ) (le : count ≤ allowance) where
+module _ {program waits : List ℕ} {locks : Ceilings} {p : Snapshot} (left : ℕ) {count allowance : ℕ}
+    (buffer : List ℕ) (le : count ≤ allowance) where
   pub ended-answer : finishedIn program p ≡ true → {r : ℕ} → r ≡ endedAt p (512 - left)
       → Left (512 - left) allowance buffer buffer (outcomeOf r count p)
       × WalksAs program waits locks p left count allowance buffer buffer (outcomeOf r count p)

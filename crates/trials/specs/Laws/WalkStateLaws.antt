@@ -3,7 +3,7 @@
 -- Assumes nothing.
 use mathlib.Core.Path.{_≡_, refl, sym, ap, subst, _∙_}
 use mathlib.Core.Logic.{_⊎_, inl, inr}
-use Prim.Native.Nat.{ℕ, suc, _+_, _-_, _≤_, _<_}
+use Prim.Native.Nat.{ℕ, suc, _+_, _-_, _≤_}
 use native.Mathlib.Decide.{decLt}
 use native.Mathlib.Omega.{arith}
 use mathlib.Core.Bool.{true, false}
@@ -39,7 +39,8 @@ module _ (count : ℕ) (p : Snapshot) where
   outcome-stopped {r} is = (le-ltb r 513 (omega arith), lt-ltb 513 r (omega arith), refl)
 
   -- every other number says that an order was found, or that the allowance did not suffice
-  pub outcome-other : (r : ℕ) → (r ≡ 513 → ⊥) → (outcomeOf r count p .found ≡ true) ⊎ (outcomeOf r count p .stopped ≡ true)
+  pub outcome-other : (r : ℕ) → (r ≡ 513 → ⊥)
+      → (outcomeOf r count p .found ≡ true) ⊎ (outcomeOf r count p .stopped ≡ true)
   unfolding outcomeOf
   outcome-other r other = elim (decLt r 513) [
     | yes lt ↦ inl (lt-ltb r 513 lt)
