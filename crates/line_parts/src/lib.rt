@@ -14,9 +14,12 @@ use texts::Form;
 use texts::NUMBERS;
 use writer::Lock;
 ghost use mathlib.Core.Path.{_≡_};
-ghost use Prim.Native.Nat.{_-_, _≤_};
+ghost use Prim.Native.Nat.{ℕ, _-_, _≤_};
+ghost use mathlib.Core.Bool.{true};
+ghost use mathlib.Core.List.{List};
 ghost use lib.ListN.{getD};
 ghost use Rattle.notation.specs.Lists.{bytesAt};
+ghost use Rattle.taskfile.specs.declared.Instruction.{Instruction};
 ghost use Rattle.texts.specs.declared.Form.the-variants.{StartLine, TaskLine, InstructionLine, LockLine};
 ghost use Rattle.texts.specs.TextTables.{counted, withWindow, withStore, bareTask, addTask};
 ghost use Rattle.texts.specs.TextTables.{longerTask, addInstruction, addLock, instructionWith, addPart};
@@ -175,5 +178,27 @@ pub fn add_part(t: Table, form: Form, numbers: [u64; NUMBERS]) -> Table
             instruction_with(operation, numbers),
         ),
         Form::LockLine => add_lock(t, lock_with(numbers)),
+    }
+}
+
+// Would one instruction more leave the table as it is? Its task was not kept, or its body counts one too many already.
+pub fn instruction_adds_nothing(t: Table) -> bool
+    ensures { λ b. ⌜ (b ≡ true → (i : Instruction) → addInstruction t i ≡ t) ⌝ }
+{
+    let at = last_task(t.tasks);
+    if TASKS <= at {
+        return true;
+    }
+    let e = t.entries[at];
+    e.length == MOST_INSTRUCTIONS + 1
+}
+
+// Would a line of this form leave the table as it is, whatever its numbers?
+pub fn adds_nothing(t: Table, form: Form) -> bool
+    ensures { λ b. ⌜ (b ≡ true → (numbers : List ℕ) → addPart t form numbers ≡ t) ⌝ }
+{
+    match form {
+        Form::InstructionLine(_) => instruction_adds_nothing(t),
+        _ => false,
     }
 }

@@ -3,6 +3,7 @@ use line_forms::AT_TASKS;
 use line_forms::AT_WINDOW;
 use line_forms::stage_after;
 use line_parts::add_part;
+use line_parts::adds_nothing;
 use line_reading::read_line;
 use numerals::part_end;
 use reader::empty_table;
@@ -50,7 +51,10 @@ pub fn read_text(text: &[u8]) -> TextRead
         }
         let form = read.form;
         let numbers = read.numbers;
-        t = add_part(t, form, numbers);
+        // A part that changes nothing is not added: each call copies the table.
+        if !adds_nothing(t, form) {
+            t = add_part(t, form, numbers);
+        }
         stage = stage_after(form);
         line += 1;
         from = to + 1;

@@ -4,11 +4,14 @@
 use mathlib.Core.Path.{_≡_, sym, _∙_}
 use Prim.Native.Nat.{_-_, _<_}
 use native.Mathlib.Omega.{arith}
+use mathlib.Core.Logic.{inl, inr}
 use borrow.Author.Needs.{needs}
+use borrow.Author.Tests.{not-false}
 use lib.ListN.{length, take, drop}
 use Rattle.line_reading.specs.Laws.NamedLineLaws.{line-placed}
 use Rattle.texts.specs.Code.LineParts.{lineAnswer}
 use Rattle.texts.specs.Reading.{lineRead}
+use Rattle.texts.specs.TextTables.{addPart}
 use Rattle.text_reader.specs.Laws.TextReadLaws.{TextReadTo, text-begun, text-unended, text-short, text-whole}
 use Rattle.text_reader.specs.Laws.TextReadLaws.{text-stopped, numbers-fit, text-more}
 use Rattle.text_reader.proofs.read_text.Statement.{statement}
@@ -40,7 +43,19 @@ answered c =
 
 -- where the line was found whose part was added
 abbrev found : tie.After-stage-after Inv-loop μ-loop → tie.Else1 Inv-loop μ-loop
-found c = c .before .before .before .before .before .before .before
+found c = c .before .before .before .before .before .before .before .before
+
+-- the table has the line's part, where it was added and where it would have changed nothing
+part-added : (c : tie.Joined3 Inv-loop μ-loop)
+    → let read = c .before .before .before .before .before in
+    let line = read .read-line .result in
+    let t = read .before .before .before .before .before .loop .t in
+    c .if3 .t ≡ addPart t (line .form) (line .numbers)
+part-added c =
+    elim (c .if3 .came) [
+      | inl w ↦ w .2 ∙ w .1 .ensures
+      | inr w ↦ w .1 ∙ sym (c .before .adds-nothing .ensures (not-false _ (w .0 .left)) _)
+    ]
 
 empty-table-requires : tie.Need-empty-table-requires Inv-loop μ-loop
 empty-table-requires c κs = search needs
@@ -84,12 +99,15 @@ returns-2 c =
     ∙ text-stopped (part .before .before .loop .inv) _ (part .part-end .ensures .0) (ended (read .before .before)) _
     (answered read) (c .before .if2 .taken)
 
+adds-nothing-requires : tie.Need-adds-nothing-requires Inv-loop μ-loop
+adds-nothing-requires c κs = search needs
+
 add-part-requires : tie.Need-add-part-requires Inv-loop μ-loop
 add-part-requires c κs =
-    let read = c .before .before .before in
+    let read = c .before .before .before .before .before in
     let part = read .before .before .before in
     numbers-fit (part .before .before .loop .inv) _ (part .part-end .ensures .0) (ended (read .before .before)) _
-    (answered read) (c .before .if2 .left)
+    (answered read) (c .before .before .before .if2 .left)
 
 stage-after-requires : tie.Need-stage-after-requires Inv-loop μ-loop
 stage-after-requires c κs = search needs
@@ -108,10 +126,11 @@ loop-less c =
 
 loop-again : tie.Need-loop-again Inv-loop μ-loop
 loop-again c =
-    let read = c .before .before .before .before .before in
+    let read = c .before .before .before .before .before .before in
     let part = read .before .before .before in
     text-more (part .before .before .loop .inv) _ (part .part-end .ensures .0) (ended (read .before .before)) _
-    (answered read) (c .before .before .before .if2 .left) _ (c .before .add-part .ensures) _ (c .stage-after .ensures)
+    (answered read) (c .before .before .before .before .if2 .left) _ (part-added (c .before)) _
+    (c .stage-after .ensures)
 
 refused-text-requires-3 : tie.Need-refused-text-requires-3 Inv-loop μ-loop
 refused-text-requires-3 c κs = search needs
@@ -119,10 +138,10 @@ refused-text-requires-3 c κs = search needs
 returns-3 : tie.Need-returns-3 Inv-loop μ-loop
 returns-3 c =
     let over = c .before .before in
-    c .refused-text3 .ensures ∙ text-short (over .before .loop .inv) (over .loop-test .left) (c .before .if3 .taken)
+    c .refused-text3 .ensures ∙ text-short (over .before .loop .inv) (over .loop-test .left) (c .before .if4 .taken)
 
 returns-4 : tie.Need-returns-4 Inv-loop μ-loop
-returns-4 c = text-whole (c .before .before .loop .inv) (c .before .loop-test .left) (c .if3 .left)
+returns-4 c = text-whole (c .before .before .loop .inv) (c .before .loop-test .left) (c .if4 .left)
 
 pub read-text-spec : {M : Type 1} → statement M
 read-text-spec =
@@ -141,6 +160,7 @@ read-text-spec =
     read-line-requires
     refused-text-requires-2
     returns-2
+    adds-nothing-requires
     add-part-requires
     stage-after-requires
     add-line
