@@ -16,30 +16,34 @@ use snapshots::STATE;
 use snapshots::WAITS;
 use steps::make_move;
 use taskfile::Ceilings;
+use taskfile::limits::LOCKS;
 ghost use Prim.Native.Nat.{_-_, _≤_, _<_};
+ghost use mathlib.Core.Path.{_≡_};
 ghost use lib.ListN.{length};
 ghost use Rattle.outcomes.specs.Code.Outcomes.{outcomeOf};
 ghost use Rattle.states.specs.Code.StateBytes.{snapshotIn, IsState};
-ghost use Rattle.trials.specs.Code.Trials.{Left, WalksAs, TriesAs};
+ghost use Rattle.trials.specs.Code.Trials.{ceilingsOf, Left, WalksAs, TriesAs};
 
 // The walk of a state, on a path with room for `left` more bytes, when `count` moves were made before. It answers the
 // length of the failing order found, `HELD` or `STOPPED`, and leaves the moves made and the order's end state.
 pub fn walk(
     program: &[u8; PROGRAM],
     waits: &[u8; WAITS],
-    locks: Ceilings,
+    ceilings: &[u8; LOCKS],
+    locks: u8,
     s: &mut [u8; STATE],
     left: usize,
     allowance: u64,
     count: &mut u64,
-    out: &mut [u8],
+    path: &mut [u8; ORDER_ROOM],
 ) -> usize
-    requires { ⌜ (locks .count ≤ 8) × IsState (now s) × (left ≤ 512) × (now count ≤ allowance)
-        × (512 ≤ length (now out)) ⌝ }
-    ensures room { λ r. ⌜ Left (512 - left) allowance (now (out .entry)) (now (out .exit))
+    requires { ⌜ (locks ≤ 8) × IsState (now s) × (left ≤ 512) × (now count ≤ allowance)
+        × (length (now path) ≡ 512) ⌝ }
+    ensures room { λ r. ⌜ Left (512 - left) allowance (now (path .entry)) (now (path .exit))
         (outcomeOf r (now (count .exit)) (snapshotIn (now (s .exit)))) ⌝ }
-    ensures came { λ r. ⌜ WalksAs (now (program .entry)) (now (waits .entry)) locks (snapshotIn (now (s .entry)))
-        left (now (count .entry)) allowance (now (out .entry)) (now (out .exit))
+    ensures came { λ r. ⌜ WalksAs (now (program .entry)) (now (waits .entry))
+        (ceilingsOf (now (ceilings .entry)) locks) (snapshotIn (now (s .entry)))
+        left (now (count .entry)) allowance (now (path .entry)) (now (path .exit))
         (outcomeOf r (now (count .exit)) (snapshotIn (now (s .exit)))) ⌝ }
 {
     if finished(program, s) {
@@ -48,7 +52,17 @@ pub fn walk(
     if left == 0 {
         return HELD;
     }
-    trial(program, waits, locks, s, left - 1, allowance, count, out)
+    trial(
+        program,
+        waits,
+        ceilings,
+        locks,
+        s,
+        left - 1,
+        allowance,
+        count,
+        path,
+    )
 }
 
 // The trial of a state's moves, each with room for `left` bytes after it. All but the last are made on a copy of the
@@ -56,23 +70,33 @@ pub fn walk(
 pub fn trial(
     program: &[u8; PROGRAM],
     waits: &[u8; WAITS],
-    locks: Ceilings,
+    ceilings: &[u8; LOCKS],
+    locks: u8,
     s: &mut [u8; STATE],
     left: usize,
     allowance: u64,
     count: &mut u64,
-    out: &mut [u8],
+    path: &mut [u8; ORDER_ROOM],
 ) -> usize
-    requires { ⌜ (locks .count ≤ 8) × IsState (now s) × (left < 512) × (now count ≤ allowance)
-        × (512 ≤ length (now out)) ⌝ }
-    ensures room { λ r. ⌜ Left (511 - left) allowance (now (out .entry)) (now (out .exit))
+    requires { ⌜ (locks ≤ 8) × IsState (now s) × (left < 512) × (now count ≤ allowance)
+        × (length (now path) ≡ 512) ⌝ }
+    ensures room { λ r. ⌜ Left (511 - left) allowance (now (path .entry)) (now (path .exit))
         (outcomeOf r (now (count .exit)) (snapshotIn (now (s .exit)))) ⌝ }
-    ensures came { λ r. ⌜ TriesAs (now (program .entry)) (now (waits .entry)) locks (snapshotIn (now (s .entry)))
-        left (now (count .entry)) allowance (now (out .entry)) (now (out .exit))
+    ensures came { λ r. ⌜ TriesAs (now (program .entry)) (now (waits .entry))
+        (ceilingsOf (now (ceilings .entry)) locks) (snapshotIn (now (s .entry)))
+        left (now (count .entry)) allowance (now (path .entry)) (now (path .exit))
         (outcomeOf r (now (count .exit)) (snapshotIn (now (s .exit)))) ⌝ }
 {
     let top = running_task(program, s);
-    let low = level(program, locks, s);
+    let own = *ceilings;
+    let low = level(
+        program,
+        Ceilings {
+            ceilings: own,
+            count: locks,
+        },
+        s,
+    );
     let start = start_from(program, waits, s, low, low);
     let mut at = first_move(program, s, top, start);
     while at < NO_MOVE {
@@ -80,23 +104,34 @@ pub fn trial(
             return STOPPED;
         }
         *count += 1;
-        out[LAST_STEP - left] = at;
+        path[LAST_STEP - left] = at;
         let after = next_move(program, waits, s, top, low, start, at);
         if NO_MOVE <= after {
             make_move(program, s, top, at);
-            return walk(program, waits, locks, s, left, allowance, count, out);
+            return walk(
+                program,
+                waits,
+                ceilings,
+                locks,
+                s,
+                left,
+                allowance,
+                count,
+                path,
+            );
         }
         let mut next = *s;
         make_move(program, &mut next, top, at);
         let r = walk(
             program,
             waits,
+            ceilings,
             locks,
             &mut next,
             left,
             allowance,
             count,
-            out,
+            path,
         );
         if r != HELD {
             *s = next;

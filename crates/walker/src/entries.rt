@@ -1,19 +1,23 @@
 // The walk's entry.
 use acceptance::entries::accept_file;
+use ends::finished;
 use lending::lend;
 use outcomes::Outcome;
+use outcomes::ended;
 use outcomes::outcome_answer;
 use outcomes::outcome_of;
 use outcomes::refused_walk;
 use outcomes::shown_length;
+use snapshots::LAST_STEP;
 use snapshots::ORDER_ROOM;
 use taskfile::Check;
 use taskfile::Table;
 use taskfile::numbers::ROOM;
 use timing::JobList;
-use trials::walk;
+use trials::trial;
 use walk::WalkAnswer;
 use writing::clear_from;
+use writing::write_bytes;
 ghost use mathlib.Core.Path.{_≡_};
 ghost use Prim.Native.Nat.{_≤_};
 ghost use lib.ListN.{length};
@@ -21,27 +25,32 @@ ghost use Rattle.taskfile.specs.Code.JudgingParts.{Shaped};
 ghost use Rattle.walk.specs.WalkEntry.{walkAnswer, walkAfter};
 ghost use Rattle.walker.specs.Code.WalkParts.{WalkOf};
 
-// The walk of a table's jobs. The bytes of an order found stand at the front of the buffer.
-pub fn walk_table(t: Table, list: JobList, allowance: u64, out: &mut [u8]) -> Outcome
-    requires { ⌜ Shaped t × (list .count ≤ 32) × (512 ≤ length (now out)) ⌝ }
-    ensures room { λ r. ⌜ length (now (out .exit)) ≡ length (now (out .entry)) ⌝ }
-    ensures walked { λ r. ⌜ WalkOf t list allowance (now (out .entry)) (now (out .exit)) r ⌝ }
+// The walk of a table's jobs. The bytes of an order found stand at the front of the path.
+pub fn walk_table(t: Table, list: JobList, allowance: u64, path: &mut [u8; ORDER_ROOM]) -> Outcome
+    requires { ⌜ Shaped t × (list .count ≤ 32) × (length (now path) ≡ 512) ⌝ }
+    ensures room { λ r. ⌜ length (now (path .exit)) ≡ 512 ⌝ }
+    ensures walked { λ r. ⌜ WalkOf t list allowance (now (path .entry)) (now (path .exit)) r ⌝ }
 {
     let l = lend(t, list);
     let program = l.program;
     let waits = l.waits;
     let locks = l.locks;
+    let ceilings = locks.ceilings;
     let mut start = l.start;
     let mut count: u64 = 0;
-    let r = walk(
+    if finished(&program, &start) {
+        return outcome_of(ended(&start, 0), count, &start);
+    }
+    let r = trial(
         &program,
         &waits,
-        locks,
+        &ceilings,
+        locks.count,
         &mut start,
-        ORDER_ROOM,
+        LAST_STEP,
         allowance,
         &mut count,
-        out,
+        path,
     );
     outcome_of(r, count, &start)
 }
@@ -60,7 +69,10 @@ pub fn walk_file(file: &[u8], allowance: u64, out: &mut [u8]) -> WalkAnswer
     if out.len() < ORDER_ROOM {
         return refused_walk(ROOM, 0);
     }
-    let r = walk_table(accepted.table, accepted.list, allowance, out);
-    clear_from(shown_length(r), ORDER_ROOM, out);
+    let mut path = [0u8; ORDER_ROOM];
+    let r = walk_table(accepted.table, accepted.list, allowance, &mut path);
+    let shown = shown_length(r);
+    let n = write_bytes(out, ORDER_ROOM, 0, &path[..shown]);
+    clear_from(n, ORDER_ROOM, out);
     outcome_answer(r)
 }

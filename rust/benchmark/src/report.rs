@@ -120,10 +120,10 @@ pub fn walk_table(timings: &[WalkTiming]) -> String {
 pub fn stack(kib: usize) -> String {
     let less = kib - PAGE_KIB;
     format!(
-        "On a table of one task with 32 jobs of 16 instructions, whose only order has 512 steps, the
-proved walk runs in a thread with {kib} KiB of stack and overflows one with {less} KiB. That was found by
-halving, each size in a child process; the thread's own start and the call through the binding are
-part of it.
+        "On a table of one task with 32 jobs of 15 Picks and an End, whose orders have 512 steps, of 480 of
+which the walk has to come back for another, the proved walk runs in a thread with {kib} KiB of stack
+and overflows one with {less} KiB. That was found by halving, each size in a child process; the
+thread's own start and the call through the binding are part of it.
 "
     )
 }

@@ -5,7 +5,7 @@ use Prim.Native.Nat.{ℕ, _+_, _-_, _≤_, _<_}
 use mathlib.Core.Bool.{true, false}
 use mathlib.Core.List.{List, _++_}
 use mathlib.Core.Option.{Option, none, some}
-use lib.ListN.{length, take, drop}
+use lib.ListN.{length, take}
 use Rattle.taskfile.specs.declared.Ceilings.{Ceilings}
 use Rattle.timing.specs.Accepted.{Accepted}
 use Rattle.timing.specs.Code.IsAccepted.{IsAccepted}
@@ -17,10 +17,13 @@ use Rattle.walk.specs.Moves.{moves}
 use Rattle.walk.specs.Walks.{EndedOrder, Walked, trial, walkFrom}
 use Rattle.outcomes.specs.declared.Outcome.{Outcome}
 
--- the buffer so far: the path to the state, and what stands beyond the room of an order
+-- the locks' ceilings, of which the first so many are there
+abbrev pub ceilingsOf : List ℕ → ℕ → Ceilings
+ceilingsOf ceilings count = record { ceilings = ceilings; count = count }
+
+-- the path so far: its bytes up to the state are as they were
 pub record Path (at : ℕ) (before now : List ℕ) : Type 0 where
   pub kept : take at now ≡ take at before
-  pub beyond : drop 512 now ≡ drop 512 before
 
 -- how the walk ended that made `total` moves in all, on a path of `at` bytes
 abbrev pub WalkEndsAs : Option EndedOrder → ℕ → ℕ → List ℕ → Outcome → Type 0
@@ -34,7 +37,6 @@ WalkEndsAs (some f) total at buffer r =
 -- `walked`
 pub record Came (walked : Walked) (count allowance at : ℕ) (before after : List ℕ) (r : Outcome) : Type 0 where
   pub kept : take at after ≡ take at before
-  pub beyond : drop 512 after ≡ drop 512 before
   pub cut : allowance < count + walked .count → (r .stopped ≡ true) × (r .found ≡ false)
   pub whole : count + walked .count ≤ allowance
       → (r .stopped ≡ false) × WalkEndsAs (walked .failing) (count + walked .count) at after r

@@ -169,7 +169,7 @@ module _ {program waits : List ℕ} {locks : Ceilings} {p : Snapshot} {left coun
 
 unchanged : (at count allowance : ℕ) (buffer : List ℕ) (r : Outcome) → count ≤ allowance → r .count ≡ count
     → Left at allowance buffer buffer r
-unchanged at count allowance buffer r le e = (refl, omega arith, record { kept = refl; beyond = refl })
+unchanged at count allowance buffer r le e = (refl, omega arith, record { kept = refl })
 
 module _ {program waits : List ℕ} {locks : Ceilings} {p : Snapshot} (left : ℕ) {count allowance : ℕ}
     (buffer : List ℕ) (le : count ≤ allowance) where

@@ -10,7 +10,7 @@ use mathlib.Core.Bool.{true, false}
 use mathlib.Core.List.{List, [], _∷_, _++_, append-assoc}
 use mathlib.Core.Option.{Option, none, some}
 use lib.ListN.{length, take, set}
-use lib.Seq.{take-suc-set, drop-set-lt, length-take-le, take-take, take-at}
+use lib.Seq.{take-suc-set, length-take-le, take-take, take-at}
 use Rattle.notation.specs.Laws.TestLaws.{not-both}
 use Rattle.timing.specs.Accepted.{Accepted}
 use Rattle.timing.specs.Code.IsAccepted.{IsAccepted}
@@ -110,7 +110,6 @@ module _ (left byte : ℕ) {before now out : List ℕ} (few : left < 512) (room 
   pub path-kept : Path (511 - left) before out
   path-kept = record {
     kept = path-front ∙ path .kept;
-    beyond = child .beyond ∙ drop-set-lt 512 now (511 - left) byte (omega arith) ∙ path .beyond;
   }
 
 module _ {a : Accepted} {s : State} {left count made allowance byte : ℕ} (few : left < 512) (within : made ≤ allowance) (rest : Rest a s left count made byte)
@@ -127,7 +126,6 @@ module _ {a : Accepted} {s : State} {left count made allowance byte : ℕ} (few 
       let made-all : count + whole .count ≡ made + 0 = rest .total ∙ ap (λ (n : ℕ). made + trial (walkFrom a left) (stepsFrom a s byte n) .count) none-left in
       record {
         kept = path .kept;
-        beyond = path .beyond;
         cut = λ over. absurd (omega arith);
         whole = λ fits. (is .1, subst (λ (o : Option EndedOrder). WalkEndsAs o (count + whole .count) (511 - left) now r) (sym nothing) (is .0, omega (arith, is .2)));
       }
@@ -151,14 +149,13 @@ module _ {a : Accepted} {s : State} {left count made allowance byte : ℕ} (few 
         → Came whole count allowance (511 - left) before now r
     trial-stops spent is = record {
       kept = path .kept;
-      beyond = path .beyond;
       cut = λ over. (is .1, is .0);
       whole = λ fits. absurd (omega (arith, here .1, counts));
     }
 
     module _ {out : List ℕ} {r : Outcome} (room : 512 ≤ length now) (child : Came below (made + 1) allowance (512 - left) (set now (511 - left) byte) out r) where
       child-path : Path (512 - left) (set now (511 - left) byte) out
-      child-path = record { kept = child .kept; beyond = child .beyond }
+      child-path = record { kept = child .kept }
 
       onward : Path (511 - left) before out
       onward = path-kept left byte few room path child-path
@@ -191,7 +188,6 @@ module _ {a : Accepted} {s : State} {left count made allowance byte : ℕ} (few 
                 let on = found-on (below .failing) refl fits (ended .1) found in
                 record {
                   kept = onward .kept;
-                  beyond = onward .beyond;
                   cut = λ over. absurd (omega (arith, on .0));
                   whole = λ within-it. (ended .0, on .1);
                 }
@@ -205,8 +201,7 @@ module _ {a : Accepted} {s : State} {left count made allowance byte : ℕ} (few 
             | no over ↦
                 record {
                   kept = onward .kept;
-                  beyond = onward .beyond;
-                  cut = λ beyond-it. child .cut (omega arith);
+                  cut = λ over-it. child .cut (omega arith);
                   whole = λ fits. absurd (omega (arith, here .1, counts));
                 }
           ]

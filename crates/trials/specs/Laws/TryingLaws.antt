@@ -39,7 +39,7 @@ module _ {program waits : List ℕ} {locks : Ceilings} {p : Snapshot} {left coun
   trying-starts le = record {
     within = le;
     same = refl;
-    path = record { kept = refl; beyond = refl };
+    path = record { kept = refl };
     rest = λ a s ok lends inv shows. rest-all ok inv left count;
   }
 

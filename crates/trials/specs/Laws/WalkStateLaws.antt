@@ -54,7 +54,6 @@ came-held : (count allowance at : ℕ) (buffer : List ℕ) → count ≤ allowan
 came-held count allowance at buffer le walked nothing zero-moves {r} is =
     record {
       kept = refl;
-      beyond = refl;
       cut = λ over. absurd (omega arith);
       whole = λ within. (is .1, subst (λ (o : Option EndedOrder). WalkEndsAs o (count + walked .count) at buffer r) (sym nothing) (is .0, omega (arith, is .2)));
     }
@@ -75,7 +74,6 @@ ended-came p s store failed count allowance at buffer le short =
           (subst (λ (r : ℕ). Came (record { failing = some (record { bytes = []; ending = orderEnd s }); count = 0 }) count allowance at buffer buffer (outcomeOf r count p)) (sym is)
           (record {
             kept = refl;
-            beyond = refl;
             cut = λ over. absurd (omega arith);
             whole = λ within. (le-ltb 513 at (omega arith), (lt-ltb at 513 (omega arith), omega arith, omega arith, same, store, failed));
           }))

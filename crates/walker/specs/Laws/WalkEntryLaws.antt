@@ -1,22 +1,21 @@
 -- The walk's entry: what it answers and what the lent buffer then holds, by what the file and the walk come to.
 -- Assumes nothing.
 use mathlib.Core.Path.{_≡_, refl, sym, ap, subst, _∙_}
-use Prim.Native.Nat.{ℕ, zero, suc, _-_, _^_, _≤_, _<_}
+use Prim.Native.Nat.{ℕ, _^_, _≤_, _<_}
 use native.Mathlib.Decide.{decLe}
 use native.Mathlib.Nat.{zero-add}
 use native.Mathlib.Omega.{arith}
 use mathlib.Core.Bool.{true, false}
-use mathlib.Core.List.{List, [], _∷_, _++_, append-assoc}
+use mathlib.Core.List.{List, _++_}
 use mathlib.Core.Option.{Option, none, some}
 use lib.Dec.{leb}
-use lib.ListN.{length, take, drop, replicate}
+use lib.ListN.{length, take, drop}
 use borrow.Author.Tests.{lt-leb}
 use Rattle.taskfile.specs.declared.Check.the-variants.{Passed, Refused}
 use Rattle.taskfile.specs.declared.Table.{Table}
 use Rattle.notation.specs.Checked.{Checked, refused, passed}
 use Rattle.notation.specs.Laws.CheckedLaws.{require-fails, bind-refused, bind-goes}
 use Rattle.notation.specs.Lists.{if_then_else_, padded}
-use Rattle.notation.specs.Laws.PaddedLaws.{padded-cons, padded-nil}
 use Rattle.taskfile.specs.Records.{File}
 use Rattle.timing.specs.declared.AcceptAnswer.{AcceptAnswer}
 use Rattle.timing.specs.declared.JobList.{JobList}
@@ -41,6 +40,8 @@ use Rattle.outcomes.specs.Laws.OutcomeLaws.{answer-stopped, answer-found, answe
 use Rattle.walk.specs.Laws.FailingLaws.{walk-short}
 use Rattle.walk.specs.Laws.ShownLaws.{decided-within, decided-over, answer-room, after-room}
 use Rattle.walk.specs.Walks.{EndedOrder, Walked, walk}
+use Rattle.writing.specs.Code.Writing.{Appends, clearedFrom}
+use Rattle.writing.specs.Laws.WritingLaws.{appends-filled}
 
 pub walk-lent : {t : Table} {list : JobList} {l : Lent} {allowance : ℕ} {before after : List ℕ} {r : Outcome}
     → LentOf t list l
@@ -49,27 +50,6 @@ pub walk-lent : {t : Table} {list : JobList} {l : Lent} {allowance : ℕ} {befor
 unfolding walk
 walk-lent lent walks a ok table listed =
     walks a (initial a) ok (lent .lends a ok table listed) (initial-invariant a) (lent .shows a ok table listed)
-
--- ---- the buffer
-
--- a list filled up is the list and then as many as are left
-padded-rest : (n : ℕ) (bytes : List ℕ) → length bytes ≤ n → padded n 0 bytes ≡ bytes ++ replicate (n - length bytes) 0
-padded-rest n [] le = padded-nil n 0 ∙ ap (λ (k : ℕ). replicate k 0) (let same : n ≡ n - 0 = omega arith in same)
-padded-rest zero (x ∷ bytes) le = absurd (omega arith)
-padded-rest (suc n) (x ∷ bytes) le =
-    let less : n - length bytes ≡ suc n - suc (length bytes) = omega arith in
-    padded-cons n 0 x bytes ∙ ap (λ (xs : List ℕ). x ∷ xs) (padded-rest n bytes (omega arith) ∙ ap (λ (k : ℕ). bytes ++ replicate k 0) less)
-
--- cleared behind the bytes, the buffer is filled with them
-buffer-filled : (buffer out : List ℕ) (n : ℕ) (bytes : List ℕ) → length bytes ≤ 512 → n ≡ length bytes
-    → take n out ≡ bytes → drop 512 out ≡ drop 512 buffer
-    → take n out ++ (replicate (512 - n) 0 ++ drop 512 out) ≡ filled orderRoom bytes buffer
-unfolding filled
-buffer-filled buffer out n bytes short counted front beyond =
-    rw (front, beyond)
-    (sym (append-assoc bytes (replicate (512 - n) 0) (drop 512 buffer))
-    ∙ ap (λ (k : ℕ). (bytes ++ replicate (512 - k) 0) ++ drop 512 buffer) counted
-    ∙ ap (λ (xs : List ℕ). xs ++ drop 512 buffer) (sym (padded-rest 512 bytes short)))
 
 -- ---- the outcome
 
@@ -169,11 +149,12 @@ module _ (f : File) (allowance : ℕ) (buffer : List ℕ) (x : AcceptAnswer) (sa
         let is = admitted-short lt in
         (sym (ap (walkAnswerOf allowance) is), sym (ap (λ (c : Checked ℕ Accepted). walkAfterOf allowance c buffer) is))
 
-    module _ (room : 512 ≤ length buffer) {out : List ℕ} {r : Outcome} (walked : WalkOf (x .table) (x .list) allowance buffer out r) where
-      came : Came (walk (found .0)) 0 allowance 0 buffer out r
+    module _ (room : 512 ≤ length buffer) {before path : List ℕ} {r : Outcome}
+        (walked : WalkOf (x .table) (x .list) allowance before path r) where
+      came : Came (walk (found .0)) 0 allowance 0 before path r
       came = walked (found .0) ok (found .2 .table) (found .2 .list)
 
-      abbrev fit : EntryOf (decided allowance (walk (found .0))) out r
+      abbrev fit : EntryOf (decided allowance (walk (found .0))) path r
       fit = entry ok came
 
       -- the order to show fits the room
@@ -186,9 +167,12 @@ module _ (f : File) (allowance : ℕ) (buffer : List ℕ) (x : AcceptAnswer) (sa
       pub entry-answer : answerOf r ≡ walkAnswer f allowance buffer
       entry-answer = fit .answer ∙ sym (answer-room f (found .1) allowance buffer room)
 
-      pub entry-after : {n : ℕ} {after : List ℕ} → n ≡ shownLength r
-          → after ≡ take n out ++ (replicate (512 - n) 0 ++ drop 512 out) → after ≡ walkAfter f allowance buffer
-      entry-after same is =
-          is ∙ ap (λ (n : ℕ). take n out ++ (replicate (512 - n) 0 ++ drop 512 out)) same
-          ∙ buffer-filled buffer out (shownLength r) (decidedBytes (decided allowance (walk (found .0)))) (fit .short) (fit .counted) (fit .front) (came .beyond)
+      -- the order's bytes written to the front of the buffer, and zeros after them
+      pub entry-after : {shown n : ℕ} {mid after : List ℕ} → shown ≡ shownLength r
+          → Appends 512 buffer 0 (take shown path) mid n → after ≡ clearedFrom 512 n mid
+          → after ≡ walkAfter f allowance buffer
+      unfolding filled
+      entry-after same puts is =
+          is ∙ appends-filled room puts
+          ∙ ap (λ (bytes : List ℕ). padded 512 0 bytes ++ drop 512 buffer) (ap (λ (k : ℕ). take k path) same ∙ fit .front)
           ∙ sym (after-room f (found .1) allowance buffer room)

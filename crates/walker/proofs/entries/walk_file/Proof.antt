@@ -1,7 +1,9 @@
 -- `walker::entries::walk_file` meets its contract: a refused file, a buffer that is too short, and the walk with the
 -- buffer cleared behind the order that it shows. Assumes nothing.
-use mathlib.Core.Path.{_∙_}
+use mathlib.Core.Path.{refl, sym, _∙_}
 use native.Mathlib.Omega.{arith}
+use lib.Seq.{length-take-le}
+use Rattle.writing.specs.Laws.WritingLaws.{appends-within, appends-length}
 use Rattle.walker.specs.Laws.WalkEntryLaws.{entry-refused, entry-no-room, entry-short, entry-length, entry-answer, entry-after}
 use Rattle.lending.specs.Laws.LendLaws.{parts-lent}
 use borrow.Author.Needs.{needs}
@@ -41,33 +43,59 @@ returns-2 c =
 walk-table-requires : tie.Need-walk-table-requires
 walk-table-requires c κs =
     let parts = parts-lent _ _ (c .before .before .before .before .accept-file .ensures) (c .before .before .enum-told .given .1) in
-    (parts .0, parts .1, c .before .if1 .left)
+    (parts .0, parts .1, refl)
 
 shown-length-requires : tie.Need-shown-length-requires
 shown-length-requires c κs = search needs
 
+array-share-prefix-path : tie.Need-array-share-prefix-path
+array-share-prefix-path c =
+    let says = c .before .before .before .before .before .before .before .accept-file .ensures in
+    let passes = c .before .before .before .before .before .enum-told .given .1 in
+    let room = c .before .before .before .before .if1 .left in
+    let buffer = c .before .before .before .before .before .before .before .before .before .before .args .out .now in
+    let table = c .before .before .walk-table .ensures in
+    omega (arith, entry-short _ _ buffer _ says passes room (table .1), c .before .shown-length .ensures, table .0)
+
+slice-aggregate-write-bytes : tie.Need-slice-aggregate-write-bytes
+slice-aggregate-write-bytes c =
+    let says = c .before .before .before .before .before .before .before .before .accept-file .ensures in
+    let passes = c .before .before .before .before .before .before .enum-told .given .1 in
+    let room = c .before .before .before .before .before .if1 .left in
+    let buffer = c .before .before .before .before .before .before .before .before .before .before .before .args .out .now in
+    let table = c .before .before .before .walk-table .ensures in
+    sym (length-take-le _ _ (omega (arith, entry-short _ _ buffer _ says passes room (table .1), c .before .before .shown-length .ensures, table .0)))
+
+write-bytes-requires : tie.Need-write-bytes-requires
+write-bytes-requires c κs = c .before .before .before .before .before .if1 .left
+
 clear-from-requires : tie.Need-clear-from-requires
 clear-from-requires c κs =
-    let room = c .before .before .before .before .before .before .if1 .left in
-    let table = c .before .before .before .before .walk-table .ensures in
-    let short = entry-short _ _ _ _ (c .before .before .before .before .before .before .before .before .before .accept-file .ensures) (c .before .before .before .before .before .before .before .enum-told .given .1) room (table .1) in
-    (omega (arith, c .before .shown-length .ensures, short), omega (arith, room, table .0))
+    let puts = c .before .before .before .write-bytes .ensures in
+    let room = c .before .before .before .before .before .before .before .before .before .if1 .left in
+    (appends-within puts (omega arith), omega (arith, appends-length puts room, room))
 
 outcome-answer-requires : tie.Need-outcome-answer-requires
 outcome-answer-requires c κs =
-    entry-length _ _ _ _ (c .before .before .before .before .before .before .before .before .before .before .before .before .accept-file .ensures) (c .before .before .before .before .before .before .before .before .before .before .enum-told .given .1) (c .before .before .before .before .before .before .before .before .before .if1 .left) (c .before .before .before .before .before .before .before .walk-table .ensures .1)
+    let says = c .before .before .before .before .before .before .before .before .before .before .before .before .before .before .before .accept-file .ensures in
+    let passes = c .before .before .before .before .before .before .before .before .before .before .before .before .before .enum-told .given .1 in
+    let room = c .before .before .before .before .before .before .before .before .before .before .before .before .if1 .left in
+    let buffer = c .before .before .before .before .before .before .before .before .before .before .before .before .before .before .before .before .before .before .args .out .now in
+    let table = c .before .before .before .before .before .before .before .before .before .before .walk-table .ensures in
+    entry-length _ _ buffer _ says passes room (table .1)
 
 same-length : tie.Need-same-length
 same-length c = search needs
 
 returns-3 : tie.Need-returns-3
 returns-3 c =
-    let says = c .before .before .before .before .before .before .before .before .before .before .before .before .before .accept-file .ensures in
-    let passes = c .before .before .before .before .before .before .before .before .before .before .before .enum-told .given .1 in
-    let room = c .before .before .before .before .before .before .before .before .before .before .if1 .left in
-    let table = c .before .before .before .before .before .before .before .before .walk-table .ensures .1 in (
-      c .outcome-answer .ensures ∙ entry-answer _ _ _ _ says passes room table,
-      entry-after _ _ _ _ says passes room table (c .before .before .before .before .before .shown-length .ensures) (c .before .before .before .clear-from .ensures),
+    let says = c .before .before .before .before .before .before .before .before .before .before .before .before .before .before .before .before .accept-file .ensures in
+    let passes = c .before .before .before .before .before .before .before .before .before .before .before .before .before .before .enum-told .given .1 in
+    let room = c .before .before .before .before .before .before .before .before .before .before .before .before .before .if1 .left in
+    let buffer = c .before .before .before .before .before .before .before .before .before .before .before .before .before .before .before .before .before .before .before .args .out .now in
+    let table = c .before .before .before .before .before .before .before .before .before .before .before .walk-table .ensures in (
+      c .outcome-answer .ensures ∙ entry-answer _ _ buffer _ says passes room (table .1),
+      entry-after _ _ buffer _ says passes room (table .1) (c .before .before .before .before .before .before .before .before .before .before .shown-length .ensures) (c .before .before .before .before .before .before .before .write-bytes .ensures) (c .before .before .before .clear-from .ensures),
     )
 
 pub walk-file-spec : {M : Type 1} → statement M
@@ -84,6 +112,9 @@ walk-file-spec =
     returns-2
     walk-table-requires
     shown-length-requires
+    array-share-prefix-path
+    slice-aggregate-write-bytes
+    write-bytes-requires
     clear-from-requires
     outcome-answer-requires
     same-length
