@@ -18,7 +18,7 @@ ghost use Rattle.machine.specs.Code.Within.{LocksWithin};
 ghost use Rattle.machine.specs.Instructions.{perform};
 
 // What an instruction does, where v is the Pick's choice: it is performed in the bytes of a state that hold the store
-// and this job alone. Its number is nobody's concern.
+// and this job alone, whose number is not read.
 pub fn perform_instruction(i: Instruction, v: u8, l: Local, s: [u8; VARIABLES]) -> Effect
     requires { ⌜ (l .next < 16) × LocksWithin l ⌝ }
     ensures { λ e. ⌜ e ≡ perform i v l s ⌝ }

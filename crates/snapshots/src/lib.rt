@@ -1,5 +1,5 @@
-// Orders of steps, as their code keeps them: how a state, a program and the times stand in arrays of fixed length,
-// whose turn it is, and what a replay comes to.
+// Orders of steps, as their code keeps them: how a state, a program, the times and the wait table stand in arrays of
+// fixed length, whose turn it is, and what a replay comes to.
 use order::Frame;
 use taskfile::limits::INSTRUCTIONS;
 use taskfile::limits::JOBS;

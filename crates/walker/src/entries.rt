@@ -25,7 +25,8 @@ ghost use Rattle.taskfile.specs.Code.JudgingParts.{Shaped};
 ghost use Rattle.walk.specs.WalkEntry.{walkAnswer, walkAfter};
 ghost use Rattle.walker.specs.Code.WalkParts.{WalkOf};
 
-// The walk of a table's jobs. The bytes of an order found stand at the front of the path.
+// The walk of a table's jobs. The bytes of an order found stand at the front of the path. The first state's moves are
+// tried from here, so that the compiler keeps `trial` a function and makes a jump of its last call.
 pub fn walk_table(t: Table, list: JobList, allowance: u64, path: &mut [u8; ORDER_ROOM]) -> Outcome
     requires { ⌜ Shaped t × (list .count ≤ 32) × (length (now path) ≡ 512) ⌝ }
     ensures room { λ r. ⌜ length (now (path .exit)) ≡ 512 ⌝ }
