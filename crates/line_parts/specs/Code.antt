@@ -1,1 +1,2 @@
+pub mod Overfull
 pub mod PartFields

@@ -1,1 +1,2 @@
+pub mod OverfullLaws
 pub mod PartFieldLaws

@@ -23,6 +23,7 @@ ghost use Rattle.taskfile.specs.declared.Instruction.{Instruction};
 ghost use Rattle.texts.specs.declared.Form.the-variants.{StartLine, TaskLine, InstructionLine, LockLine};
 ghost use Rattle.texts.specs.TextTables.{counted, withWindow, withStore, bareTask, addTask};
 ghost use Rattle.texts.specs.TextTables.{longerTask, addInstruction, addLock, instructionWith, addPart};
+ghost use Rattle.line_parts.specs.Code.Overfull.{bodyOver, addsNothing};
 ghost use Rattle.line_parts.specs.Code.PartFields.{PartFits};
 
 // One more, and never more than one too many.
@@ -183,7 +184,8 @@ pub fn add_part(t: Table, form: Form, numbers: [u64; NUMBERS]) -> Table
 
 // Would one instruction more leave the table as it is? Its task was not kept, or its body counts one too many already.
 pub fn instruction_adds_nothing(t: Table) -> bool
-    ensures { λ b. ⌜ (b ≡ true → (i : Instruction) → addInstruction t i ≡ t) ⌝ }
+    ensures is { λ b. ⌜ b ≡ bodyOver t ⌝ }
+    ensures kept { λ b. ⌜ (b ≡ true → (i : Instruction) → addInstruction t i ≡ t) ⌝ }
 {
     let at = last_task(t.tasks);
     if TASKS <= at {
@@ -195,10 +197,14 @@ pub fn instruction_adds_nothing(t: Table) -> bool
 
 // Would a line of this form leave the table as it is, whatever its numbers?
 pub fn adds_nothing(t: Table, form: Form) -> bool
-    ensures { λ b. ⌜ (b ≡ true → (numbers : List ℕ) → addPart t form numbers ≡ t) ⌝ }
+    ensures is { λ b. ⌜ b ≡ addsNothing t form ⌝ }
+    ensures kept { λ b. ⌜ (b ≡ true → (numbers : List ℕ) → addPart t form numbers ≡ t) ⌝ }
 {
     match form {
+        Form::WindowLine => false,
+        Form::StartLine => false,
+        Form::TaskLine => false,
         Form::InstructionLine(_) => instruction_adds_nothing(t),
-        _ => false,
+        Form::LockLine => false,
     }
 }

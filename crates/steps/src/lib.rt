@@ -27,7 +27,7 @@ ghost use lib.ListN.{length};
 ghost use Rattle.machine.specs.Code.Within.{LocksWithin};
 ghost use Rattle.snapshots.specs.Code.SnapshotSteps.{stepIn, madeIn};
 ghost use Rattle.states.specs.Code.StateBytes.{frameIn, snapshotIn, IsState, FrameReplaced};
-ghost use Rattle.steps.specs.Code.Moving.{Steppable, moverIn, movedIn};
+ghost use Rattle.steps.specs.Code.Moving.{Steppable, moverIn, Movable, movedIn};
 ghost use Rattle.steps.specs.Code.Noted.{Noted};
 
 // Notes what came of a step of job x of task i, with so many active jobs under it: a failed assertion, and whether the
@@ -96,9 +96,7 @@ pub fn place(s: &mut [u8; STATE], top: u8, i: Task) -> u8
 // Makes the move of an order byte, 16 times the task and the value, where `top` is the running job's task: a step of
 // that job, or a start.
 pub fn make_move(program: &[u8; PROGRAM], s: &mut [u8; STATE], top: u8, byte: u8)
-    requires { ⌜ IsState (now s) × (byte < 128) × (byte / 16 ≡ top → 1 ≤ snapshotIn (now s) .depth)
-        × (moverIn (snapshotIn (now s)) top (byte / 16) .under < 8)
-        × Steppable (moverIn (snapshotIn (now s)) top (byte / 16) .frame) ⌝ }
+    requires { ⌜ Movable (now s) top byte ⌝ }
     ensures made { λ _. ⌜ snapshotIn (now (s .exit))
         ≡ movedIn (now (program .entry)) (snapshotIn (now (s .entry))) top byte ⌝ }
     ensures whole { λ _. ⌜ IsState (now (s .exit)) ⌝ }

@@ -2,9 +2,7 @@
 -- is its effect.
 -- Assumes nothing.
 use mathlib.Core.Path.{_≡_, sym, ap, subst, _∙_}
-use mathlib.Core.Logic.{inl}
 use Prim.Native.Nat.{ℕ, _<_}
-use native.Mathlib.Omega.{arith}
 use mathlib.Core.Bool.{Bool}
 use mathlib.Core.List.{List}
 use lib.ListN.{length}
@@ -17,8 +15,9 @@ use Rattle.machine.specs.Instructions.{perform}
 use Rattle.machine.specs.Code.Within.{LocksWithin}
 use Rattle.order.specs.declared.Frame.{Frame}
 use Rattle.performing.specs.Code.Performed.{Performed}
-use Rattle.states.specs.Code.StateBytes.{frameAt, frameIn, Replaced, FrameReplaced}
-use Rattle.states.specs.Laws.StateWrites.{bytes-same, bytes-new}
+use Rattle.states.specs.Code.StateBytes.{frameIn, Replaced, FrameReplaced}
+use Rattle.states.specs.Laws.FrameWrites.{replaced-store}
+use Rattle.states.specs.Laws.StateWrites.{bytes-new}
 
 module _ {start stored placed : List ℕ} {l : Local} {s : List ℕ} {x : Job} (eight : length s ≡ 8)
     (put : Replaced start stored 0 s) (frame : FrameReplaced stored placed 0 (record { job = x; local = l })) where
@@ -27,10 +26,7 @@ module _ {start stored placed : List ℕ} {l : Local} {s : List ℕ} {x : Job} (
   local-placed = ap (λ (f : Frame). f .local) (frame .inside)
 
   store-placed : bytesAt placed 0 8 ≡ s
-  unfolding frameAt
-  store-placed =
-      bytes-same stored placed 0 8 (λ k low high. frame .outside k (inl (omega arith)))
-      ∙ bytes-new start stored 0 s 8 eight put
+  store-placed = replaced-store frame ∙ bytes-new start stored 0 s 8 eight put
 
   pub local-inside : l .next < 16 → frameIn placed 0 .local .next < 16
   local-inside lt = rw local-placed lt

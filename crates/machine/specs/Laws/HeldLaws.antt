@@ -98,9 +98,6 @@ module _ (held : Held) (lock : ℕ) where
   unfolding release if_then_else_
   release-none none = rw none refl
 
-  pub release-past : length held ≤ lock → release held lock ≡ held
-  release-past past = release-none (none-holds held lock (none-past held lock past))
-
   -- either keeps every other lock as it is
   pub acquire-count-other : (other : ℕ) → other ≢ lock → countOf (acquire held lock) other ≡ countOf held other
   unfolding acquire

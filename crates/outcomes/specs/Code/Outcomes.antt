@@ -10,17 +10,21 @@ use Rattle.walk.specs.declared.WalkAnswer.{WalkAnswer}
 use Rattle.walk.specs.WalkEntry.{refusal}
 use Rattle.outcomes.specs.declared.Outcome.{Outcome}
 
--- what a walk answers at a complete order of this length: the length if a job has failed, or 513, which no length is
-unfoldable pub endedAt : Snapshot → ℕ → ℕ
-endedAt p at = if any (λ flag. flag) (p .failed) then at else 513
+-- what a walk answers where no order failed; no order is so long
+abbrev pub noneFailed : ℕ
+noneFailed = 513
 
--- what a walk comes to that answered r after so many moves, and left this snapshot: 513 says that no order failed, a
--- larger number that the allowance did not suffice, and a smaller one is the length of the order found, which ends so
+-- what it answers at a complete order of this length: the length, if a job has failed
+unfoldable pub endedAt : Snapshot → ℕ → ℕ
+endedAt p at = if any (λ flag. flag) (p .failed) then at else noneFailed
+
+-- what a walk comes to that answered r after so many moves, and left this snapshot: a number above `noneFailed` says
+-- that the allowance did not suffice, and one below is the length of the order found, which ends so
 unfoldable pub outcomeOf : ℕ → ℕ → Snapshot → Outcome
 outcomeOf r count p =
     record {
-      found = ltb r 513;
-      stopped = ltb 513 r;
+      found = ltb r noneFailed;
+      stopped = ltb noneFailed r;
       count = count;
       length = r;
       store = p .store;

@@ -12,7 +12,7 @@ use lib.ListN.{replicate}
 use lib.Dec.{ltb}
 use Rattle.notation.specs.Lists.{any, if_then_else_, bytesAt}
 use Rattle.states.specs.Code.StateBytes.{snapshotIn}
-use Rattle.outcomes.specs.Code.Outcomes.{endedAt, outcomeOf, answerOf, shownLength}
+use Rattle.outcomes.specs.Code.Outcomes.{noneFailed, endedAt, outcomeOf, answerOf, shownLength}
 use Rattle.snapshots.specs.Code.Snapshots.{Snapshot}
 use Rattle.outcomes.specs.declared.Outcome.{Outcome}
 
@@ -23,7 +23,7 @@ module _ (p : Snapshot) (at : ℕ) {b : Bool} (e : b ≡ any (λ flag. flag) (p 
   unfolding endedAt if_then_else_
   ended-failed h = rw (sym e ∙ h) refl
 
-  pub ended-held : b ≡ false → 513 ≡ endedAt p at
+  pub ended-held : b ≡ false → noneFailed ≡ endedAt p at
   unfolding endedAt if_then_else_
   ended-held h = rw (sym e ∙ h) refl
 
@@ -32,11 +32,24 @@ module _ (p : Snapshot) (at : ℕ) {b : Bool} (e : b ≡ any (λ flag. flag) (p 
 -- read from the bytes of the state that it left
 pub outcome-read : (bytes : List ℕ) (r count : ℕ) {store : List ℕ} {failed : List Bool} → store ≡ bytesAt bytes 0 8
     → failed ≡ snapshotIn bytes .failed
-    → record { found = ltb r 513; stopped = ltb 513 r; count = count; length = r; store = store; failed = failed }
-    ≡ outcomeOf r count (snapshotIn bytes)
+    → record {
+      found = ltb r noneFailed;
+      stopped = ltb noneFailed r;
+      count = count;
+      length = r;
+      store = store;
+      failed = failed;
+    } ≡ outcomeOf r count (snapshotIn bytes)
 unfolding snapshotIn outcomeOf
 outcome-read bytes r count stored flags = λ t.
-    record { found = ltb r 513; stopped = ltb 513 r; count = count; length = r; store = stored t; failed = flags t }
+    record {
+      found = ltb r noneFailed;
+      stopped = ltb noneFailed r;
+      count = count;
+      length = r;
+      store = stored t;
+      failed = flags t;
+    }
 
 -- ---- the three answers
 

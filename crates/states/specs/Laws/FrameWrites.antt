@@ -87,3 +87,9 @@ pub frame-put : (before own after : List ℕ) (k : ℕ) (x : Job) (local : Local
     → FrameReplaced before after k (record { job = x; local = local })
 frame-put before own after k x local four eight first second =
     frame-written before own after k x local (local .next % 256) (local .next / 256) (omega arith) four eight first second
+
+-- an active job that was replaced leaves the store as it was
+pub replaced-store : {before after : List ℕ} {k : ℕ} {f : Frame} → FrameReplaced before after k f
+    → bytesAt after 0 8 ≡ bytesAt before 0 8
+unfolding frameAt
+replaced-store {before} {after} put = bytes-same before after 0 8 (λ j low high. put .outside j (inl (omega arith)))

@@ -1,7 +1,9 @@
 -- The move of an order byte on a snapshot, where the running job's task is known: whose turn it is, and what the move
 -- makes.
 -- Assumes nothing.
-use Prim.Native.Nat.{ℕ, _/_, _%_, _<_}
+use mathlib.Core.Path.{_≡_}
+use Prim.Native.Nat.{ℕ, _/_, _%_, _≤_, _<_}
+use mathlib.Core.List.{List}
 use lib.Dec.{eqb}
 use Rattle.notation.specs.Lists.{if_then_else_}
 use Rattle.machine.specs.Code.Within.{LocksWithin}
@@ -9,6 +11,7 @@ use Rattle.order.specs.declared.Frame.{Frame}
 use Rattle.snapshots.specs.declared.Due.{Due}
 use Rattle.snapshots.specs.Code.Snapshots.{Snapshot}
 use Rattle.snapshots.specs.Code.SnapshotSteps.{Program, startTurn, topTurn, madeIn}
+use Rattle.states.specs.Code.StateBytes.{snapshotIn, IsState}
 
 -- a job that can step: its number and its position are in range, and it holds no more than it can by then
 abbrev pub Steppable : Frame → Type 0
@@ -17,6 +20,13 @@ Steppable f = (f .job .0 < 32) × (f .local .next < 16) × LocksWithin (f .local
 -- whose turn task i's is: the running job's, if `top` is that task, or else that of a job that starts
 unfoldable pub moverIn : Snapshot → ℕ → ℕ → Due
 moverIn p top i = if eqb i top then topTurn p else startTurn p i
+
+-- what a move asks of the state that the bytes hold: whose turn it is has a place among the active jobs, and can step
+abbrev pub Movable : List ℕ → ℕ → ℕ → Type 0
+Movable bytes top byte =
+    IsState bytes × (byte < 128) × (byte / 16 ≡ top → 1 ≤ snapshotIn bytes .depth)
+    × (moverIn (snapshotIn bytes) top (byte / 16) .under < 8)
+    × Steppable (moverIn (snapshotIn bytes) top (byte / 16) .frame)
 
 -- the snapshot after the move
 unfoldable pub movedIn : Program → Snapshot → ℕ → ℕ → Snapshot

@@ -27,7 +27,7 @@ use Rattle.snapshots.specs.Laws.SnapshotWithinLaws.{after-within}
 use Rattle.states.specs.Code.StateBytes.{frameAt, frameIn, flagIn, snapshotIn, IsState, FrameReplaced}
 use Rattle.states.specs.Laws.StateWrites.{bytes-same, bytes-set}
 use Rattle.notation.specs.Laws.TabulateLaws.{same-values, set-values}
-use Rattle.states.specs.Laws.FrameWrites.{frame-same}
+use Rattle.states.specs.Laws.FrameWrites.{frame-same, replaced-store}
 use Rattle.steps.specs.Code.Noted.{Noted}
 
 -- ---- what is noted
@@ -189,10 +189,6 @@ module _ {before placed : List ℕ} {f : Frame} {under : ℕ} (few : under < 8) 
   placed-local : frameIn placed under .local ≡ f .local
   placed-local = ap (λ (g : Frame). g .local) (put .inside)
 
-  placed-store : bytesAt placed 0 8 ≡ bytesAt before 0 8
-  unfolding frameAt
-  placed-store = bytes-same before placed 0 8 (λ k low high. put .outside k (inl (omega arith)))
-
   -- its number and its position are read where it was placed
   module _ (program : List ℕ) (i v : ℕ) {x at : ℕ} {o : Instruction} (job : x ≡ frameIn placed under .job .0)
       (position : at ≡ frameIn placed under .local .next) (read : o ≡ instructionIn program i at) where
@@ -205,7 +201,7 @@ module _ {before placed : List ℕ} {f : Frame} {under : ℕ} (few : under < 8) 
         ap (λ (n : Instruction). perform n v (frameIn placed under .local) (bytesAt placed 0 8))
         (read ∙ ap (instructionIn program i) position)
         ∙ ap (λ (l : Local). perform (instructionIn program i (l .next)) v l (bytesAt placed 0 8)) placed-local
-        ∙ ap (perform (instructionIn program i (f .local .next)) v (f .local)) placed-store
+        ∙ ap (perform (instructionIn program i (f .local .next)) v (f .local)) (replaced-store put)
 
     same-job : x ≡ f .job .0
     same-job = job ∙ ap (λ (g : Frame). g .job .0) (put .inside)

@@ -54,7 +54,7 @@ part-added : (c : tie.Joined3 Inv-loop μ-loop)
 part-added c =
     elim (c .if3 .came) [
       | inl w ↦ w .2 ∙ w .1 .ensures
-      | inr w ↦ w .1 ∙ sym (c .before .adds-nothing .ensures (not-false _ (w .0 .left)) _)
+      | inr w ↦ w .1 ∙ sym (c .before .adds-nothing .ensures .1 (not-false _ (w .0 .left)) _)
     ]
 
 empty-table-requires : tie.Need-empty-table-requires Inv-loop μ-loop

@@ -8,11 +8,12 @@ use mathlib.Core.Bool.{true}
 use lib.ListN.{length-set}
 use Rattle.snapshots.specs.Code.SnapshotSteps.{stepIn}
 use Rattle.states.specs.Code.StateBytes.{snapshotIn}
+use Rattle.steps.specs.Code.Moving.{Movable}
 use Rattle.moves.specs.Code.MoveParts.{NextStep}
 use Rattle.moves.specs.Laws.AllowedLaws.{level-bounded}
 use Rattle.outcomes.specs.Code.Outcomes.{outcomeOf}
 use Rattle.trials.specs.Laws.WalkStateLaws.{outcome-held, outcome-stopped, outcome-other}
-use Rattle.trials.specs.Laws.AnswerLaws.{Movable, mover-bounds, first-start, first-answer, ends-answer, stops-answer, back-answer}
+use Rattle.trials.specs.Laws.AnswerLaws.{mover-bounds, first-start, first-answer, ends-answer, stops-answer, back-answer}
 use Rattle.trials.specs.Laws.AnswerLaws.{on-answer, last-answer, ended-answer, none-left-answer, tried-answer}
 use Rattle.trials.specs.Code.Trials.{ceilingsOf}
 use Rattle.trials.specs.Laws.TryingLaws.{Trying}
@@ -132,13 +133,13 @@ bounds-at t c =
     let head = c .before .before .before .before .before in
     let state = head .before .before .before .before .before .before .before .before .before .before .pre .1 .1 in
     let lt = c .before .before .before .before .loop-test .taken in
-    (state, lt, mover-bounds _ _ _ _ _ (head .before .before .before .before .before .before .before .before .running-task .ensures) lt (head .loop .inv .1 lt) (state .few) (state .within))
+    let bounds = mover-bounds _ _ _ _ _ (head .before .before .before .before .before .before .before .before .running-task .ensures) lt (head .loop .inv .1 lt) (state .few) (state .within) in
+    (state, lt, bounds .0, bounds .1, bounds .2)
 
 trial-make-move-requires : (t : ℕ) → trial-lts.Need-make-move-requires (trial-claims t) (trial-at t) trial.Post trial-Inv-loop trial-μ-loop
 trial-make-move-requires t c κs =
     let head = c .before .before .before .before .before .before .before in
-    let bounds = rw (sym (head .loop .inv .2)) at (bounds-at t (c .before .before)) in
-    (bounds .0, bounds .1, bounds .2 .0, bounds .2 .1, bounds .2 .2)
+    rw (sym (head .loop .inv .2)) at (bounds-at t (c .before .before))
 
 trial-walk-requires : (t : ℕ) → trial-lts.Need-walk-requires (trial-claims t) (trial-at t) trial.Post trial-Inv-loop trial-μ-loop
 trial-walk-requires t c κs =
@@ -169,8 +170,7 @@ trial-returns-2 t c =
 trial-make-move-requires-2 : (t : ℕ) → trial-lts.Need-make-move-requires-2 (trial-claims t) (trial-at t) trial.Post trial-Inv-loop trial-μ-loop
 trial-make-move-requires-2 t c κs =
     let head = c .before .before .before .before .before .before .before .before in
-    let bounds = rw (sym (head .loop .inv .2)) at (bounds-at t (c .before .before .before)) in
-    (bounds .0, bounds .1, bounds .2 .0, bounds .2 .1, bounds .2 .2)
+    rw (sym (head .loop .inv .2)) at (bounds-at t (c .before .before .before))
 
 trial-walk-requires-2 : (t : ℕ) → trial-lts.Need-walk-requires-2 (trial-claims t) (trial-at t) trial.Post trial-Inv-loop trial-μ-loop
 trial-walk-requires-2 t c κs =

@@ -19,12 +19,11 @@ use Rattle.snapshots.specs.Code.SnapshotWithin.{AllWithin}
 use Rattle.snapshots.specs.Laws.SnapshotWithinLaws.{due-within}
 use Rattle.snapshots.specs.Laws.TurnLaws.{due-bounds, step-due}
 use Rattle.snapshots.specs.Laws.StepPartLaws.{offered-inside, with-offered}
-use Rattle.states.specs.Code.StateBytes.{snapshotIn, IsState}
 use Rattle.steps.specs.Code.Moving.{Steppable, moverIn, movedIn}
 use Rattle.moves.specs.Code.MoveParts.{NextStep, FirstStart, runningTask}
 use Rattle.moves.specs.Laws.AllowedLaws.{allowed-due, allowed-offered, allowed-top, allowed-deep, allowed-start}
 use Rattle.outcomes.specs.declared.Outcome.{Outcome}
-use Rattle.outcomes.specs.Code.Outcomes.{endedAt, outcomeOf}
+use Rattle.outcomes.specs.Code.Outcomes.{noneFailed, endedAt, outcomeOf}
 use Rattle.trials.specs.Laws.TrialLaws.{path-kept}
 use Rattle.trials.specs.Laws.TryingLaws.{Trying, trying-starts, trying-skips, trying-ends, trying-stops}
 use Rattle.trials.specs.Laws.TryingLaws.{trying-finds, trying-cut, trying-on}
@@ -32,13 +31,6 @@ use Rattle.trials.specs.Code.Trials.{Held, Stopped, Left, WalksAs, Tries
 use Rattle.trials.specs.Laws.WalkStateLaws.{outcome-held, walk-ended, walk-none-left, walk-tried}
 
 -- ---- whose turn a move is
-
--- what making a move asks for
-abbrev pub Movable : List ℕ → ℕ → ℕ → Type 0
-Movable bytes top byte =
-    IsState bytes × (byte < 128) × ((byte / 16 ≡ top → 1 ≤ snapshotIn bytes .depth)
-    × (moverIn (snapshotIn bytes) top (byte / 16) .under < 8)
-    × Steppable (moverIn (snapshotIn bytes) top (byte / 16) .frame))
 
 module _ (program waits : List ℕ) (locks : Ceilings) (p : Snapshot) {top : ℕ} (byte : ℕ)
     (running : top ≡ runningTask program p) (small : byte < 128)
@@ -184,11 +176,11 @@ module _ {program waits : List ℕ} {locks : Ceilings} {p : Snapshot} (left : �
   )
 
   pub none-left-answer : finishedIn program p ≡ false → left ≡ 0
-      → Left (512 - left) allowance buffer buffer (outcomeOf 513 count p)
-      × WalksAs program waits locks p left count allowance buffer buffer (outcomeOf 513 count p)
+      → Left (512 - left) allowance buffer buffer (outcomeOf noneFailed count p)
+      × WalksAs program waits locks p left count allowance buffer buffer (outcomeOf noneFailed count p)
   unfolding outcomeOf
   none-left-answer going empty = (
-    unchanged (512 - left) count allowance buffer (outcomeOf 513 count p) le refl,
+    unchanged (512 - left) count allowance buffer (outcomeOf noneFailed count p) le refl,
     walk-none-left left count allowance buffer le going empty (outcome-held count p refl),
   )
 

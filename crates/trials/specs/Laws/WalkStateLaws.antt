@@ -22,29 +22,29 @@ use Rattle.order.specs.States.{State}
 use Rattle.walk.specs.Laws.CaseLaws.{walk-end, walk-cut, walk-on}
 use Rattle.outcomes.specs.declared.Outcome.{Outcome}
 use Rattle.walk.specs.Moves.{moves}
-use Rattle.outcomes.specs.Code.Outcomes.{endedAt, outcomeOf}
+use Rattle.outcomes.specs.Code.Outcomes.{noneFailed, endedAt, outcomeOf}
 use Rattle.trials.specs.Code.Trials.{WalkEndsAs, Came, Held, Stopped, WalksAs, TriesAs}
 use Rattle.walk.specs.Walks.{EndedOrder, Walked, fails, trial, atEnd, walkFrom}
 
 -- what the numbers of an answer come to
 module _ (count : ℕ) (p : Snapshot) where
-  -- 513 says that no order failed
-  pub outcome-held : {r : ℕ} → r ≡ 513 → Held count (outcomeOf r count p)
+  -- no order failed
+  pub outcome-held : {r : ℕ} → r ≡ noneFailed → Held count (outcomeOf r count p)
   unfolding outcomeOf
-  outcome-held {r} is = (le-ltb r 513 (omega arith), le-ltb 513 r (omega arith), refl)
+  outcome-held {r} is = (le-ltb r noneFailed (omega arith), le-ltb noneFailed r (omega arith), refl)
 
-  -- a larger number, that the allowance did not suffice
-  pub outcome-stopped : {r : ℕ} → r ≡ 514 → Stopped count (outcomeOf r count p)
+  -- the allowance did not suffice
+  pub outcome-stopped : {r : ℕ} → r ≡ noneFailed + 1 → Stopped count (outcomeOf r count p)
   unfolding outcomeOf
-  outcome-stopped {r} is = (le-ltb r 513 (omega arith), lt-ltb 513 r (omega arith), refl)
+  outcome-stopped {r} is = (le-ltb r noneFailed (omega arith), lt-ltb noneFailed r (omega arith), refl)
 
   -- every other number says that an order was found, or that the allowance did not suffice
-  pub outcome-other : (r : ℕ) → (r ≡ 513 → ⊥)
+  pub outcome-other : (r : ℕ) → (r ≡ noneFailed → ⊥)
       → (outcomeOf r count p .found ≡ true) ⊎ (outcomeOf r count p .stopped ≡ true)
   unfolding outcomeOf
-  outcome-other r other = elim (decLt r 513) [
-    | yes lt ↦ inl (lt-ltb r 513 lt)
-    | no ge ↦ inr (lt-ltb 513 r (omega arith))
+  outcome-other r other = elim (decLt r noneFailed) [
+    | yes lt ↦ inl (lt-ltb r noneFailed lt)
+    | no ge ↦ inr (lt-ltb noneFailed r (omega arith))
   ]
 
 -- nothing found, and nothing changed
@@ -75,10 +75,10 @@ ended-came p s store failed count allowance at buffer le short =
           (record {
             kept = refl;
             cut = λ over. absurd (omega arith);
-            whole = λ within. (le-ltb 513 at (omega arith), (lt-ltb at 513 (omega arith), omega arith, omega arith, same, store, failed));
+            whole = λ within. (le-ltb noneFailed at (omega arith), (lt-ltb at noneFailed (omega arith), omega arith, omega arith, same, store, failed));
           }))
       | inr good ↦
-          let is : endedAt p at ≡ 513 = rw (ap (any (λ flag. flag)) failed ∙ good) refl in
+          let is : endedAt p at ≡ noneFailed = rw (ap (any (λ flag. flag)) failed ∙ good) refl in
           came-held count allowance at buffer le (atEnd s) (rw good refl) refl (outcome-held count p is)
     ]
 
