@@ -8,7 +8,7 @@ use Rattle.notation.specs.Lists.{if_then_else_}
 use Rattle.taskfile.specs.Records.{File}
 use Rattle.timing.specs.declared.JobRecord.{JobRecord}
 use Rattle.timing.specs.ReadEntries.{listAnswer, listAfter}
-use Rattle.words.specs.Words.{wordsOfList, listWords, filledWith}
+use Rattle.adqurim_words.specs.Words.{wordsOfList, listWords, filledWith}
 
 -- what the lent words hold after the entry
 unfoldable pub wordsAfter : File → List JobRecord → List ℕ → List ℕ

@@ -7,7 +7,7 @@ use lib.ListN.{length}
 use lib.Dec.{leb}
 use Rattle.notation.specs.Lists.{if_then_else_}
 use Rattle.taskfile.specs.Records.{File}
-use Rattle.words.specs.Words.{wordsOfWrite, writeWords, filledWith}
+use Rattle.adqurim_words.specs.Words.{wordsOfWrite, writeWords, filledWith}
 use Rattle.writer.specs.Memory.{tableBytes, tableIn}
 use Rattle.writer.specs.WriteEntries.{writeAnswer, writeAfter}
 

@@ -1,38 +1,37 @@
 // The C interface. Each entry fills words that the caller lends, if there is room for them; the header says what
 // each word holds.
-
-use acceptance::entries::read;
-use desk::fill_table;
-use desk::write_table;
-use job_list::Listed;
-use job_list::count_of;
-use job_list::fill;
-use job_list::jobs_for;
-use job_list::refused_list;
-use order_plan::entries::order_to_plan;
+use adqurim_words::FILE_WORDS;
+use adqurim_words::READ_WORDS;
+use adqurim_words::RUN_WORDS;
+use adqurim_words::SHEET_WORDS;
+use adqurim_words::TABLE_WORDS;
+use adqurim_words::TEXT_WORDS;
+use adqurim_words::WALK_WORDS;
+use adqurim_words::WRITE_WORDS;
+use adqurim_words::put_read;
+use adqurim_words::put_run;
+use adqurim_words::put_sheet_words;
+use adqurim_words::put_walk;
+use adqurim_words::put_write;
+use matching_orders::entries::plan_to_order;
+use matching_plans::entries::order_to_plan;
+use order_replay::entries::replay;
 use plan_check::entries::check_plan;
-use plan_order::entries::plan_to_order;
-use replay::entries::replay;
-use sheet_lines::fill_sheet;
-use table_memory::table_in;
-use text_desk::file_to_text;
-use text_desk::text_to_file;
+use sheets_lines::sheet_lines::fill_sheet;
+use texts_entries::file_to_text;
+use texts_entries::text_to_file;
 use timing::JobRecord;
-use walker::entries::walk_file;
-use words::FILE_WORDS;
-use words::READ_WORDS;
-use words::RUN_WORDS;
-use words::SHEET_WORDS;
-use words::TABLE_WORDS;
-use words::TEXT_WORDS;
-use words::WALK_WORDS;
-use words::WRITE_WORDS;
-use words::put_read;
-use words::put_run;
-use words::put_sheet_words;
-use words::put_walk;
-use words::put_write;
+use timing_acceptance::entries::read;
+use timing_acceptance::job_list::Listed;
+use timing_acceptance::job_list::count_of;
+use timing_acceptance::job_list::fill;
+use timing_acceptance::job_list::jobs_for;
+use timing_acceptance::job_list::refused_list;
+use walk_trials::entries::walk_file;
 use writer::TABLE_ROOM;
+use writer_entries::fill_table;
+use writer_entries::write_table;
+use writer_memory::table_in;
 ghost use mathlib.Core.Path.{_≡_};
 ghost use lib.Dec.{leb};
 ghost use lib.ListN.{length};
@@ -48,8 +47,8 @@ ghost use Rattle.matching.specs.ConversionEntries.{orderToPlanAnswer, orderToPl
 ghost use Rattle.matching.specs.ConversionEntries.{planToOrderAnswer, planToOrderAfter};
 ghost use Rattle.sheets.specs.Sheets.{sheetAnswer, sheetAfter};
 ghost use Rattle.texts.specs.TextEntries.{toFileAnswer, toFileAfter, toTextAnswer, toTextAfter};
-ghost use Rattle.words.specs.Words.{wordsOfRead, wordsOfRun, wordsOfWalk, readWords, runWords, walkWords, filledWith};
-ghost use Rattle.words.specs.Words.{wordsOfList, wordsOfSheet, wordsOfWrite, listWords, sheetWords, writeWords};
+ghost use Rattle.adqurim_words.specs.Words.{wordsOfRead, wordsOfRun, wordsOfWalk, readWords, runWords, walkWords, filledWith};
+ghost use Rattle.adqurim_words.specs.Words.{wordsOfList, wordsOfSheet, wordsOfWrite, listWords, sheetWords, writeWords};
 ghost use Rattle.writer.specs.WriteEntries.{tableAnswer, tableAfter};
 
 // The reader's entry. Words 0 and 1 are number and place, words 2 to 9 the response times of tasks 0 to 7 (0 past

@@ -1,5 +1,4 @@
 // Instructions: what a job keeps of its own while it runs, and what one instruction does. Document 01, "Instructions".
-
 use taskfile::limits::INSTRUCTIONS;
 use taskfile::limits::JOBS;
 use taskfile::limits::LOCKS;

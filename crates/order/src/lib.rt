@@ -1,5 +1,4 @@
 // Orders of steps: an active job. Document 01, "Orders of steps".
-
 use machine::Local;
 use timing::Job;
 

@@ -1,21 +1,21 @@
 // The check of a plan of a table's jobs, and the plan check's entry.
 use crate::legality::end_store;
 use crate::legality::legality_fault;
-use acceptance::entries::accept_file;
-use answers::ended_run;
-use answers::refused_run;
-use lending::lend_times;
 use machine::RunAnswer;
-use marks::PlanChecked;
-use plan_runs::run_plan;
+use machine_locals::answers::ended_run;
+use machine_locals::answers::refused_run;
+use order_lending::lend_times;
+use plan_marks::PlanChecked;
+use plan_runs::whole_runs::run_plan;
 use taskfile::Check;
 use taskfile::Table;
 use timing::JobList;
+use timing_acceptance::entries::accept_file;
 ghost use mathlib.Core.Path.{_≡_};
 ghost use Prim.Native.Nat.{_≤_};
 ghost use Rattle.taskfile.specs.Code.JudgingParts.{Shaped};
 ghost use Rattle.plan.specs.Plans.{planAnswer};
-ghost use Rattle.marks.specs.Code.TableParts.{PlanCheckedOf};
+ghost use Rattle.plan_marks.specs.Code.TableParts.{PlanCheckedOf};
 
 // The check of a plan of a table's jobs: its fault, or its end and the marks of its steps.
 pub fn check_table(t: Table, list: JobList, plan: &[u8]) -> PlanChecked

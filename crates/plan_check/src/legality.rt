@@ -1,14 +1,14 @@
 // Numbers 43 to 45, and how a legal plan ends.
-use marks::Fault;
-use marks::GUESSES;
-use marks::MARKS;
-use marks::STORES;
-use pairs::pair_fault;
+use order_states::PROGRAM;
+use order_states::TIMES;
 use plan::Round;
-use rounds::same_store;
-use rounds::store_of;
-use snapshots::PROGRAM;
-use snapshots::TIMES;
+use plan_marks::Fault;
+use plan_marks::GUESSES;
+use plan_marks::MARKS;
+use plan_marks::STORES;
+use plan_marks::rounds::same_store;
+use plan_marks::rounds::store_of;
+use plan_pairs::pairs::pair_fault;
 use taskfile::limits::VARIABLES;
 use taskfile::numbers::GUESS;
 use taskfile::numbers::LOCK;
@@ -18,8 +18,8 @@ ghost use Prim.Native.Nat.{_+_, _*_, _≤_, _<_};
 ghost use lib.ListN.{length};
 ghost use Rattle.notation.specs.Lists.{lastOr};
 ghost use Rattle.plan.specs.Runs.{guess};
-ghost use Rattle.marks.specs.Code.Marks.{faultOf, storesIn, IsMarks};
-ghost use Rattle.marks.specs.Code.PairParts.{dueStoreIn, guessFaultIn, legalityIn};
+ghost use Rattle.plan_marks.specs.Code.Marks.{faultOf, storesIn, IsMarks};
+ghost use Rattle.plan_marks.specs.Code.PairParts.{dueStoreIn, guessFaultIn, legalityIn};
 
 // The guess of round r.
 pub fn guess_of(plan: &[u8], r: Round) -> [u8; VARIABLES]

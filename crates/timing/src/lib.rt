@@ -1,6 +1,5 @@
 // Response times and jobs: what a job is, what each entry has of a file, and the job list. Document 01, "Response times
 // and jobs" and "Numbers by who causes them".
-
 use taskfile::Check;
 use taskfile::Judged;
 use taskfile::Table;

@@ -1,6 +1,5 @@
 // The walk: the first complete order that fails, if there is one. Document 01, "Orders of steps" and "Numbers by who
 // causes them".
-
 use taskfile::limits::JOBS;
 use taskfile::limits::VARIABLES;
 

@@ -1,5 +1,4 @@
 // The table in memory and the writer: what their entries answer, and where a table's parts stand in memory. Document 02, E2.
-
 // What both entries answer: number and place, and how many bytes were written.
 pub struct WriteAnswer {
     pub number: u8,

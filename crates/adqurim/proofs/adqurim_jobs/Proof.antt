@@ -45,21 +45,21 @@ use Rattle.taskfile.proofs.Task as Task
 use Rattle.timing.specs.declared.JobRecord.{JobRecord}
 use Rattle.timing.proofs.JobRecord as J
 use Rattle.timing.proofs.ListAnswer as Answer
-use Rattle.job_list.specs.declared.Listed.{Listed}
-use Rattle.job_list.specs.Code.Filled.{listFilled}
+use Rattle.timing_acceptance.specs.declared.job_list.Listed.{Listed}
+use Rattle.timing_acceptance.specs.Code.Filled.{listFilled}
 use Rattle.adqurim.specs.Code.GivenJobs.{GivenAs}
 use Rattle.adqurim.specs.JobWords.{wordsAfter, entryAfter}
-use Rattle.words.specs.Words.{listWords, filledWith}
-use Rattle.job_list.proofs.Listed as L
-use Rattle.job_list.proofs.Listed.Laws as L′
-use Rattle.job_list.proofs.count_of as count-of
-use Rattle.job_list.proofs.count_of.Symbol as count-of-def
-use Rattle.job_list.proofs.count_of.Symbol.{name as #job-list·count-of}
-use Rattle.job_list.proofs.count_of.Met as count-of-thm
-use Rattle.job_list.proofs.fill as fill
-use Rattle.job_list.proofs.fill.Symbol as fill-def
-use Rattle.job_list.proofs.fill.Symbol.{name as #job-list·fill}
-use Rattle.job_list.proofs.fill.Met as fill-thm
+use Rattle.adqurim_words.specs.Words.{listWords, filledWith}
+use Rattle.timing_acceptance.proofs.job_list.Listed as L
+use Rattle.timing_acceptance.proofs.job_list.Listed.Laws as L′
+use Rattle.timing_acceptance.proofs.job_list.count_of as count-of
+use Rattle.timing_acceptance.proofs.job_list.count_of.Symbol as count-of-def
+use Rattle.timing_acceptance.proofs.job_list.count_of.Symbol.{name as #job-list·count-of}
+use Rattle.timing_acceptance.proofs.job_list.count_of.Met as count-of-thm
+use Rattle.timing_acceptance.proofs.job_list.fill as fill
+use Rattle.timing_acceptance.proofs.job_list.fill.Symbol as fill-def
+use Rattle.timing_acceptance.proofs.job_list.fill.Symbol.{name as #job-list·fill}
+use Rattle.timing_acceptance.proofs.job_list.fill.Met as fill-thm
 use Rattle.adqurim.proofs.jobs_given as jobs-given
 use Rattle.adqurim.proofs.jobs_given.Symbol as jobs-given-def
 use Rattle.adqurim.proofs.jobs_given.Symbol.{name as #adqurim·jobs-given}
@@ -304,6 +304,6 @@ adqurim-jobs-spec 𝓤 H 𝓜 𝓖 𝓡 =
     (tables 𝓤 H 𝓜 𝓡 code.env .C) (tables 𝓤 H 𝓜 𝓡 code.env .Λ) #adqurim·adqurim-jobs code.function (code.unfolded 𝓤 H 𝓜 𝓡)
     (adqurim-jobs-meets 𝓤 H (𝓖 .A) (givenOf 𝓤 H 𝓜 𝓖) (𝓜 .mem) (𝓡 .run) (tablesOf 𝓤 H 𝓜 (tables 𝓤 H 𝓜 𝓡 code.env))
     (cited 𝓤 H (JobsGiven 𝓤 H (𝓖 .A) (𝓜 .mem) (𝓡 .run)) 𝓜 𝓡 code.env #adqurim·jobs-given jobs-given-def.routine code.calls-adqurim·jobs-given (jobs-given-thm.met 𝓤 H 𝓜 𝓖 𝓡))
-    (cited 𝓤 H (CountOf 𝓤 H (𝓖 .A) (𝓜 .mem) (𝓡 .run)) 𝓜 𝓡 code.env #job-list·count-of count-of-def.routine code.calls-job-list·count-of (count-of-thm.met 𝓤 H 𝓜 𝓖 𝓡))
-    (cited 𝓤 H (Fill 𝓤 H (𝓖 .A) (𝓜 .mem) (𝓡 .run)) 𝓜 𝓡 code.env #job-list·fill fill-def.routine code.calls-job-list·fill (fill-thm.met 𝓤 H 𝓜 𝓖 𝓡))
+    (cited 𝓤 H (CountOf 𝓤 H (𝓖 .A) (𝓜 .mem) (𝓡 .run)) 𝓜 𝓡 code.env #job-list·count-of count-of-def.routine code.calls-timing-acceptance·job-list·count-of (count-of-thm.met 𝓤 H 𝓜 𝓖 𝓡))
+    (cited 𝓤 H (Fill 𝓤 H (𝓖 .A) (𝓜 .mem) (𝓡 .run)) 𝓜 𝓡 code.env #job-list·fill fill-def.routine code.calls-timing-acceptance·job-list·fill (fill-thm.met 𝓤 H 𝓜 𝓖 𝓡))
     (cited 𝓤 H (PutList 𝓤 H (𝓖 .A) (𝓜 .mem) (𝓡 .run)) 𝓜 𝓡 code.env #adqurim·put-list put-list-def.routine code.calls-adqurim·put-list (put-list-thm.met 𝓤 H 𝓜 𝓖 𝓡)))

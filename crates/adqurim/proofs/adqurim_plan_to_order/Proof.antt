@@ -8,7 +8,7 @@ use lib.ListN.{length}
 use borrow.Author.Needs.{needs}
 use borrow.Author.Tests.{le-leb, lt-leb}
 use Rattle.machine.specs.declared.RunAnswer.{RunAnswer}
-use Rattle.words.specs.Words.{wordsOfRun, runWords, filledWith}
+use Rattle.adqurim_words.specs.Words.{wordsOfRun, runWords, filledWith}
 use Rattle.adqurim.specs.Laws.EntryLaws.{run-unfilled, buffer-kept, buffer-changed}
 use Rattle.adqurim.specs.Laws.RunSizes.{ordered-sized}
 use Rattle.adqurim.proofs.adqurim_plan_to_order.Statement.{statement}

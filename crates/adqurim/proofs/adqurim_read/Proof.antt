@@ -8,7 +8,7 @@ use lib.ListN.{length}
 use borrow.Author.Needs.{needs}
 use borrow.Author.Tests.{le-leb, lt-leb}
 use Rattle.timing.specs.declared.ReadAnswer.{ReadAnswer}
-use Rattle.words.specs.Words.{wordsOfRead, readWords, filledWith}
+use Rattle.adqurim_words.specs.Words.{wordsOfRead, readWords, filledWith}
 use Rattle.adqurim.specs.Laws.EntryLaws.{read-unfilled}
 use Rattle.adqurim.proofs.adqurim_read.Statement.{statement}
 use Rattle.adqurim.proofs.adqurim_read.Tie as tie

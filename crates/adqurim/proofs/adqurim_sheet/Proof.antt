@@ -8,7 +8,7 @@ use lib.ListN.{length}
 use borrow.Author.Needs.{needs}
 use borrow.Author.Tests.{le-leb, lt-leb}
 use Rattle.sheets.specs.declared.SheetAnswer.{SheetAnswer}
-use Rattle.words.specs.Words.{wordsOfSheet, sheetWords, filledWith}
+use Rattle.adqurim_words.specs.Words.{wordsOfSheet, sheetWords, filledWith}
 use Rattle.adqurim.specs.Laws.EntryLaws.{sheet-unfilled, buffer-kept, buffer-changed}
 use Rattle.adqurim.proofs.adqurim_sheet.Statement.{statement}
 use Rattle.adqurim.proofs.adqurim_sheet.Tie as tie

@@ -8,7 +8,7 @@ use lib.ListN.{length}
 use borrow.Author.Needs.{needs}
 use borrow.Author.Tests.{le-leb, lt-leb}
 use Rattle.writer.specs.declared.WriteAnswer.{WriteAnswer}
-use Rattle.words.specs.Words.{wordsOfWrite, writeWords, filledWith}
+use Rattle.adqurim_words.specs.Words.{wordsOfWrite, writeWords, filledWith}
 use Rattle.adqurim.specs.Laws.EntryLaws.{write-unfilled, buffer-kept, buffer-changed}
 use Rattle.adqurim.proofs.adqurim_text_to_file.Statement.{statement}
 use Rattle.adqurim.proofs.adqurim_text_to_file.Tie as tie

@@ -8,7 +8,7 @@ use lib.ListN.{length}
 use borrow.Author.Needs.{needs}
 use borrow.Author.Tests.{le-leb, lt-leb}
 use Rattle.walk.specs.declared.WalkAnswer.{WalkAnswer}
-use Rattle.words.specs.Words.{wordsOfWalk, walkWords, filledWith}
+use Rattle.adqurim_words.specs.Words.{wordsOfWalk, walkWords, filledWith}
 use Rattle.adqurim.specs.Laws.EntryLaws.{walk-unfilled, buffer-kept, buffer-changed}
 use Rattle.adqurim.proofs.adqurim_walk.Statement.{statement}
 use Rattle.adqurim.proofs.adqurim_walk.Tie as tie

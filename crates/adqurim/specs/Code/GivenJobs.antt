@@ -6,10 +6,10 @@ use mathlib.Core.List.{List}
 use lib.ListN.{length}
 use Rattle.taskfile.specs.Records.{File}
 use Rattle.timing.specs.declared.JobRecord.{JobRecord}
-use Rattle.job_list.specs.declared.Listed.{Listed}
-use Rattle.job_list.specs.Code.Filled.{listFilled}
+use Rattle.timing_acceptance.specs.declared.job_list.Listed.{Listed}
+use Rattle.timing_acceptance.specs.Code.Filled.{listFilled}
 use Rattle.adqurim.specs.JobWords.{wordsAfter, entryAfter}
-use Rattle.words.specs.Words.{listWords, filledWith}
+use Rattle.adqurim_words.specs.Words.{listWords, filledWith}
 
 -- for a list with this room and so many words: they lead to what the entry leaves in both
 pub record GivenAs (x : Listed) (f : File) (room words : ℕ) : Type 0 where

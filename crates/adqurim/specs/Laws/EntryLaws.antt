@@ -20,9 +20,9 @@ use Rattle.machine.specs.declared.RunAnswer.{RunAnswer}
 use Rattle.sheets.specs.declared.SheetAnswer.{SheetAnswer}
 use Rattle.walk.specs.WalkEntry.{walkAnswer}
 use Rattle.walk.specs.Laws.SizeLaws.{Sized, walk-sized}
-use Rattle.words.specs.Words.{wordsOfSheet, sheetWords, wordsOfRead, wordsOfRun, wordsOfWalk, readWords, runWords, walkWords, filledWith}
-use Rattle.words.specs.Words.{wordsOfWrite, writeWords}
-use Rattle.words.specs.Laws.WordsLaws.{no-room, read-length, words-run-length, walk-length}
+use Rattle.adqurim_words.specs.Words.{wordsOfSheet, sheetWords, wordsOfRead, wordsOfRun, wordsOfWalk, readWords, runWords, walkWords, filledWith}
+use Rattle.adqurim_words.specs.Words.{wordsOfWrite, writeWords}
+use Rattle.adqurim_words.specs.Laws.WordsLaws.{no-room, read-length, words-run-length, walk-length}
 use Rattle.writer.specs.declared.WriteAnswer.{WriteAnswer}
 use Rattle.writer.specs.Memory.{tableBytes, tableIn}
 use Rattle.writer.specs.WriteEntries.{writeAnswer, writeAfter}

@@ -13,13 +13,13 @@ use Rattle.taskfile.specs.Records.{File}
 use Rattle.timing.specs.declared.JobRecord.{JobRecord}
 use Rattle.timing.specs.declared.ListAnswer.{ListAnswer}
 use Rattle.timing.specs.ReadEntries.{listAnswer, listAfter}
-use Rattle.job_list.specs.declared.Listed.{Listed}
-use Rattle.job_list.specs.Code.Filled.{listFilled, ListedAs}
-use Rattle.job_list.specs.Laws.FilledLaws.{listFilled-none}
+use Rattle.timing_acceptance.specs.declared.job_list.Listed.{Listed}
+use Rattle.timing_acceptance.specs.Code.Filled.{listFilled, ListedAs}
+use Rattle.timing_acceptance.specs.Laws.FilledLaws.{listFilled-none}
 use Rattle.adqurim.specs.Code.GivenJobs.{GivenAs}
 use Rattle.adqurim.specs.JobWords.{wordsAfter, entryAfter}
-use Rattle.words.specs.Words.{listWords, filledWith}
-use Rattle.words.specs.Laws.WordsLaws.{three-stored}
+use Rattle.adqurim_words.specs.Words.{listWords, filledWith}
+use Rattle.adqurim_words.specs.Laws.WordsLaws.{three-stored}
 
 -- without room the words stay as they were
 unwritten : (a : ListAnswer) (words : List ℕ) → leb 3 (length words) ≡ false → words ≡ filledWith (listWords a) words

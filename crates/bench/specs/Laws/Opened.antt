@@ -2,7 +2,7 @@
 -- time stays shut, since some tables have periods that no computing reaches the end of: where it is wanted, say
 -- `unfolding allOpened responseOf`.
 -- Assumes nothing.
-use Rattle.samples.specs.Laws.Opened
+use Rattle.examples.specs.Laws.Opened
 use Rattle.order.specs.Laws.Opened.{ordersOpened}
 use Rattle.walk.specs.Laws.Opened.{walksOpened}
 use Rattle.plan.specs.Laws.Opened.{plansOpened}

@@ -7,8 +7,8 @@ use lib.ListN.{take, replicate}
 use Rattle.notation.specs.Checked.{Checked, refused, passed}
 use Rattle.machine.specs.Ends.{Flags, End, noFlags, noStore}
 use Rattle.machine.specs.Instructions.{Store}
-use Rattle.samples.specs.Laws.Opened.{opened}
-use Rattle.samples.specs.Laws.Samples.{nest, pair, idle, twice, sensor, samplesOpened, twoSet, firstFailed}
+use Rattle.examples.specs.Laws.Opened.{opened}
+use Rattle.examples.specs.Laws.Samples.{nest, pair, idle, twice, sensor, samplesOpened, twoSet, firstFailed}
 use Rattle.order.specs.Laws.Opened.{ordersOpened}
 use Rattle.order.specs.Replay.{replay}
 

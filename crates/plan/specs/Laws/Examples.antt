@@ -8,8 +8,8 @@ use Rattle.notation.specs.Checked.{Checked, refused, passed}
 use Rattle.notation.specs.Lists.{each}
 use Rattle.machine.specs.Ends.{Flags, End, noFlags, noStore}
 use Rattle.machine.specs.Instructions.{Store}
-use Rattle.samples.specs.Laws.Opened.{opened}
-use Rattle.samples.specs.Laws.Samples.{nest, pair, idle, twice, sensor, samplesOpened, twoSet, firstFailed}
+use Rattle.examples.specs.Laws.Opened.{opened}
+use Rattle.examples.specs.Laws.Samples.{nest, pair, idle, twice, sensor, samplesOpened, twoSet, firstFailed}
 use Rattle.plan.specs.Laws.Opened.{plansOpened}
 use Rattle.plan.specs.Plans.{checkPlan}
 use Rattle.plan.specs.Runs.{Plan}

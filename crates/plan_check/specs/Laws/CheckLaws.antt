@@ -16,15 +16,15 @@ use Rattle.machine.specs.Instructions.{Store}
 use Rattle.plan.specs.Legality.{legality}
 use Rattle.plan.specs.Plans.{legalRun, planEnd}
 use Rattle.plan.specs.Runs.{Plan, JobRuns, jobTotal, runPlan}
-use Rattle.lending.specs.declared.LentTimes.{LentTimes}
-use Rattle.lending.specs.Code.Lending.{TimesOf}
-use Rattle.marks.specs.declared.Fault.{Fault}
-use Rattle.marks.specs.declared.PlanChecked.{PlanChecked}
-use Rattle.marks.specs.declared.PlanRan.{PlanRan}
-use Rattle.marks.specs.Code.Marks.{faultOf, storesIn, stepsIn}
-use Rattle.marks.specs.Code.PairParts.{legalityIn}
-use Rattle.marks.specs.Code.RunParts.{Holds, PlanRanAs, PlanRanOf}
-use Rattle.marks.specs.Code.TableParts.{PlanCheckedAs, PlanCheckedOf}
+use Rattle.order_lending.specs.declared.LentTimes.{LentTimes}
+use Rattle.order_lending.specs.Code.Lending.{TimesOf}
+use Rattle.plan_marks.specs.declared.Fault.{Fault}
+use Rattle.plan_marks.specs.declared.PlanChecked.{PlanChecked}
+use Rattle.plan_marks.specs.declared.PlanRan.{PlanRan}
+use Rattle.plan_marks.specs.Code.Marks.{faultOf, storesIn, stepsIn}
+use Rattle.plan_marks.specs.Code.PairParts.{legalityIn}
+use Rattle.plan_marks.specs.Code.RunParts.{Holds, PlanRanAs, PlanRanOf}
+use Rattle.plan_marks.specs.Code.TableParts.{PlanCheckedAs, PlanCheckedOf}
 use Rattle.notation.specs.Laws.NumberedLaws.{Numbered, by-number}
 use Rattle.plan.specs.Laws.PlanRefusals.{legality-numbered}
 use Rattle.plan_check.specs.Laws.LegalityLaws.{legality-agreed}

@@ -5,8 +5,8 @@ use Prim.Native.Nat.{ℕ}
 use native.Mathlib.Omega.{arith}
 use Rattle.notation.specs.Checked.{Checked, refused, passed, _>>_}
 use Rattle.notation.specs.Laws.NumberedLaws.{Numbered, by-number}
-use Rattle.marks.specs.declared.Fault.{Fault}
-use Rattle.marks.specs.Code.Marks.{faultOf}
+use Rattle.plan_marks.specs.declared.Fault.{Fault}
+use Rattle.plan_marks.specs.Code.Marks.{faultOf}
 
 -- a fault decides what follows
 pub fault-decides : {A B : Type 0} (c : Checked ℕ A) (d : Checked ℕ B) {r : Fault} → r ≡ faultOf c

@@ -15,9 +15,9 @@ use Rattle.machine.specs.Ends.{noStore}
 use Rattle.machine.specs.Instructions.{Store}
 use Rattle.plan.specs.declared.Round.{Round}
 use Rattle.plan.specs.Runs.{Plan, guess}
-use Rattle.marks.specs.Code.Marks.{faultOf, storeAt, storesIn}
-use Rattle.marks.specs.Code.PairParts.{dueStoreIn, guessFaultFrom, guessFaultIn}
-use Rattle.marks.specs.Laws.StoreLaws.{bytesAt-part, stores-at, stores-length}
+use Rattle.plan_marks.specs.Code.Marks.{faultOf, storeAt, storesIn}
+use Rattle.plan_marks.specs.Code.PairParts.{dueStoreIn, guessFaultFrom, guessFaultIn}
+use Rattle.plan_marks.specs.Laws.StoreLaws.{bytesAt-part, stores-at, stores-length}
 
 -- the eight bytes of a guess
 pub guess-read : (plan : Plan) (r : Round) → 9 + 8 * r .0 ≤ length plan

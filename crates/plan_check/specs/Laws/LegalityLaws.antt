@@ -15,12 +15,12 @@ use Rattle.machine.specs.Instructions.{Store}
 use Rattle.plan.specs.declared.Round.{Round}
 use Rattle.plan.specs.Legality.{dueStore, guessFault, legality}
 use Rattle.plan.specs.Runs.{Plan, JobRuns, jobTotal, roundNumbers, guess}
-use Rattle.marks.specs.declared.Fault.{Fault}
-use Rattle.marks.specs.Code.Marks.{faultOf, storesIn, stepsIn}
-use Rattle.marks.specs.Code.PairParts.{dueStoreIn, pairFaultAmong, pairFaultIn, guessFaultFrom, guessFaultIn}
-use Rattle.marks.specs.Code.PairParts.{legalityIn}
-use Rattle.marks.specs.Code.RunParts.{Holds}
-use Rattle.pairs.specs.Laws.PairAgreed.{pairs-agreed}
+use Rattle.plan_marks.specs.declared.Fault.{Fault}
+use Rattle.plan_marks.specs.Code.Marks.{faultOf, storesIn, stepsIn}
+use Rattle.plan_marks.specs.Code.PairParts.{dueStoreIn, pairFaultAmong, pairFaultIn, guessFaultFrom, guessFaultIn}
+use Rattle.plan_marks.specs.Code.PairParts.{legalityIn}
+use Rattle.plan_marks.specs.Code.RunParts.{Holds}
+use Rattle.plan_pairs.specs.Laws.PairAgreed.{pairs-agreed}
 use Rattle.notation.specs.Laws.NumberedLaws.{Numbered, noneOf-numbered, placed-numbered}
 use Rattle.plan_check.specs.Laws.FaultLaws.{fault-decides, rest-decides}
 

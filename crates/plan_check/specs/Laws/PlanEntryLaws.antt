@@ -17,8 +17,8 @@ use Rattle.machine.specs.Ends.{End}
 use Rattle.machine.specs.Buffers.{runAnswer, unwritten}
 use Rattle.plan.specs.Plans.{legalRun, checkPlan, checked, planAnswer}
 use Rattle.plan.specs.Runs.{Plan, JobRuns}
-use Rattle.marks.specs.declared.PlanChecked.{PlanChecked}
-use Rattle.marks.specs.Code.TableParts.{PlanCheckedAs, PlanCheckedOf}
+use Rattle.plan_marks.specs.declared.PlanChecked.{PlanChecked}
+use Rattle.plan_marks.specs.Code.TableParts.{PlanCheckedAs, PlanCheckedOf}
 
 module _ (f : File) (x : AcceptAnswer) (says : AcceptedAs x (accept f)) where
   -- a file that is refused

@@ -22,12 +22,12 @@ use Rattle.timing.specs.Relations.{jobNumbers}
 use Rattle.machine.specs.Ends.{noFlags}
 use Rattle.machine.specs.Instructions.{Store}
 use Rattle.plan.specs.Runs.{Plan, JobRuns, RunState, jobTotal, guess, roundNumbers, runStart, runJobs, runPlan}
-use Rattle.marks.specs.declared.Fault.{Fault}
-use Rattle.marks.specs.declared.JobsRan.{JobsRan}
-use Rattle.marks.specs.declared.PlanRan.{PlanRan}
-use Rattle.marks.specs.Code.Marks.{storesIn, stepsIn, runStateIn, IsMarks}
-use Rattle.marks.specs.Code.RunParts.{Holds, NoFault, JobsRanAs, JobsRanOf, PlanRanAs, PlanRanOf, leftoverFault}
-use Rattle.marks.specs.Laws.StoreLaws.{guesses-copied}
+use Rattle.plan_marks.specs.declared.Fault.{Fault}
+use Rattle.plan_marks.specs.declared.JobsRan.{JobsRan}
+use Rattle.plan_marks.specs.declared.PlanRan.{PlanRan}
+use Rattle.plan_marks.specs.Code.Marks.{storesIn, stepsIn, runStateIn, IsMarks}
+use Rattle.plan_marks.specs.Code.RunParts.{Holds, NoFault, JobsRanAs, JobsRanOf, PlanRanAs, PlanRanOf, leftoverFault}
+use Rattle.plan_marks.specs.Laws.StoreLaws.{guesses-copied}
 
 -- ---- the guesses copied: the first v bytes of them
 

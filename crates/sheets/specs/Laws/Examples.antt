@@ -6,8 +6,8 @@ use Rattle.notation.specs.Checked.{refused}
 use Rattle.matching.specs.Conversions as conversions
 use Rattle.order.specs.Laws.Opened.{ordersOpened}
 use Rattle.plan.specs.Laws.Opened.{plansOpened}
-use Rattle.samples.specs.Laws.Opened.{opened}
-use Rattle.samples.specs.Laws.Samples.{pair, pickUpTo, samplesOpened}
+use Rattle.examples.specs.Laws.Opened.{opened}
+use Rattle.examples.specs.Laws.Samples.{pair, pickUpTo, samplesOpened}
 use Rattle.walk.specs.Laws.Opened.{walksOpened}
 use Rattle.walk.specs.WalkEntry.{decided}
 use Rattle.walk.specs.Walks.{walk}

@@ -7,9 +7,9 @@ use mathlib.Core.Option.{Option, none, some}
 use Rattle.notation.specs.Checked.{refused, passed}
 use Rattle.timing.specs.Accepted.{Accepted}
 use Rattle.machine.specs.Ends.{End, noStore}
-use Rattle.samples.specs.Laws.Opened.{opened}
-use Rattle.samples.specs.Laws.Samples.{nest, pair, pickUpTo, idle, twice, apart, wait, sensor, samplesOpened}
-use Rattle.samples.specs.Laws.Samples.{twoSet, firstFailed}
+use Rattle.examples.specs.Laws.Opened.{opened}
+use Rattle.examples.specs.Laws.Samples.{nest, pair, pickUpTo, idle, twice, apart, wait, sensor, samplesOpened}
+use Rattle.examples.specs.Laws.Samples.{twoSet, firstFailed}
 use Rattle.order.specs.Laws.Opened.{ordersOpened}
 use Rattle.order.specs.Orders.{run}
 use Rattle.order.specs.States.{State, initial}

@@ -3,7 +3,7 @@
 -- Assumes nothing.
 use mathlib.Core.Path.{_∙_}
 use borrow.Author.Needs.{needs}
-use Rattle.lending.specs.Laws.LendLaws.{parts-lent}
+use Rattle.order_lending.specs.Laws.LendLaws.{parts-lent}
 use Rattle.plan_check.specs.Laws.PlanEntryLaws.{entry-refused, answers-fault, answers-ended}
 use Rattle.plan_check.proofs.entries.check_plan.Statement.{statement}
 use Rattle.plan_check.proofs.entries.check_plan.Tie as tie

@@ -1,2 +1,0 @@
-pub mod FlagLaws
-pub mod FlagsRead

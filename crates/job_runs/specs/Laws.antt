@@ -1,6 +1,0 @@
-pub mod ByteLaws
-pub mod FlagLaws
-pub mod JobLaws
-pub mod JobsLaws
-pub mod LentSteps
-pub mod StepLaws

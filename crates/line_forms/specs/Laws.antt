@@ -1,3 +1,0 @@
-pub mod FieldFitLaws
-pub mod FormNamedLaws
-pub mod RowOfLaws

@@ -1,2 +1,0 @@
-pub mod Overfull
-pub mod PartFields

@@ -1,2 +1,0 @@
-pub mod OverfullLaws
-pub mod PartFieldLaws

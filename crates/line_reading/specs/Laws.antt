@@ -1,3 +1,0 @@
-pub mod CappedLaws
-pub mod FormReadLaws
-pub mod NamedLineLaws

@@ -1,0 +1,5 @@
+pub mod EndLaws
+pub mod PartReads
+pub mod PartWrites
+pub mod PerformedLaws
+pub mod PlacedLaws

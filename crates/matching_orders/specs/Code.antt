@@ -1,0 +1,2 @@
+pub mod OrderWritten
+pub mod Rows

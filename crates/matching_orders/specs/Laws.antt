@@ -1,0 +1,4 @@
+pub mod EntryLaws
+pub mod RowLaws
+pub mod StepValueLaws
+pub mod WriteLaws

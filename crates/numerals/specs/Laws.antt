@@ -1,4 +1,0 @@
-pub mod DigitLaws
-pub mod NumeralsLaws
-pub mod PartEndLaws
-pub mod WordLaws

@@ -1,4 +1,0 @@
-pub mod OrderPlanEntryLaws
-pub mod PlanAgreed
-pub mod TraceAgreed
-pub mod TraceHeld

@@ -1,2 +1,0 @@
-// From an order to a plan: the order run once more with its rounds noted, the plan written; and the entry.
-pub mod entries;

@@ -1,0 +1,6 @@
+pub mod FlagLaws
+pub mod FlagsRead
+pub mod ReadLaws
+pub mod ReplayTableLaws
+pub mod SlipNumbers
+pub mod StepBytes

@@ -1,0 +1,17 @@
+pub mod FrameReads
+pub mod FrameWrites
+pub mod LentLaws
+pub mod ReplayEntryLaws
+pub mod ReplayLaws
+pub mod ReplayLoopLaws
+pub mod ShowLaws
+pub mod SnapshotLaws
+pub mod SnapshotWithinLaws
+pub mod StartAgreed
+pub mod StartLaws
+pub mod StateReads
+pub mod StateWrites
+pub mod StepPartLaws
+pub mod TurnAgreed
+pub mod TurnLaws
+pub mod WaitLaws

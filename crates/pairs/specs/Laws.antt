@@ -1,2 +1,0 @@
-pub mod PairAgreed
-pub mod PairLaws

@@ -1,4 +1,0 @@
-pub mod EndLaws
-pub mod PartReads
-pub mod PartWrites
-pub mod PerformedLaws

@@ -1,3 +1,0 @@
-pub mod EntryLaws
-pub mod StepValueLaws
-pub mod WriteLaws

@@ -1,0 +1,4 @@
+pub mod PairAgreed
+pub mod PairLaws
+pub mod RuleLaws
+pub mod StepLaws

@@ -1,0 +1,105 @@
+// One step of a plan's run: its two bytes checked, and what it does to its round's store.
+use machine::Effect;
+use machine::Local;
+use machine_locals::held::priority_of;
+use machine_locals::values::on_offer;
+use machine_performing::instructions::perform_instruction;
+use plan::Round;
+use plan_marks::Fault;
+use plan_marks::MARKS;
+use plan_marks::STORES;
+use plan_marks::rounds::put_mark;
+use plan_marks::rounds::put_store;
+use plan_marks::rounds::store_of;
+use taskfile::Ceilings;
+use taskfile::Instruction;
+use taskfile::numbers::ROUND;
+use taskfile::numbers::SHAPE;
+use taskfile::numbers::VALUE;
+use timing::Job;
+ghost use mathlib.Core.Path.{_≡_};
+ghost use Prim.Native.Nat.{_+_, _≤_, _<_};
+ghost use lib.ListN.{length, getD, take};
+ghost use Rattle.machine.specs.Code.Within.{LocksWithin};
+ghost use Rattle.machine.specs.Held.{priority};
+ghost use Rattle.machine.specs.Instructions.{perform};
+ghost use Rattle.plan.specs.Runs.{roundAt};
+ghost use Rattle.plan_marks.specs.Code.Marks.{faultOf, storeAt, withStore, withMark};
+ghost use Rattle.plan.specs.Runs.{stepBytesFor};
+
+// The fault of the step whose bytes are at an offset, for its instruction and the round of the job's previous step: 40,
+// 42 or 41.
+pub fn step_fault(plan: &[u8], k: u8, i: Instruction, previous: Round, offset: usize) -> Fault
+    requires { ⌜ offset ≤ 1281 ⌝ }
+    ensures { λ r. ⌜ r ≡ faultOf (stepBytesFor k i (now (plan .entry)) previous offset) ⌝ }
+{
+    if plan.len() <= offset + 1 {
+        return Fault {
+            number: SHAPE,
+            place: plan.len() as u32,
+        };
+    }
+    let round = plan[offset];
+    if k <= round {
+        return Fault {
+            number: ROUND,
+            place: offset as u32,
+        };
+    }
+    if round < previous.0 {
+        return Fault {
+            number: ROUND,
+            place: offset as u32,
+        };
+    }
+    if !on_offer(i, plan[offset + 1]) {
+        return Fault {
+            number: VALUE,
+            place: (offset + 1) as u32,
+        };
+    }
+    Fault {
+        number: 0,
+        place: 0,
+    }
+}
+
+// Makes the step whose bytes are at an offset, the step n of job x, whose base is this: its instruction on its round's
+// store.
+pub fn make_step(
+    plan: &[u8],
+    offset: usize,
+    i: Instruction,
+    locks: Ceilings,
+    base: u8,
+    x: Job,
+    n: u8,
+    local: Local,
+    stores: &mut [u8; STORES],
+    marks: &mut [u8; MARKS],
+) -> Effect
+    requires bytes { ⌜ (offset + 1 < length (now plan)) × (roundAt (now plan) offset .0 < 32) ⌝ }
+    requires bounds { ⌜ (locks .count ≤ 8) × (x .0 < 32) × (n < 16) × (local .next < 16) × LocksWithin local ⌝ }
+    requires arrays { ⌜ (length (now stores) ≡ 256) × (length (now marks) ≡ 1568) ⌝ }
+    ensures effect { λ e. ⌜ e ≡ perform i (getD (now (plan .entry)) (offset + 1) 0) local
+        (storeAt (now (stores .entry)) (roundAt (now (plan .entry)) offset .0)) ⌝ }
+    ensures stores { λ e. ⌜ now (stores .exit)
+        ≡ withStore (now (stores .entry)) (roundAt (now (plan .entry)) offset .0) (e .store) ⌝ }
+    ensures marks { λ e. ⌜ now (marks .exit) ≡ withMark (now (marks .entry)) (x .0) n (record {
+      round = roundAt (now (plan .entry)) offset;
+      value = getD (now (plan .entry)) (offset + 1) 0;
+      priorityAfter = priority (take (locks .count) (locks .ceilings)) base (e .local .held);
+    }) ⌝ }
+{
+    let r = Round(plan[offset]);
+    let value = plan[offset + 1];
+    let effect = perform_instruction(i, value, local, store_of(stores, r));
+    let store = effect.store;
+    put_store(stores, r, store);
+    let own = effect.local;
+    let held = own.held;
+    let ceilings = locks.ceilings;
+    let priority = priority_of(ceilings, locks.count, base, held);
+    put_mark(marks, x, n, r, value, priority);
+    effect
+}

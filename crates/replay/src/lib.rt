@@ -1,2 +1,0 @@
-// The replay of an order of a file: the entry.
-pub mod entries;

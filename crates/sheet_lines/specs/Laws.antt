@@ -1,4 +1,0 @@
-pub mod FindingLaws
-pub mod PlanMarks
-pub mod SheetLaws
-pub mod TaskLines

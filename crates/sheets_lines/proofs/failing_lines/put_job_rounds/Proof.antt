@@ -1,0 +1,110 @@
+-- `sheets_lines::failing_lines::put_job_rounds` meets its contract. The loop's invariant: the first n rounds are written. The measure
+-- is the number of steps left.
+-- Assumes nothing.
+use Prim.Native.Nat.{_-_, _≤_}
+use native.Mathlib.Omega.{arith}
+use lib.ListN.{length}
+use borrow.Author.Needs.{needs}
+use Rattle.notation_buffers.specs.Laws.WritingLaws.{appends-length}
+use Rattle.sheets.specs.Texts.{jobWord, roundsWord}
+use Rattle.sheets_printing.specs.Code.Spaced.{spacedNumbers}
+use Rattle.sheets_printing.specs.Laws.LineLaws.{PutsText, puts-enough}
+use Rattle.sheets_lines.specs.Laws.FailingLines.{roundsTo, job-rounds-none}
+use Rattle.sheets_lines.specs.Laws.FailingLines.{job-rounds-more, job-rounds-put}
+use Rattle.sheets_lines.proofs.failing_lines.put_job_rounds.Statement.{statement}
+use Rattle.sheets_lines.proofs.failing_lines.put_job_rounds.Tie as tie
+
+abbrev Inv-loop : tie.InvT-loop
+Inv-loop marks x at out₀ word first next₀ count n₀ out next n =
+    (4608 ≤ length out) × (n ≤ count) × PutsText out₀ next₀ (spacedNumbers (roundsTo marks (x .0) n)) out next
+
+abbrev μ-loop : tie.MeasureT-loop
+μ-loop marks x at out₀ word first next₀ count n₀ out next n = count - n
+
+slice-aggregate-put-word : tie.Need-slice-aggregate-put-word Inv-loop μ-loop
+slice-aggregate-put-word c = search needs
+
+put-word-requires : tie.Need-put-word-requires Inv-loop μ-loop
+put-word-requires c κs = search needs
+
+then-byte-requires : tie.Need-then-byte-requires Inv-loop μ-loop
+then-byte-requires c κs = puts-enough (c .before .before .before .before .before .before .before .pre .2) (c .before .before .before .put-word .ensures)
+
+slice-aggregate-then-word : tie.Need-slice-aggregate-then-word Inv-loop μ-loop
+slice-aggregate-then-word c = search needs
+
+then-word-requires : tie.Need-then-word-requires Inv-loop μ-loop
+then-word-requires c κs = puts-enough (puts-enough (c .before .before .before .before .before .before .before .before .before .before .before .before .pre .2) (c .before .before .before .before .before .before .before .before .put-word .ensures)) (c .before .before .before .before .then-byte .ensures)
+
+count-at-requires : tie.Need-count-at-requires Inv-loop μ-loop
+count-at-requires c κs = search needs
+
+loop-holds : tie.Need-loop-holds Inv-loop μ-loop
+loop-holds c =
+    let enough = puts-enough (puts-enough (puts-enough (c .before .before .before .before .before .before .before .before .before .before .before .before .before .before .before .before .pre .2) (c .before .before .before .before .before .before .before .before .before .before .before .before .put-word .ensures)) (c .before .before .before .before .before .before .before .before .then-byte .ensures)) (c .before .before .before .then-word .ensures) in
+    (enough, omega arith, job-rounds-none _ _ _ _)
+
+round-at-requires : tie.Need-round-at-requires Inv-loop μ-loop
+round-at-requires c κs =
+    let start = c .before .before .before .before .before .before .before .before .before .before .before .before .before .before .before .before .before .before .pre in
+    (start .1, omega (arith, c .before .before .count-at .ensures, start .0 .few _ (start .1)))
+
+then-byte-requires-2 : tie.Need-then-byte-requires-2 Inv-loop μ-loop
+then-byte-requires-2 c κs = c .before .before .before .loop .inv .0
+
+add-n : tie.Need-add-n Inv-loop μ-loop
+add-n c = search needs
+
+loop-less : tie.Need-loop-less Inv-loop μ-loop
+loop-less c = search needs
+
+loop-again : tie.Need-loop-again Inv-loop μ-loop
+loop-again c =
+    let at = c .before .before .before .before .before .before in
+    let enough = puts-enough (puts-enough (puts-enough (c .before .before .before .before .before .before .before .before .before .before .before .before .before .before .before .before .before .before .before .before .before .before .before .pre .2) (c .before .before .before .before .before .before .before .before .before .before .before .before .before .before .before .before .before .before .before .put-word .ensures)) (c .before .before .before .before .before .before .before .before .before .before .before .before .before .before .before .then-byte .ensures)) (c .before .before .before .before .before .before .before .before .before .before .then-word .ensures) in
+    let written = c .before .before .then-byte2 .ensures in (
+      puts-enough (at .loop .inv .0) written,
+      omega arith,
+      job-rounds-more _ _ _ enough (c .before .before .before .before .round-at .ensures) (at .loop .inv .2) written,
+    )
+
+end-line-requires : tie.Need-end-line-requires Inv-loop μ-loop
+end-line-requires c κs = c .before .before .loop .inv .0
+
+returns : tie.Need-returns Inv-loop μ-loop
+unfolding jobWord roundsWord
+returns c =
+    let left = c .before .before .before .before .before in
+    job-rounds-put _ _ _ _
+    (c .before .before .before .before .before .before .before .before .before .before .before .before .before .before .before .before .before .before .before .before .before .before .pre .2)
+    (c .before .before .before .before .before .before .count-at .ensures) (left .loop .inv .1)
+    (c .before .before .before .before .loop-test .left)
+    (c .before .before .before .before .before .before .before .before .before .before .before .before .before .before .before .before .before .before .put-word .ensures)
+    (c .before .before .before .before .before .before .before .before .before .before .before .before .before .before .then-byte .ensures)
+    (c .before .before .before .before .before .before .before .before .before .then-word .ensures)
+    (left .loop .inv .2) (c .before .before .end-line .ensures)
+
+same-length : tie.Need-same-length Inv-loop μ-loop
+same-length c = appends-length (returns c) (c .before .before .before .before .before .before .before .before .before .before .before .before .before .before .before .before .before .before .before .before .before .before .pre .2)
+
+pub put-job-rounds-spec : {M : Type 1} → statement M
+put-job-rounds-spec =
+    tie.close
+    (tie.spec
+    Inv-loop
+    μ-loop
+    slice-aggregate-put-word
+    put-word-requires
+    then-byte-requires
+    slice-aggregate-then-word
+    then-word-requires
+    count-at-requires
+    loop-holds
+    round-at-requires
+    then-byte-requires-2
+    add-n
+    loop-less
+    loop-again
+    end-line-requires
+    same-length
+    returns)

@@ -1,0 +1,5 @@
+pub mod FailingLines
+pub mod FindingLaws
+pub mod PlanMarks
+pub mod SheetLaws
+pub mod TaskLines

@@ -1,6 +1,0 @@
-pub mod Lent
-pub mod ReplayParts
-pub mod Shows
-pub mod SnapshotSteps
-pub mod SnapshotWithin
-pub mod Snapshots

@@ -1,4 +1,0 @@
-pub mod FrameReads
-pub mod FrameWrites
-pub mod StateReads
-pub mod StateWrites

@@ -1,2 +1,0 @@
-pub mod LineAnswerLaws
-pub mod TextReadLaws

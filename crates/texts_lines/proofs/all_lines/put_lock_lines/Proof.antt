@@ -1,0 +1,90 @@
+-- `texts_lines::all_lines::put_lock_lines` meets its contract. The loop's invariant: the lines of the first l locks are written.
+-- The measure is the number of locks left.
+-- Assumes nothing.
+use mathlib.Core.Path.{_≡_}
+use Prim.Native.Nat.{_-_, _≤_, _<_}
+use native.Mathlib.Omega.{arith}
+use lib.ListN.{length}
+use borrow.Author.Needs.{needs}
+use Rattle.notation_buffers.specs.Laws.WritingLaws.{appends-length}
+use Rattle.writer.specs.Claims.{noLock}
+use Rattle.writer.specs.Laws.FitsLaws.{table-fits}
+use Rattle.texts.specs.Grammar.{lineText}
+use Rattle.texts.specs.TextTables.{lockLine}
+use Rattle.sheets_printing.specs.Laws.LineLaws.{PutsText, puts-enough}
+use Rattle.sheets_printing.specs.Laws.SpacedLaws.{partsTo, listed-none, listed-more, listed-whole}
+use Rattle.texts_lines.specs.Laws.TextLineLaws.{heldLocks, locks-many, locks-element, lines-put}
+use Rattle.texts_lines.proofs.all_lines.put_lock_lines.Statement.{statement}
+use Rattle.texts_lines.proofs.all_lines.put_lock_lines.Tie as tie
+
+abbrev Inv-loop : tie.InvT-loop
+Inv-loop t at out₀ count next₀ l₀ out next l =
+    (4608 ≤ length out) × (l ≤ count)
+    × PutsText out₀ at (partsTo (λ lock. lineText (lockLine lock)) (heldLocks t) l) out next
+
+abbrev μ-loop : tie.MeasureT-loop
+μ-loop t at out₀ count next₀ l₀ out next l = count - l
+
+-- how many there are
+counted : (c : tie.After-held-count Inv-loop μ-loop)
+    → c .held-count .result ≡ length (heldLocks (c .before .before .args .t))
+counted c =
+    let start = c .before .before in
+    locks-many (start .args .t) (table-fits (start .args .t) _ (start .good .0)) (c .held-count .ensures)
+
+held-count-requires : tie.Need-held-count-requires Inv-loop μ-loop
+held-count-requires c κs = search needs
+
+loop-holds : tie.Need-loop-holds Inv-loop μ-loop
+loop-holds c = (c .before .before .pre, omega arith, listed-none _ _ _ _)
+
+lock-of-requires : tie.Need-lock-of-requires Inv-loop μ-loop
+lock-of-requires c κs = search needs
+
+put-lock-line-requires : tie.Need-put-lock-line-requires Inv-loop μ-loop
+put-lock-line-requires c κs = c .before .before .before .loop .inv .0
+
+add-l : tie.Need-add-l Inv-loop μ-loop
+add-l c = search needs
+
+loop-less : tie.Need-loop-less Inv-loop μ-loop
+loop-less c = search needs
+
+loop-again : tie.Need-loop-again Inv-loop μ-loop
+loop-again c =
+    let put = c .before .before in
+    let found = put .before .before in
+    let at = found .before .before in
+    let start = at .before .before .before in
+    let inside : at .loop .l < length (heldLocks (start .args .t)) = omega (arith, counted (at .before)) in
+    let written = put .put-lock-line .ensures in (
+      puts-enough (at .loop .inv .0) written,
+      omega arith,
+      listed-more _ _ (at .loop .l) noLock (start .pre) inside
+          (locks-element _ (at .loop .l) (found .lock-of .ensures) inside) (at .loop .inv .2) written,
+    )
+
+same-length : tie.Need-same-length Inv-loop μ-loop
+same-length c = appends-length (c .before .loop .inv .2) (c .before .before .before .before .pre)
+
+returns : tie.Need-returns Inv-loop μ-loop
+unfolding heldLocks
+returns c =
+    lines-put _ _
+    (listed-whole _ _ (c .before .loop .l) (omega (arith, counted (c .before .before))) (c .before .loop .inv .2))
+
+pub put-lock-lines-spec : {M : Type 1} → statement M
+put-lock-lines-spec =
+    tie.close
+    (tie.spec
+    Inv-loop
+    μ-loop
+    held-count-requires
+    loop-holds
+    lock-of-requires
+    put-lock-line-requires
+    add-l
+    loop-less
+    loop-again
+    same-length
+    returns)

@@ -1,0 +1,2 @@
+pub mod LineTextLaws
+pub mod TextLineLaws

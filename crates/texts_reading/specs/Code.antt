@@ -1,0 +1,3 @@
+pub mod FormParts
+pub mod FormReading
+pub mod NumeralParts

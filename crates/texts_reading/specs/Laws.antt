@@ -1,0 +1,10 @@
+pub mod CappedLaws
+pub mod DigitLaws
+pub mod FieldFitLaws
+pub mod FormNamedLaws
+pub mod FormReadLaws
+pub mod NamedLineLaws
+pub mod NumeralsLaws
+pub mod PartEndLaws
+pub mod RowOfLaws
+pub mod WordLaws

@@ -1,0 +1,199 @@
+// The forms of a line: which one a word names, at which stages it may come, how many numbers it has, and how large.
+use crate::numerals::is_word;
+use taskfile::limits::MOST_OPERATIONS;
+use taskfile::limits::OPERATIONS;
+use taskfile::operations;
+use texts::Form;
+use texts::NUMBERS;
+use texts::Named;
+ghost use mathlib.Core.Path.{_≡_};
+ghost use Prim.Native.Nat.{_<_};
+ghost use lib.ListN.{length, getD, take};
+ghost use Rattle.notation.specs.Lists.{same};
+ghost use Rattle.texts.specs.Grammar.{rowOf, mayCome, fits};
+ghost use Rattle.texts.specs.Reading.{formNamed};
+ghost use Rattle.texts.specs.Code.LineParts.{namedOf};
+ghost use Rattle.texts_reading.specs.Code.FormParts.{operationNamed};
+
+// How far a text has come: the window is due; the start values are due; a task or a lock may come; after a task line,
+// an instruction too; after a lock, locks alone.
+pub const AT_WINDOW: u8 = 0;
+
+pub const AT_START: u8 = 1;
+
+pub const AT_TASKS: u8 = 2;
+
+pub const IN_BODY: u8 = 3;
+
+pub const AT_LOCKS: u8 = 4;
+
+// How many fields a line has.
+const WINDOW_FIELDS: usize = 1;
+
+const TASK_FIELDS: usize = 3;
+
+const LOCK_FIELDS: usize = 2;
+
+// The same of each operation's line.
+const OPERATION_FIELDS: [usize; OPERATIONS] = [0, 2, 2, 2, 2, 2, 3, 3, 3, 1, 1, 1];
+
+// A field holds numbers below its limit: a byte, or 32 bits.
+const BYTE_FIELD: u64 = 256;
+
+const WIDE_FIELD: u64 = 4294967296;
+
+// Is a word the name of an operation? The name is that of End past the operations.
+fn is_operation(word: &[u8], operation: u8) -> bool
+    ensures { λ b. ⌜ b ≡ same (rowOf (Form.InstructionLine operation) .word) (now (word .entry)) ⌝ }
+{
+    match operation {
+        operations::LOAD => is_word(word, b"load"),
+        operations::STORE => is_word(word, b"store"),
+        operations::SET => is_word(word, b"set"),
+        operations::ADD => is_word(word, b"add"),
+        operations::SUBTRACT => is_word(word, b"subtract"),
+        operations::SKIP_LESS => is_word(word, b"less"),
+        operations::SKIP_EQUAL => is_word(word, b"equal"),
+        operations::PICK => is_word(word, b"pick"),
+        operations::ACQUIRE => is_word(word, b"acquire"),
+        operations::RELEASE => is_word(word, b"release"),
+        operations::ASSERT => is_word(word, b"assert"),
+        _ => is_word(word, b"end"),
+    }
+}
+
+// The form of an instruction by its name.
+fn operation_named(word: &[u8]) -> Named
+    ensures { λ x. ⌜ x ≡ namedOf (operationNamed (now (word .entry))) ⌝ }
+{
+    let mut operation: u8 = 0;
+    while operation < MOST_OPERATIONS {
+        if is_operation(word, operation) {
+            return Named::As(Form::InstructionLine(operation));
+        }
+        operation += 1;
+    }
+    Named::Unknown
+}
+
+// The form whose lines begin with a word.
+pub fn form_named(word: &[u8]) -> Named
+    ensures { λ x. ⌜ x ≡ namedOf (formNamed (now (word .entry))) ⌝ }
+{
+    if is_word(word, b"window") {
+        return Named::As(Form::WindowLine);
+    }
+    if is_word(word, b"start") {
+        return Named::As(Form::StartLine);
+    }
+    if is_word(word, b"task") {
+        return Named::As(Form::TaskLine);
+    }
+    if is_word(word, b"lock") {
+        return Named::As(Form::LockLine);
+    }
+    operation_named(word)
+}
+
+// How many fields an operation's line has.
+fn operation_fields(operation: u8) -> usize
+    ensures { λ n. ⌜ n ≡ length (rowOf (Form.InstructionLine operation) .fields) ⌝ }
+{
+    let o = operation as usize;
+    if o < OPERATIONS {
+        OPERATION_FIELDS[o]
+    } else {
+        0
+    }
+}
+
+// How many fields a line of a form has.
+pub fn field_count(form: Form) -> usize
+    ensures { λ n. ⌜ n ≡ length (rowOf form .fields) ⌝ }
+{
+    match form {
+        Form::WindowLine => WINDOW_FIELDS,
+        Form::StartLine => NUMBERS,
+        Form::TaskLine => TASK_FIELDS,
+        Form::InstructionLine(operation) => operation_fields(operation),
+        Form::LockLine => LOCK_FIELDS,
+    }
+}
+
+// The first stage at which a line of a form may come.
+fn earliest(form: Form) -> u8
+    ensures { λ n. ⌜ n ≡ rowOf form .earliest ⌝ }
+{
+    match form {
+        Form::WindowLine => AT_WINDOW,
+        Form::StartLine => AT_START,
+        Form::TaskLine => AT_TASKS,
+        Form::InstructionLine(_) => IN_BODY,
+        Form::LockLine => AT_TASKS,
+    }
+}
+
+// The last stage at which a line of a form may come.
+fn latest(form: Form) -> u8
+    ensures { λ n. ⌜ n ≡ rowOf form .latest ⌝ }
+{
+    match form {
+        Form::WindowLine => AT_WINDOW,
+        Form::StartLine => AT_START,
+        Form::TaskLine => IN_BODY,
+        Form::InstructionLine(_) => IN_BODY,
+        Form::LockLine => AT_LOCKS,
+    }
+}
+
+// May a line of a form come at this stage?
+pub fn may_come(form: Form, stage: u8) -> bool
+    ensures { λ b. ⌜ b ≡ mayCome stage (rowOf form) ⌝ }
+{
+    if stage < earliest(form) {
+        return false;
+    }
+    stage <= latest(form)
+}
+
+// The stage after a line of a form.
+pub fn stage_after(form: Form) -> u8
+    ensures { λ n. ⌜ n ≡ rowOf form .stage ⌝ }
+{
+    match form {
+        Form::WindowLine => AT_START,
+        Form::StartLine => AT_TASKS,
+        Form::TaskLine => IN_BODY,
+        Form::InstructionLine(_) => IN_BODY,
+        Form::LockLine => AT_LOCKS,
+    }
+}
+
+// The limit of field k of a form.
+fn field_limit(form: Form, k: usize) -> u64
+    requires { ⌜ k < length (rowOf form .fields) ⌝ }
+    ensures { λ n. ⌜ n ≡ getD (rowOf form .fields) k 0 ⌝ }
+{
+    match form {
+        Form::WindowLine => WIDE_FIELD,
+        Form::StartLine => BYTE_FIELD,
+        Form::TaskLine => WIDE_FIELD,
+        Form::InstructionLine(_) => BYTE_FIELD,
+        Form::LockLine => { if k == 0 { BYTE_FIELD } else { WIDE_FIELD } }
+    }
+}
+
+// Do the first numbers, one for each field of a form, fit the fields?
+pub fn numbers_fit(form: Form, values: [u64; NUMBERS]) -> bool
+    ensures { λ b. ⌜ b ≡ fits (rowOf form .fields) (take (length (rowOf form .fields)) values) ⌝ }
+{
+    let count = field_count(form);
+    let mut k: usize = 0;
+    while k < count {
+        if field_limit(form, k) <= values[k] {
+            return false;
+        }
+        k += 1;
+    }
+    true
+}

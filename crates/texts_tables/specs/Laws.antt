@@ -1,0 +1,4 @@
+pub mod LineAnswerLaws
+pub mod OverfullLaws
+pub mod PartFieldLaws
+pub mod TextReadLaws

@@ -1,0 +1,3 @@
+pub mod FilledLaws
+pub mod ListedLaws
+pub mod ReadLaws

@@ -1,4 +1,0 @@
-pub mod AnswerLaws
-pub mod TrialLaws
-pub mod TryingLaws
-pub mod WalkStateLaws

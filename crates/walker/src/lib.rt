@@ -1,2 +1,0 @@
-// The walk of all orders of a file: the entry.
-pub mod entries;

@@ -1,0 +1,2 @@
+pub mod ClaimedParts
+pub mod Layouts

@@ -1,0 +1,4 @@
+pub mod CountedLaws
+pub mod LayingLaws
+pub mod RecordBytes
+pub mod WideLaws

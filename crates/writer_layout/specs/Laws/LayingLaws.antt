@@ -1,0 +1,187 @@
+-- Laws of a table's layout as it is written: a part of it, and what is left to write; a body, the tasks, the locks.
+-- Assumes nothing.
+use mathlib.Core.Path.{_≡_, refl, sym, ap, _∙_}
+use Prim.Native.Nat.{ℕ, suc, _+_, _≤_}
+use native.Mathlib.Omega.{arith}
+use native.Mathlib.Numerals.{add-one}
+use mathlib.Core.List.{List, [], _∷_, _++_, append-assoc, append-nil}
+use lib.ListN.{length, drop, drop-of-length-le}
+use Rattle.taskfile.specs.declared.Instruction.{Instruction}
+use Rattle.taskfile.specs.declared.Table.{Table}
+use Rattle.taskfile.specs.declared.TaskEntry.{TaskEntry}
+use Rattle.writer.specs.declared.Lock.{Lock}
+use Rattle.writer.specs.Claims.{claimedTasks, claimedBody, claimedLocks, recordTotal, locksAt}
+use Rattle.writer.specs.Layout.{linkTo, instructionRecord, bodyRecords, taskRecord, afterTask, taskRecords}
+use Rattle.writer.specs.Layout.{lockRecord, lockRecords, headerRecord, layout}
+use Rattle.notation_buffers.specs.Laws.WritingLaws.{appends-none, appends-more, appends-length}
+use Rattle.writer_layout.specs.Laws.RecordBytes.{Lays, lays-same}
+use Rattle.writer_layout.specs.Code.ClaimedParts.{linkAt}
+use Rattle.writer_layout.specs.Laws.CountedLaws.{link-from}
+use Rattle.writer_layout.specs.Code.Layouts.{taskPart}
+
+-- ---- a part is written, and the rest is left
+
+-- of the bytes `whole`, those before `rest` were written
+pub record Laying (before : List ℕ) (at : ℕ) (whole now : List ℕ) (next : ℕ) (rest : List ℕ) : Type 0 where
+  pub done : List ℕ
+  pub is : Lays before at done now next
+  pub joins : done ++ rest ≡ whole
+
+pub laying-whole : (before : List ℕ) (at : ℕ) {whole rest : List ℕ} → rest ≡ whole
+    → Laying before at whole before at rest
+laying-whole before at e = record { done = []; is = appends-none 2752 before at; joins = e }
+
+pub laying-more : {before : List ℕ} {at : ℕ} {whole now : List ℕ} {next : ℕ} {rest part left after : List ℕ} {n : ℕ}
+    → 2752 ≤ length before → rest ≡ part ++ left → Laying before at whole now next rest → Lays now next part after n
+    → Laying before at whole after n left
+laying-more {part = part} {left} enough split laying more =
+    record {
+      done = laying .done ++ part;
+      is = appends-more enough (laying .is) more;
+      joins =
+          append-assoc (laying .done) part left
+          ∙ ap (λ (l : List ℕ). laying .done ++ l) (sym split)
+          ∙ laying .joins;
+    }
+
+pub laying-all : {before : List ℕ} {at : ℕ} {whole now : List ℕ} {next : ℕ} {rest : List ℕ} → rest ≡ []
+    → Laying before at whole now next rest → Lays before at whole now next
+laying-all none laying =
+    lays-same
+    (sym (append-nil (laying .done)) ∙ ap (λ (l : List ℕ). laying .done ++ l) (sym none) ∙ laying .joins)
+    (laying .is)
+
+pub laying-length : {before : List ℕ} {at : ℕ} {whole now : List ℕ} {next : ℕ} {rest : List ℕ}
+    → Laying before at whole now next rest → 2752 ≤ length before → length now ≡ length before
+laying-length laying enough = appends-length (laying .is) enough
+
+-- the index of the next record, and the number of the next part
+after-suc : (r p : ℕ) → r + p + 1 ≡ suc (r + p)
+after-suc r p = add-one (r + p)
+
+-- the link to what comes after part p
+link-after : {A : Type 0} (r p : ℕ) (xs : List A) {count link : ℕ} → count ≡ length xs → link ≡ linkAt r (p + 1) count
+    → link ≡ linkTo r (drop (suc p) xs)
+link-after r p xs counted is =
+    is ∙ ap (linkAt r (p + 1)) counted ∙ sym (link-from r (p + 1) xs) ∙ ap (λ (k : ℕ). linkTo r (drop k xs)) (add-one p)
+
+-- ---- a body
+
+-- the records of a body from position p on, where the body's first is at index r
+unfoldable pub bodyLeft : ℕ → List Instruction → ℕ → List ℕ
+bodyLeft r body p = bodyRecords (r + p) (drop p body)
+
+pub body-left-whole : (r : ℕ) (body : List Instruction) → bodyLeft r body 0 ≡ bodyRecords r body
+unfolding bodyLeft
+body-left-whole r body = let same : r + 0 ≡ r = omega arith in ap (λ (k : ℕ). bodyRecords k body) same
+
+pub body-left-more : (r : ℕ) (body : List Instruction) (p : ℕ) {i : Instruction} {count link : ℕ}
+    → drop p body ≡ i ∷ drop (suc p) body → count ≡ length body → link ≡ linkAt (r + p + 1) (p + 1) count
+    → bodyLeft r body p ≡ instructionRecord i link ++ bodyLeft r body (p + 1)
+unfolding bodyLeft bodyRecords
+body-left-more r body p {i} {link = link} here counted linked =
+    let index : r + p + 1 ≡ suc (r + p) = after-suc r p in
+    let same : link ≡ linkTo (suc (r + p)) (drop (suc p) body) =
+    link-after (r + p + 1) p body counted linked ∙ ap (λ (k : ℕ). linkTo k (drop (suc p) body)) index in
+    let later : suc (r + p) ≡ r + (p + 1) = omega arith in
+    ap (bodyRecords (r + p)) here
+    ∙ (λ j. instructionRecord i (sym same j) ++ bodyRecords (later j) (drop (sym (add-one p) j) body))
+
+pub body-left-none : (r : ℕ) (body : List Instruction) (p : ℕ) → length body ≤ p → bodyLeft r body p ≡ []
+unfolding bodyLeft bodyRecords
+body-left-none r body p all = ap (bodyRecords (r + p)) (drop-of-length-le body all)
+
+-- ---- the locks
+
+-- the records of the locks from lock l on, where the first is at index r
+unfoldable pub locksLeft : ℕ → List Lock → ℕ → List ℕ
+locksLeft r locks l = lockRecords (r + l) (drop l locks)
+
+pub locks-left-whole : (r : ℕ) (locks : List Lock) → locksLeft r locks 0 ≡ lockRecords r locks
+unfolding locksLeft
+locks-left-whole r locks = let same : r + 0 ≡ r = omega arith in ap (λ (k : ℕ). lockRecords k locks) same
+
+pub locks-left-more : (r : ℕ) (locks : List Lock) (l : ℕ) {lock : Lock} {count link : ℕ}
+    → drop l locks ≡ lock ∷ drop (suc l) locks → count ≡ length locks
+    → link ≡ linkAt (r + l + 1) (l + 1) count
+    → locksLeft r locks l ≡ lockRecord lock link ++ locksLeft r locks (l + 1)
+unfolding locksLeft lockRecords
+locks-left-more r locks l {lock} {link = link} here counted linked =
+    let index : r + l + 1 ≡ suc (r + l) = after-suc r l in
+    let same : link ≡ linkTo (suc (r + l)) (drop (suc l) locks) =
+    link-after (r + l + 1) l locks counted linked ∙ ap (λ (k : ℕ). linkTo k (drop (suc l) locks)) index in
+    let later : suc (r + l) ≡ r + (l + 1) = omega arith in
+    ap (lockRecords (r + l)) here
+    ∙ (λ j. lockRecord lock (sym same j) ++ lockRecords (later j) (drop (sym (add-one l) j) locks))
+
+pub locks-left-none : (r : ℕ) (locks : List Lock) (l : ℕ) → length locks ≤ l → locksLeft r locks l ≡ []
+unfolding locksLeft lockRecords
+locks-left-none r locks l all = ap (lockRecords (r + l)) (drop-of-length-le locks all)
+
+-- ---- the tasks
+
+-- the records of the tasks from task i on, which is at index r
+unfoldable pub tasksLeft : List TaskEntry → ℕ → ℕ → List ℕ
+tasksLeft tasks r i = taskRecords r (drop i tasks)
+
+pub tasks-left-whole : (tasks : List TaskEntry) → tasksLeft tasks 1 0 ≡ taskRecords 1 tasks
+unfolding tasksLeft
+tasks-left-whole tasks = refl
+
+pub tasks-left-more : (tasks : List TaskEntry) (r i : ℕ) {e : TaskEntry} {many count after link : ℕ}
+    → drop i tasks ≡ e ∷ drop (suc i) tasks → count ≡ length (claimedBody e) → after ≡ r + 1 + count
+    → many ≡ length tasks → link ≡ linkAt after (i + 1) many
+    → tasksLeft tasks r i ≡ taskPart e r link ++ tasksLeft tasks after (i + 1)
+unfolding tasksLeft taskRecords taskPart afterTask
+tasks-left-more tasks r i {e} {count = count} {after} {link} here counted is all linked =
+    let index : suc r + length (claimedBody e) ≡ after = omega arith in
+    let same : link ≡ linkTo after (drop (suc i) tasks) = link-after after i tasks all linked in
+    let body = claimedBody e in
+    ap (taskRecords r) here
+    ∙ ap
+    (λ (k : ℕ). taskRecord e (linkTo k (drop (suc i) tasks)) (linkTo (suc r) body) ++ bodyRecords (suc r) body
+    ++ taskRecords k (drop (suc i) tasks)) index
+    ∙ (λ j. taskRecord e (sym same j) (linkTo (suc r) body) ++ bodyRecords (suc r) body
+    ++ taskRecords after (drop (sym (add-one i) j) tasks))
+
+pub tasks-left-none : (tasks : List TaskEntry) (r i : ℕ) → length tasks ≤ i → tasksLeft tasks r i ≡ []
+unfolding tasksLeft taskRecords
+tasks-left-none tasks r i all = ap (taskRecords r) (drop-of-length-le tasks all)
+
+-- ---- a task's part, and the whole layout
+
+pub task-laid : (e : TaskEntry) (r link : ℕ) {count first : ℕ} {before : List ℕ} {at : ℕ} {mid : List ℕ} {m : ℕ}
+    {after : List ℕ} {n : ℕ} → 2752 ≤ length before → count ≡ length (claimedBody e) → first ≡ linkAt (r + 1) 0 count
+    → Lays before at (taskRecord e link first) mid m → Lays mid m (bodyRecords (r + 1) (claimedBody e)) after n
+    → Lays before at (taskPart e r link) after n
+unfolding taskPart
+task-laid e r link {count} {first} enough counted linked one two =
+    let body = claimedBody e in
+    let same : first ≡ linkTo (r + 1) body =
+    linked ∙ ap (linkAt (r + 1) 0) counted ∙ sym (link-from (r + 1) 0 body) in
+    lays-same
+    (ap (λ (k : ℕ). taskRecord e link k ++ bodyRecords (r + 1) body) same
+    ∙ ap (λ (k : ℕ). taskRecord e link (linkTo k body) ++ bodyRecords k body) (add-one r)) (appends-more enough one two)
+
+pub layout-laid : (t : Table) {total tasks locks task lock : ℕ} {before mid : List ℕ} {m : ℕ} {later : List ℕ} {k : ℕ}
+    {after : List ℕ} {n : ℕ} → 2752 ≤ length before → total ≡ recordTotal (claimedTasks t)
+    → tasks ≡ length (claimedTasks t) → locks ≡ length (claimedLocks t)
+    → task ≡ linkAt 1 0 tasks → lock ≡ linkAt (1 + total) 0 locks
+    → Lays before 0 (headerRecord t task lock) mid m → Lays mid m (taskRecords 1 (claimedTasks t)) later k
+    → Lays later k (lockRecords (1 + total) (claimedLocks t)) after n → Lays before 0 (layout t) after n
+unfolding layout locksAt
+layout-laid t {total} {tasks} {locks} {task} {lock} enough counted many few to-task to-lock one two three =
+    let first : task ≡ linkTo 1 (claimedTasks t) =
+    to-task ∙ ap (linkAt 1 0) many ∙ sym (link-from 1 0 (claimedTasks t)) in
+    let second : lock ≡ linkTo (1 + total) (claimedLocks t) =
+    to-lock ∙ ap (linkAt (1 + total) 0) few ∙ sym (link-from (1 + total) 0 (claimedLocks t)) in
+    let index : 1 + total ≡ suc (recordTotal (claimedTasks t)) = omega arith in
+    let tasks-part = taskRecords 1 (claimedTasks t) in
+    let to : ℕ = linkTo 1 (claimedTasks t) in
+    let named : headerRecord t task lock ≡ headerRecord t to (linkTo (1 + total) (claimedLocks t)) =
+    λ j. headerRecord t (first j) (second j) in
+    lays-same
+    (ap (λ (l : List ℕ). l ++ tasks-part ++ lockRecords (1 + total) (claimedLocks t)) named
+    ∙ ap
+    (λ (k : ℕ). headerRecord t to (linkTo k (claimedLocks t)) ++ tasks-part ++ lockRecords k (claimedLocks t))
+    index) (appends-more enough (appends-more enough one two) three)
