@@ -43,12 +43,12 @@ fn built(name: &str) -> Command {
 
 /// The check program.
 fn program() -> Command {
-    built("sheet")
+    built("sheets_program")
 }
 
 /// The program that converts a text to its file and a file to its text.
 fn converter() -> Command {
-    built("text")
+    built("texts_program")
 }
 
 /// The script, with these words.
