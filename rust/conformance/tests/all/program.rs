@@ -375,7 +375,7 @@ fn the_script_shows_the_line_of_a_text_that_is_refused() {
             "line 8 \"task 1 9 1\" (task 1) is a task with a period above the previous task's (8)"),
         (x("set 0 1", "acquire 5"), "refused 9 9",
             "line 9 \"acquire 5\" (instruction 0 of task 1) acquires or releases a lock that is not \
-             in the table, or whose ceiling is below the task (9)"),
+             in the table, or acquires one with a ceiling below the task's base (9)"),
         ([TEXT_OF_X.as_bytes(), b"lock 0 0\nlock 8 0\n"].concat(), "refused 4 13",
             "line 13 \"lock 8 0\" (lock 1) has a value out of range, or an unused byte that is not \
              zero (4)"),
