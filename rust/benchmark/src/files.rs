@@ -2,7 +2,7 @@
 //! tables in memory and the texts.
 
 use crate::measure::{Entry, Input};
-use binding::TEXT_ROOM;
+use adqurim::TEXT_ROOM;
 use conformance::cases::{
     accepted, full_holding_table, full_table, longest_text_table, plan_of_x, table_x, ORDER_OF_X,
 };
@@ -256,11 +256,12 @@ fn late_by_wait(random: &mut Random) -> TableDescription {
 
 /// Families of random tables.
 fn random_rows() -> Vec<Row> {
-    let family = |name: &str, seed: u64, count: usize, make: fn(&mut Random) -> TableDescription| {
-        let mut random = Random::new(seed);
-        let inputs = (0..count).map(|_| Input::read(make(&mut random).write())).collect();
-        Row { name: format!("slowest of {count}: {name}"), inputs, kind: Kind::Other }
-    };
+    let family =
+        |name: &str, seed: u64, count: usize, make: fn(&mut Random) -> TableDescription| {
+            let mut random = Random::new(seed);
+            let inputs = (0..count).map(|_| Input::read(make(&mut random).write())).collect();
+            Row { name: format!("slowest of {count}: {name}"), inputs, kind: Kind::Other }
+        };
     vec![
         family("8 tasks, P 500 to 1000, utilisation just below 1", 200, 200, eight_tasks),
         family("7 such tasks above 1/4294967295", 201, 200, seven_tasks),

@@ -1,7 +1,7 @@
 //! How long the proved entries and the interpreter take on an input.
 
-use binding::raw::{self, Job, JobsAnswer, ReadAnswer, RunAnswer, SheetAnswer, WriteAnswer};
-use binding::{FILE_ROOM, JOB_LIST_ROOM, ORDER_ROOM, PLAN_ROOM, SHEET_ROOM, TABLE_ROOM, TEXT_ROOM};
+use adqurim::raw::{self, Job, JobsAnswer, ReadAnswer, RunAnswer, SheetAnswer, WriteAnswer};
+use adqurim::{FILE_ROOM, JOB_LIST_ROOM, ORDER_ROOM, PLAN_ROOM, SHEET_ROOM, TABLE_ROOM, TEXT_ROOM};
 use conformance::proved::{
     expected_check_plan, expected_file_to_text, expected_jobs, expected_order_to_plan,
     expected_plan_to_order, expected_read, expected_replay, expected_sheet, expected_table,

@@ -1,7 +1,7 @@
 //! How much stack the proved walk needs on a table whose order is as long as any.
 
 use crate::walker::STEPS;
-use binding::{raw, Rule};
+use adqurim::{raw, Rule};
 use conformance::cases::tasks;
 use generator::code;
 use std::io::Result;

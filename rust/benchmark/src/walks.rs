@@ -2,7 +2,7 @@
 //! walk holds after about 20,000,000 moves; the sizes were found by trying.
 
 use crate::walker::{self, Lent, STEPS};
-use binding::raw;
+use adqurim::raw;
 use conformance::cases::accepted;
 use generator::{code, InstructionDescription, TableDescription, TaskDescription};
 use std::hint::black_box;

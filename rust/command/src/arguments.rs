@@ -1,7 +1,7 @@
 //! What the words after the program's name ask for.
 
 use crate::Problem;
-use binding::SHEET_ALLOWANCE;
+use adqurim::SHEET_ALLOWANCE;
 use std::ffi::{OsStr, OsString};
 use std::path::PathBuf;
 
@@ -57,7 +57,11 @@ impl Subcommand {
 
     /// What the first word after it names.
     fn takes(self) -> &'static str {
-        if self == Subcommand::File { "TEXT" } else { "FILE" }
+        if self == Subcommand::File {
+            "TEXT"
+        } else {
+            "FILE"
+        }
     }
 
     /// The words that show its help.

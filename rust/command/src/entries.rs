@@ -5,7 +5,7 @@ use crate::lines::{ending, line, refused};
 use crate::rounds::{parts, Parts};
 use crate::sheet::{finding, totals, Finding};
 use crate::{progress, records, sources, Problem, Status, Streams};
-use binding::{Ending, Job, Place, Refusal, Verdict};
+use adqurim::{Ending, Job, Place, Refusal, Verdict};
 use std::ops::RangeInclusive;
 
 /// An answer's lines and its status.
@@ -24,9 +24,9 @@ pub fn answer(request: &Request, streams: &mut Streams) -> Result<Status, Proble
         Subcommand::Walk => walk(&file, request.allowance, streams),
         Subcommand::Read => read(&file).map(accepted),
         Subcommand::Jobs => jobs(&file).map(accepted),
-        Subcommand::Replay => binding::replay(&file, &numbers).map(ran).map(accepted),
+        Subcommand::Replay => adqurim::replay(&file, &numbers).map(ran).map(accepted),
         Subcommand::Plan => plan(&file, &numbers).map(accepted),
-        Subcommand::CheckPlan => binding::check_plan(&file, &numbers).map(ran).map(accepted),
+        Subcommand::CheckPlan => adqurim::check_plan(&file, &numbers).map(ran).map(accepted),
         Subcommand::Order => order(&file, &numbers).map(accepted),
     };
     match answer {
@@ -86,7 +86,7 @@ fn on_offer(refusal: &Refusal, values: RangeInclusive<u8>) -> String {
 
 /// The sheet, as its proved entry writes it.
 fn check(file: &[u8], streams: &mut Streams) -> Result<Status, Problem> {
-    let text = binding::sheet(file);
+    let text = adqurim::sheet(file);
     print(&text, streams)?;
     match finding(&text) {
         Finding::Holds => Ok(Status::Accepted),
@@ -104,7 +104,7 @@ fn write(bytes: &[u8], streams: &mut Streams) -> Result<Status, Problem> {
 
 /// The file with its records in walk order.
 fn rewrite(file: &[u8], streams: &mut Streams) -> Result<Status, Problem> {
-    match binding::table(file).and_then(|table| binding::write(&table)) {
+    match adqurim::table(file).and_then(|table| adqurim::write(&table)) {
         Ok(written) => write(&written, streams),
         Err(refusal) => explain(&refusal, file, &[], streams),
     }
@@ -112,7 +112,7 @@ fn rewrite(file: &[u8], streams: &mut Streams) -> Result<Status, Problem> {
 
 /// A file's text.
 fn text(file: &[u8], streams: &mut Streams) -> Result<Status, Problem> {
-    match binding::file_to_text(file) {
+    match adqurim::file_to_text(file) {
         Ok(text) => write(text.as_bytes(), streams),
         Err(refusal) => explain(&refusal, file, &[], streams),
     }
@@ -120,7 +120,7 @@ fn text(file: &[u8], streams: &mut Streams) -> Result<Status, Problem> {
 
 /// A text's file. A refusal shows the line that it names.
 fn from_text(text: &[u8], streams: &mut Streams) -> Result<Status, Problem> {
-    match binding::text_to_file(text) {
+    match adqurim::text_to_file(text) {
         Ok(file) => write(&file, streams),
         Err(refusal) => tell(&format!("adqurim: {}\n", refusal.in_text(text)), streams),
     }
@@ -128,7 +128,7 @@ fn from_text(text: &[u8], streams: &mut Streams) -> Result<Status, Problem> {
 
 /// The totals, and a line for each task.
 fn read(file: &[u8]) -> Result<String, Refusal> {
-    Ok(totals(&binding::read(file)?, &binding::jobs(file)?))
+    Ok(totals(&adqurim::read(file)?, &adqurim::jobs(file)?))
 }
 
 /// A line for each job.
@@ -136,7 +136,7 @@ fn jobs(file: &[u8]) -> Result<String, Refusal> {
     let job_line = |(number, Job { task, arrival, latest }): (usize, Job)| {
         format!("job {number} task {task} arrival {arrival} latest {latest}\n")
     };
-    Ok(binding::jobs(file)?.into_iter().enumerate().map(job_line).collect())
+    Ok(adqurim::jobs(file)?.into_iter().enumerate().map(job_line).collect())
 }
 
 /// The verdict, with the order that fails.
@@ -157,7 +157,7 @@ fn ran(run: Ending) -> String {
 
 /// An order's plan: its bytes, then its parts.
 fn plan(file: &[u8], order: &[u8]) -> Result<String, Refusal> {
-    let planned = binding::order_to_plan(file, order)?;
+    let planned = adqurim::order_to_plan(file, order)?;
     let Parts { stores, jobs } = parts(order, &planned.plan);
     let mut text = line("plan", &planned.plan);
     for (round, store) in stores.iter().enumerate() {
@@ -172,6 +172,6 @@ fn plan(file: &[u8], order: &[u8]) -> Result<String, Refusal> {
 
 /// A plan's order.
 fn order(file: &[u8], plan: &[u8]) -> Result<String, Refusal> {
-    let ordered = binding::plan_to_order(file, plan)?;
+    let ordered = adqurim::plan_to_order(file, plan)?;
     Ok(line("order", &ordered.order) + &ending(&ordered.ending))
 }

@@ -1,6 +1,6 @@
 //! Lines of a word and numbers.
 
-use binding::{Ending, JobNumber, Refusal};
+use adqurim::{Ending, JobNumber, Refusal};
 use std::fmt::Display;
 
 /// A word and numbers, separated by single spaces.

@@ -1,7 +1,7 @@
 //! Walks that show that they are running.
 
 use crate::Streams;
-use binding::{Refusal, Rule, Verdict};
+use adqurim::{Refusal, Rule, Verdict};
 use std::time::Instant;
 
 /// The allowance of the first try. A walk that needs fewer moves is too short to be watched.
@@ -20,11 +20,11 @@ pub fn allowances(asked: u64) -> impl Iterator<Item = u64> {
 /// the walk is undecided.
 pub fn walk(file: &[u8], asked: u64, streams: &mut Streams) -> Result<Verdict, Refusal> {
     if !streams.watched {
-        return binding::walk(file, asked);
+        return adqurim::walk(file, asked);
     }
     for allowance in allowances(asked) {
         let from = Instant::now();
-        let answer = binding::walk(file, allowance);
+        let answer = adqurim::walk(file, allowance);
         if allowance == asked || !undecided(&answer) {
             return answer;
         }

@@ -1,6 +1,6 @@
 //! The parts of a plan, found with the order that it came from.
 
-use binding::{BYTES_OF_TASK, VARIABLES};
+use adqurim::{BYTES_OF_TASK, VARIABLES};
 
 /// A step's two bytes in a plan.
 #[derive(Debug, Clone, Copy, PartialEq, Eq)]

@@ -1,6 +1,6 @@
 //! The totals at a sheet's front, and what a sheet comes to.
 
-use binding::{Job, Refusal, Timing};
+use adqurim::{Job, Refusal, Timing};
 
 /// The totals, and a line for each task of an accepted file.
 pub fn totals(timing: &Timing, jobs: &[Job]) -> String {

@@ -64,7 +64,8 @@ pub fn longest_text_table() -> TableDescription {
 
 /// Table X of document 01, in walk order: record 1 is task 0, 7 is task 1.
 pub fn table_x() -> TableDescription {
-    let reader = [code::load(0, 0), code::load(1, 0), code::skip_if_equal(0, 1, 1), code::assert(2)];
+    let reader =
+        [code::load(0, 0), code::load(1, 0), code::skip_if_equal(0, 1, 1), code::assert(2)];
     let writer = [code::set(0, 1), code::store(0, 0), code::end()];
     TableDescription::new(
         5,

@@ -6,12 +6,12 @@ use crate::proved::{
     expected_check_plan, expected_file_to_text, expected_order_to_plan, expected_plan_to_order,
     expected_replay, expected_table, expected_text_to_file,
 };
-use binding::raw::{
+use adqurim::raw::{
     check_plan, file_to_text, file_to_text_words, order_to_plan, order_to_plan_words,
     plan_to_order, plan_to_order_words, replay, table, table_words, text_to_file,
     text_to_file_words, walk, RunAnswer, WalkAnswer, WriteAnswer, WRITE_WORDS,
 };
-use binding::{FILE_ROOM, ORDER_ROOM, PLAN_ROOM, TABLE_ROOM, TEXT_ROOM};
+use adqurim::{FILE_ROOM, ORDER_ROOM, PLAN_ROOM, TABLE_ROOM, TEXT_ROOM};
 use generator::Random;
 
 /// Asserts that both replays give one answer.

@@ -97,9 +97,8 @@ fn note_step(
 fn note_held_back(accepted: &Accepted, state: &State, found: &mut Orders) {
     let mut without_locks = state.clone();
     without_locks.locals.iter_mut().flatten().for_each(|local| local.held = NONE_HELD);
-    let kept_back = |job: JobNumber| {
-        !state.may_start(accepted, job) && without_locks.may_start(accepted, job)
-    };
+    let kept_back =
+        |job: JobNumber| !state.may_start(accepted, job) && without_locks.may_start(accepted, job);
     found.held_back += u64::from(accepted.job_numbers().any(kept_back));
 }
 

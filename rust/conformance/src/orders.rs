@@ -68,7 +68,11 @@ fn late_move(random: &mut Random, moves: &[u8]) -> u8 {
 
 /// Mostly 0, else any value.
 fn random_value(random: &mut Random) -> u8 {
-    if random.chance(2, 3) { 0 } else { random.between(0, 15) as u8 }
+    if random.chance(2, 3) {
+        0
+    } else {
+        random.between(0, 15) as u8
+    }
 }
 
 /// An order byte of one of the tasks or of the one after the last, or any byte.

@@ -1,9 +1,9 @@
 //! The interpreter's answers in the form of the proved entries'.
 
-use binding::raw::{
+use adqurim::raw::{
     JobsAnswer, ReadAnswer, RunAnswer, SheetAnswer, Verdict, WalkAnswer, WriteAnswer,
 };
-use binding::{Job, Rule, SHEET_ROOM, TABLE_ROOM};
+use adqurim::{Job, Rule, SHEET_ROOM, TABLE_ROOM};
 use interpreter::{JobRecord, TaskNumber};
 
 /// What the proved reader must answer to a file, by the interpreter.

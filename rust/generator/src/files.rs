@@ -8,7 +8,8 @@ pub fn damaged(random: &mut Random, file: &[u8]) -> Vec<u8> {
     for _ in 0..random.between(1, 3) {
         let at = random.index(bytes.len());
         // A small change is likelier to stay in range than a random byte.
-        let change = if random.chance(1, 2) { random.between(1, 3) } else { random.between(1, 255) };
+        let change =
+            if random.chance(1, 2) { random.between(1, 3) } else { random.between(1, 255) };
         bytes[at] = bytes[at].wrapping_add(change as u8);
     }
     bytes

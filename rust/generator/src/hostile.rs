@@ -43,7 +43,8 @@ pub fn heavy_tables() -> Vec<TableDescription> {
 /// task takes nearly all that is left above it.
 pub fn nearly_full(random: &mut Random) -> TableDescription {
     let most = 1 << random.between(3, 20);
-    let mut periods: Vec<u64> = (0..random.between(2, 7)).map(|_| random.between(2, most)).collect();
+    let mut periods: Vec<u64> =
+        (0..random.between(2, 7)).map(|_| random.between(2, most)).collect();
     periods.sort_unstable();
     let mut free = 1.0;
     let mut times = Vec::new();
@@ -78,7 +79,8 @@ pub fn far_tables() -> Vec<TableDescription> {
 pub fn full_files() -> Vec<Vec<u8>> {
     let mut files = Vec::new();
     for kind in 0..=5_u8 {
-        for next in [|n: usize| n + 1, |n: usize| n, |n: usize| n / 2, |_: usize| 255, |_: usize| 0] {
+        for next in [|n: usize| n + 1, |n: usize| n, |n: usize| n / 2, |_: usize| 255, |_: usize| 0]
+        {
             let mut file = vec![0; 4096];
             file[..8].copy_from_slice(&[1, 0, 1, 0, 1, 0, 0, 0]);
             for record in 1..256 {

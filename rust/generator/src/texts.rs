@@ -235,7 +235,11 @@ pub fn wrong_words(random: &mut Random) -> Vec<u8> {
 /// A byte that means something in a text or nearly does, or any.
 fn some_byte(random: &mut Random) -> u8 {
     let telling = b" \n\t\r\0+-019azAZ\x0b\x80\xc2\xa0\xff";
-    if random.chance(2, 3) { telling[random.index(telling.len())] } else { random.byte() }
+    if random.chance(2, 3) {
+        telling[random.index(telling.len())]
+    } else {
+        random.byte()
+    }
 }
 
 /// The text with one of its bytes replaced, removed or put in.

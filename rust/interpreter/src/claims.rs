@@ -87,5 +87,9 @@ fn walk_task(task: &ClaimedTask, record: usize) -> Result<Task, Refusal> {
 
 /// Number 5 for a part too many, after as many as there may be.
 fn demand_count(before: usize, most: usize, record: usize) -> Result<(), Refusal> {
-    if before < most { Ok(()) } else { refuse(5, record) }
+    if before < most {
+        Ok(())
+    } else {
+        refuse(5, record)
+    }
 }

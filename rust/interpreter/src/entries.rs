@@ -104,7 +104,11 @@ fn settle<A: From<Refusal>>(result: Result<A, Refusal>) -> A {
 
 /// Number 20: "place 0, buffer untouched."
 fn demand_room(room: usize, needed: usize) -> Result<(), Refusal> {
-    if room < needed { refuse(20, 0) } else { Ok(()) }
+    if room < needed {
+        refuse(20, 0)
+    } else {
+        Ok(())
+    }
 }
 
 /// The file's numbers first, "Then 20".

@@ -85,7 +85,11 @@ pub(crate) fn wide(record: &[u8], at: usize) -> u64 {
 
 /// Number 4 for a record whose field test is `fine`.
 pub(crate) fn demand_field(fine: bool, record: usize) -> Result<(), Refusal> {
-    if fine { Ok(()) } else { refuse(4, record) }
+    if fine {
+        Ok(())
+    } else {
+        refuse(4, record)
+    }
 }
 
 /// "Order: 1; then the walk of records: header, each task followed by its body, then locks.

@@ -88,9 +88,8 @@ fn numeral(word: &[u8]) -> Option<u64> {
     if word.is_empty() || leads_with_zero || !word.iter().all(u8::is_ascii_digit) {
         return None;
     }
-    let append = |value: u64, digit: &u8| {
-        value.saturating_mul(10).saturating_add(u64::from(digit - b'0'))
-    };
+    let append =
+        |value: u64, digit: &u8| value.saturating_mul(10).saturating_add(u64::from(digit - b'0'));
     Some(word.iter().fold(0, append))
 }
 

@@ -73,9 +73,7 @@ pub fn encode(instruction: Instruction) -> [u8; 4] {
         Instruction::Set { register, number } => [3, byte(register), number, 0],
         Instruction::Add { to, from } => [4, byte(to), byte(from), 0],
         Instruction::Subtract { to, from } => [5, byte(to), byte(from), 0],
-        Instruction::SkipIfLess { left, right, count } => {
-            [6, byte(left), byte(right), byte(count)]
-        }
+        Instruction::SkipIfLess { left, right, count } => [6, byte(left), byte(right), byte(count)],
         Instruction::SkipIfEqual { left, right, count } => {
             [7, byte(left), byte(right), byte(count)]
         }
@@ -89,7 +87,9 @@ pub fn encode(instruction: Instruction) -> [u8; 4] {
 /// How many instructions a skip passes over; None for any other instruction.
 pub fn skip_count(instruction: Instruction) -> Option<usize> {
     match instruction {
-        Instruction::SkipIfLess { count, .. } | Instruction::SkipIfEqual { count, .. } => Some(count),
+        Instruction::SkipIfLess { count, .. } | Instruction::SkipIfEqual { count, .. } => {
+            Some(count)
+        }
         _ => None,
     }
 }
@@ -135,7 +135,9 @@ pub fn perform(local: &mut Local, store: &mut Store, instruction: Instruction, v
         Instruction::Store { variable, register } => store[variable] = registers[register],
         Instruction::Set { register, number } => registers[register] = number,
         // "Sums and differences are taken modulo 256."
-        Instruction::Add { to, from } => registers[to] = registers[to].wrapping_add(registers[from]),
+        Instruction::Add { to, from } => {
+            registers[to] = registers[to].wrapping_add(registers[from])
+        }
         Instruction::Subtract { to, from } => {
             registers[to] = registers[to].wrapping_sub(registers[from])
         }

@@ -25,7 +25,11 @@ pub fn file_of_text(text: &[u8]) -> Result<Vec<u8>, Refusal> {
 
 /// What a text's lines claim, or 62, 60 or 61.
 fn read_text(text: &[u8]) -> Result<ClaimedTable, Refusal> {
-    if text.len() > LONGEST_TEXT { refuse(62, 0) } else { Ok(claims(&lines(text)?)) }
+    if text.len() > LONGEST_TEXT {
+        refuse(62, 0)
+    } else {
+        Ok(claims(&lines(text)?))
+    }
 }
 
 /// "the header's is line 0; 11 keeps place 0": the header has lines 0 and 1, every other record one.

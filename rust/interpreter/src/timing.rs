@@ -82,9 +82,8 @@ pub fn right_side(own: u64, above: &[Task], time: u64) -> u64 {
 /// solution is the smallest time at or above its right side, and "there is such a time ≤ D" grows
 /// with D: bisect on D.
 pub fn least_by_points(own: u64, above: &[Task], limit: u64) -> Option<u64> {
-    let within = |bound| some_point(above, bound, &|time| {
-        time > 0 && right_side(own, above, time) <= time
-    });
+    let within =
+        |bound| some_point(above, bound, &|time| time > 0 && right_side(own, above, time) <= time);
     if !within(limit) {
         return None;
     }

@@ -1,0 +1,4 @@
+//! Orders and their replay.
+
+mod differential;
+mod refusals;

@@ -1,0 +1,4 @@
+//! Round plans and their check.
+
+mod differential;
+mod refusals;

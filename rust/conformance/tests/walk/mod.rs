@@ -1,0 +1,5 @@
+//! The walk over all orders.
+
+mod differential;
+mod entry;
+mod listing;
