@@ -3,7 +3,7 @@ pub mod AcceptedLaws
 pub mod BaseLaws
 pub mod BlockingExamples
 pub mod BlockingLaws
-pub mod ClimbLaws
+pub mod IterationLaws
 pub mod FitLaws
 pub mod HalvingLaws
 pub mod JobFacts
@@ -14,6 +14,6 @@ pub mod LentTimesLaws
 pub mod RelationLaws
 pub mod ResponseDemandLaws
 pub mod ResponseLaws
-pub mod ShareLaws
+pub mod UtilisationLaws
 pub mod TableResponseLaws
 pub mod TimeableLaws

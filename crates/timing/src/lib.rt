@@ -38,7 +38,7 @@ pub struct TaskTimes {
 }
 
 // A fraction of the processor, part of whole, that tasks need at least.
-pub struct Share {
+pub struct Utilisation {
     pub part: u64,
     pub whole: u64,
 }

@@ -1,4 +1,4 @@
-// The climb to the least solution of the response equation from a lower bound of every solution.
+// The iteration to the least solution of the response equation from a lower bound of every solution.
 use crate::quotients::kept_interference;
 use taskfile::Table;
 use taskfile::Task;
@@ -10,9 +10,9 @@ ghost use Prim.Native.Nat.{_<_};
 ghost use Rattle.timing.specs.Response.{responseOf};
 ghost use Rattle.timing.specs.Code.ResponseParts.{TimesOf, NeedOf, boundOf, LowerBound};
 
-// Climbs from a lower bound of every solution to the least solution, or past the period. Of each task above, the
+// Iterates from a lower bound of every solution to the least solution, or past the period. Of each task above, the
 // periods that begin in the interval are kept from turn to turn, until the interval passes their end.
-pub fn climb(
+pub fn iterate(
     t: Table,
     executions: &[u64; TASKS],
     periods: &[u64; TASKS],
@@ -40,8 +40,8 @@ pub fn climb(
     Bound::Overload
 }
 
-// At most `turns` turns of the climb from a lower bound.
-pub fn climb_some(
+// At most `turns` turns of the iteration from a lower bound.
+pub fn iterate_some(
     t: Table,
     executions: &[u64; TASKS],
     periods: &[u64; TASKS],

@@ -1,9 +1,9 @@
 // The response times of a table's tasks, or number 10 at the lowest task that has none.
-use crate::iteration::climb;
-use crate::iteration::climb_some;
+use crate::iteration::iterate;
+use crate::iteration::iterate_some;
 use crate::scheduling_points::fits_alone;
 use crate::scheduling_points::search;
-use crate::utilisation::share_above;
+use crate::utilisation::utilisation_above;
 use taskfile::Judged;
 use taskfile::Site;
 use taskfile::Table;
@@ -23,15 +23,15 @@ ghost use Rattle.timing.specs.Accepted.{responsesOf};
 ghost use Rattle.timing.specs.Response.{tasksAbove, responseOf};
 ghost use Rattle.timing.specs.Code.ResponseParts.{Timeable, TimesOf, boundOf, AllFit, ResponsesAs};
 
-// A share has so few parts that an execution time of them stays below 2^63.
+// A utilisation has so few parts that an execution time of them stays below 2^63.
 const MOST_PARTS: u64 = 9223372036854775807;
 
-// How many turns of the climb come before the search by halving.
-const SHORT_CLIMB: u8 = 16;
+// How many turns of the iteration come before the search by halving.
+const SHORT_ITERATION: u8 = 16;
 
 // The response time of task i, if it is at most the period. No interval shorter than the start can be a solution:
 // each solution R has R × (whole − part) ≥ own × whole, where the tasks above need part of whole.
-// Where `fit` says that the tasks above all meet their periods where none waits, what a short climb leaves is found by
+// Where `fit` says that the tasks above all meet their periods where none waits, what a short iteration leaves is found by
 // halving.
 pub fn response_of(
     t: Table,
@@ -46,16 +46,16 @@ pub fn response_of(
 {
     let at = i.0 as usize;
     let own = executions[at] + blocking_of(t, i);
-    let s = share_above(executions, periods, t.tasks, i, MOST_PARTS / own);
+    let s = utilisation_above(executions, periods, t.tasks, i, MOST_PARTS / own);
     if s.whole <= s.part {
         return Bound::Overload;
     }
     let start = wide_rounded_up(own * s.whole, s.whole - s.part);
     if fit {
-        let higher = climb_some(t, executions, periods, i, own, start, SHORT_CLIMB);
+        let higher = iterate_some(t, executions, periods, i, own, start, SHORT_ITERATION);
         return search(t, executions, periods, i, own, higher);
     }
-    climb(t, executions, periods, i, own, start)
+    iterate(t, executions, periods, i, own, start)
 }
 
 // The response times of all tasks, or 10 at the lowest task that has none. From the highest task down, so that

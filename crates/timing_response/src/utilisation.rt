@@ -1,12 +1,12 @@
-// The share of the processor that the tasks above a task need at least.
+// The utilisation that the tasks above a task need at least.
 use taskfile::Task;
 use taskfile::limits::TASKS;
-use timing::Share;
+use timing::Utilisation;
 use timing_rounding::wide_rounded_up;
 ghost use Prim.Native.Nat.{_^_, _≤_, _<_, _∣_};
 ghost use Rattle.taskfile.specs.declared.Table.{Table};
 ghost use Rattle.timing.specs.Response.{tasksAbove};
-ghost use Rattle.timing.specs.Code.ResponseParts.{BoundedTimes, TimesOf, SumFits, WithTask, ShareOf};
+ghost use Rattle.timing.specs.Code.ResponseParts.{BoundedTimes, TimesOf, SumFits, WithTask, UtilisationOf};
 
 // The largest number of 64 bits.
 const LARGEST: u64 = 18446744073709551615;
@@ -26,8 +26,8 @@ pub fn common_divisor(a: u64, b: u64) -> u64
     x
 }
 
-// The share with a task more that needs c of every p, rounded down to a number of parts of which c times as many fit.
-pub fn with_rounded(s: Share, c: u64, p: u64, cap: u64) -> Share
+// The utilisation with a task more that needs c of every p, rounded down to a number of parts of which c times as many fit.
+pub fn with_rounded(s: Utilisation, c: u64, p: u64, cap: u64) -> Utilisation
     requires { ⌜ SumFits s c p cap ⌝ }
     ensures { λ r. ⌜ WithTask s c p cap r ⌝ }
 {
@@ -35,14 +35,14 @@ pub fn with_rounded(s: Share, c: u64, p: u64, cap: u64) -> Share
     let whole = wide_rounded_up(s.whole, unit);
     let kept = s.part / unit;
     let added = c * whole / p;
-    Share {
+    Utilisation {
         part: kept + added,
         whole: whole,
     }
 }
 
-// The share with a task more that needs c of every p: the exact sum while that has at most cap parts.
-pub fn with_task(s: Share, c: u64, p: u64, cap: u64) -> Share
+// The utilisation with a task more that needs c of every p: the exact sum while that has at most cap parts.
+pub fn with_task(s: Utilisation, c: u64, p: u64, cap: u64) -> Utilisation
     requires { ⌜ SumFits s c p cap ⌝ }
     ensures { λ r. ⌜ WithTask s c p cap r ⌝ }
 {
@@ -53,25 +53,25 @@ pub fn with_task(s: Share, c: u64, p: u64, cap: u64) -> Share
     }
     let kept = s.part * times;
     let added = c * (s.whole / divisor);
-    Share {
+    Utilisation {
         part: kept + added,
         whole: s.whole * times,
     }
 }
 
-// A share of the processor that the tasks above task i need at least, in at most cap parts.
-pub fn share_above(
+// A utilisation that the tasks above task i need at least, in at most cap parts.
+pub fn utilisation_above(
     executions: &[u64; TASKS],
     periods: &[u64; TASKS],
     tasks: u8,
     i: Task,
     cap: u64,
-) -> Share
+) -> Utilisation
     requires { ⌜ BoundedTimes (now executions) (now periods) tasks × (i .0 < tasks) × (1 ≤ cap) × (cap < 2 ^ 63) ⌝ }
     ensures { λ s. ⌜ ((t : Table) → TimesOf t (now (executions .entry)) (now (periods .entry)) tasks
-        → ShareOf (tasksAbove t i) cap s) ⌝ }
+        → UtilisationOf (tasksAbove t i) cap s) ⌝ }
 {
-    let mut s = Share { part: 0, whole: 1 };
+    let mut s = Utilisation { part: 0, whole: 1 };
     let mut k = (i.0 as usize) + 1;
     let end = tasks as usize;
     while k < end {

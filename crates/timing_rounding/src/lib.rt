@@ -1,4 +1,4 @@
-// Quotients rounded up, each by one division and without a branch: of times, which fit 32 bits, and of parts of a share
+// Quotients rounded up, each by one division and without a branch: of times, which fit 32 bits, and of parts of a utilisation
 // of the processor, which need not.
 ghost use mathlib.Core.Path.{_≡_};
 ghost use Prim.Native.Nat.{_^_, _≤_, _<_};

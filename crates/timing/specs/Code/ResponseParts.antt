@@ -1,4 +1,4 @@
--- The climb to the response time as its functions yield it: the share of the processor that the tasks above need,
+-- The iteration to the response time as its functions yield it: the utilisation that the tasks above need,
 -- the lower bound that it starts from, the test whether an interval of some length is long enough, the arrays that
 -- the tasks' times are lent in, and the answers as declared types.
 -- Assumes nothing.
@@ -22,7 +22,7 @@ use Rattle.taskfile.specs.Tables.{taskOf}
 use Rattle.timing.specs.declared.Bound.{Bound}
 use Rattle.timing.specs.declared.Bound.the-variants.{Within, Overload}
 use Rattle.timing.specs.declared.Responses.{Responses}
-use Rattle.timing.specs.declared.Share.{Share}
+use Rattle.timing.specs.declared.Utilisation.{Utilisation}
 use Rattle.timing.specs.Response.{roundedUp, tasksAbove, interference, need, demand}
 
 -- a table whose times can be worked out: its arrays are full, and each task has 1 ≤ C ≤ P
@@ -69,22 +69,22 @@ unfoldable pub boundOf : Option ℕ → Bound
 boundOf none = Overload
 boundOf (some R) = Within R
 
--- a share of less than the whole in at most cap parts, and a task that needs c of every p: their sum fits
-pub record SumFits (s : Share) (c p cap : ℕ) : Type 0 where
+-- a utilisation of less than the whole in at most cap parts, and a task that needs c of every p: their sum fits
+pub record SumFits (s : Utilisation) (c p cap : ℕ) : Type 0 where
   pub positive : 1 ≤ c
   pub within : c ≤ p
   pub below : s .part < s .whole
   pub few : s .whole ≤ cap
   pub room : cap < 2 ^ 63
 
--- a share r in at most cap parts that is no more than s and c of p together
-pub record WithTask (s : Share) (c p cap : ℕ) (r : Share) : Type 0 where
+-- a utilisation r in at most cap parts that is no more than s and c of p together
+pub record WithTask (s : Utilisation) (c p cap : ℕ) (r : Utilisation) : Type 0 where
   pub positive : 1 ≤ r .whole
   pub few : r .whole ≤ cap
   pub most : r .part * (s .whole * p) ≤ (s .part * p + c * s .whole) * r .whole
 
--- a share in at most cap parts that the listed tasks need at least, in an interval of any length
-pub record ShareOf (above : List TaskEntry) (cap : ℕ) (s : Share) : Type 0 where
+-- a utilisation in at most cap parts that the listed tasks need at least, in an interval of any length
+pub record UtilisationOf (above : List TaskEntry) (cap : ℕ) (s : Utilisation) : Type 0 where
   pub positive : 1 ≤ s .whole
   pub few : s .whole ≤ cap
   pub needed : (R : ℕ) → R * s .part ≤ interference above R * s .whole

@@ -1,6 +1,6 @@
 -- `timing_response::response::response_of` meets its contract. Where the tasks above need the whole processor, no interval is a
--- solution; else the start is a lower bound of the solutions, from which the climb finds the least, or, where the
--- tasks above meet their periods, a short climb and the search.
+-- solution; else the start is a lower bound of the solutions, from which the iteration finds the least, or, where the
+-- tasks above meet their periods, a short iteration and the search.
 -- Assumes nothing.
 use mathlib.Core.Path.{sym, ap, subst, _∙_}
 use Prim.Native.Nat.{ℕ, _+_, _-_, _*_, _^_, _≤_}
@@ -8,7 +8,7 @@ use native.Mathlib.Nat.{one-le-mul, le-div-iff-mul-le, div-le-self, mul-div-le, 
 use native.Mathlib.Omega.{arith}
 use lib.ListN.{getD}
 use borrow.Author.Needs.{needs}
-use Rattle.timing.specs.Laws.ClimbLaws.{overloaded, start-bound}
+use Rattle.timing.specs.Laws.IterationLaws.{overloaded, start-bound}
 use Rattle.timing.specs.Laws.LentTimesLaws.{lent-need, lent-times}
 use Rattle.timing.specs.Code.ResponseParts.{NeedOf, boundOf, LowerBound}
 use Rattle.timing.specs.Response.{roundedUp, need}
@@ -38,10 +38,10 @@ started : (c : tie.After-wide-rounded-up)
     → LowerBound (entry (waited c) .args .t) (entry (waited c) .args .i) (c .wide-rounded-up .result)
 started c =
     let found = c .before .before .before .before .before in
-    let s = found .share-above .result in
+    let s = found .utilisation-above .result in
     let is = c .wide-rounded-up .ensures ∙ ap (λ (n : ℕ). roundedUp (n * s .whole) (s .whole - s .part)) (known (waited c) .same) in
     subst (LowerBound _ _) (sym is)
-    (start-bound _ _ (positive (waited c)) (found .share-above .ensures _ (entry (waited c) .pre .0)) (omega arith))
+    (start-bound _ _ (positive (waited c)) (found .utilisation-above .ensures _ (entry (waited c) .pre .0)) (omega arith))
 
 cast-at : tie.Need-cast-at
 cast-at c = omega arith
@@ -58,11 +58,11 @@ blocking-of-requires c κs = let given = c .before .before .pre in (given .0 .ti
 add-own : tie.Need-add-own
 add-own c = omega (arith, known c .narrow)
 
-div-share-above : tie.Need-div-share-above
-div-share-above c = known c .positive
+div-utilisation-above : tie.Need-div-utilisation-above
+div-utilisation-above c = known c .positive
 
-share-above-requires : tie.Need-share-above-requires
-share-above-requires c κs =
+utilisation-above-requires : tie.Need-utilisation-above-requires
+utilisation-above-requires c κs =
     let given = entry c .pre in (
       lent-times (given .0),
       given .1,
@@ -74,14 +74,14 @@ returns : tie.Need-returns
 unfolding boundOf
 returns c =
     let found = c .before .before in
-    let needed = found .share-above .ensures _ (entry (found .before) .pre .0) in
+    let needed = found .utilisation-above .ensures _ (entry (found .before) .pre .0) in
     sym (ap boundOf (overloaded _ _ (positive (found .before)) needed (omega arith)))
 
 mul-wide-rounded-up : tie.Need-mul-wide-rounded-up
 mul-wide-rounded-up c =
     let found = c .before .before .before in
     let C = own (found .before) in
-    omega (arith, mul-le-mul-left C (found .share-above .ensures _ (entry (found .before) .pre .0) .few), mul-div-le (2 ^ 63 - 1) C)
+    omega (arith, mul-le-mul-left C (found .utilisation-above .ensures _ (entry (found .before) .pre .0) .few), mul-div-le (2 ^ 63 - 1) C)
 
 sub-wide-rounded-up : tie.Need-sub-wide-rounded-up
 sub-wide-rounded-up c = search needs
@@ -90,8 +90,8 @@ wide-rounded-up-requires : tie.Need-wide-rounded-up-requires
 wide-rounded-up-requires c κs =
     (one-le-mul (known (c .before .before .before .before .before) .positive) (omega arith), omega arith)
 
-climb-some-requires : tie.Need-climb-some-requires
-climb-some-requires c κs =
+iterate-some-requires : tie.Need-iterate-some-requires
+iterate-some-requires c κs =
     let wait = waited (c .before) in
     let given = entry wait .pre in (given .0, given .1, known wait, started (c .before))
 
@@ -99,13 +99,13 @@ search-requires : tie.Need-search-requires
 search-requires c κs =
     let wait = waited (c .before .before) in
     let given = entry wait .pre in
-    (given .0, given .1, known wait, c .climb-some .ensures, given .2 (c .before .if2 .taken))
+    (given .0, given .1, known wait, c .iterate-some .ensures, given .2 (c .before .if2 .taken))
 
 returns-2 : tie.Need-returns-2
 returns-2 c = search needs
 
-climb-requires : tie.Need-climb-requires
-climb-requires c κs =
+iterate-requires : tie.Need-iterate-requires
+iterate-requires c κs =
     let wait = waited (c .before) in
     let given = entry wait .pre in (given .0, given .1, known wait, started (c .before))
 
@@ -121,14 +121,14 @@ response-of-spec =
     element-copy-out-own
     blocking-of-requires
     add-own
-    div-share-above
-    share-above-requires
+    div-utilisation-above
+    utilisation-above-requires
     returns
     mul-wide-rounded-up
     sub-wide-rounded-up
     wide-rounded-up-requires
-    climb-some-requires
+    iterate-some-requires
     search-requires
     returns-2
-    climb-requires
+    iterate-requires
     returns-3)

@@ -12,7 +12,7 @@ use borrow.Author.Tests.{not-true, not-false}
 use Rattle.taskfile.specs.declared.Table.{Table}
 use Rattle.taskfile.specs.declared.Task.{Task}
 use Rattle.taskfile.specs.Tables.{tasksOf, taskOf}
-use Rattle.timing.specs.Laws.ClimbLaws.{climb-found, climb-past}
+use Rattle.timing.specs.Laws.IterationLaws.{iteration-found, iteration-past}
 use Rattle.timing.specs.Laws.LentTimesLaws.{lent-read, lent-times}
 use Rattle.timing.specs.Response.{tasksAbove, need}
 use Rattle.timing.specs.Code.ResponseParts.{NeedOf, boundOf, fitsFrom, LowerBound, AllFit, TimesOf}
@@ -85,7 +85,7 @@ returns : tie.Need-returns Inv-loop μ-loop
 unfolding boundOf
 returns c =
     let given = entry (c .before) .pre in
-    sym (ap boundOf (climb-past (given .3) (omega (arith, read (c .before) (given .0)))))
+    sym (ap boundOf (iteration-past (given .3) (omega (arith, read (c .before) (given .0)))))
 
 demand-of-requires : tie.Need-demand-of-requires Inv-loop μ-loop
 demand-of-requires c κs =
@@ -97,7 +97,7 @@ returns-2 c =
     let times = c .before .before .before in
     let given = entry times .pre in
     let solves = sym (c .before .demand-of .ensures _ (given .0) (given .2 .same)) ∙ c .if2 .taken in
-    sym (ap boundOf (climb-found (given .3) solves (omega (arith, read times (given .0)))))
+    sym (ap boundOf (iteration-found (given .3) solves (omega (arith, read times (given .0)))))
 
 add-fits-from : tie.Need-add-fits-from Inv-loop μ-loop
 add-fits-from c = omega (arith, lent-times (entry (c .before .before .before .before) .pre .0) .few)

@@ -1,12 +1,12 @@
 -- `timing_response::utilisation::with_rounded` meets its contract: as few parts are made one unit as leave room for c times as many, and both
--- shares are rounded down to parts of such units.
+-- utilisations are rounded down to parts of such units.
 -- Assumes nothing.
 use native.Mathlib.Nat.{le-div-iff-mul-le}
 use native.Mathlib.Omega.{arith}
 use borrow.Author.Needs.{needs}
 use Prim.Native.Nat.{_-_, _/_, _^_, _≤_}
 use Rattle.timing.specs.Laws.ResponseLaws.{roundedUp-positive}
-use Rattle.timing.specs.Laws.ShareLaws.{Grouped, quotient-grouped, rounded-product, rounded-fits, rounded-most}
+use Rattle.timing.specs.Laws.UtilisationLaws.{Grouped, quotient-grouped, rounded-product, rounded-fits, rounded-most}
 use Rattle.timing_response.proofs.utilisation.with_rounded.Statement.{statement}
 use Rattle.timing_response.proofs.utilisation.with_rounded.Tie as tie
 

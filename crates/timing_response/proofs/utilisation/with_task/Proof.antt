@@ -1,10 +1,10 @@
--- `timing_response::utilisation::with_task` meets its contract: the two shares are added over the least common multiple of their wholes,
+-- `timing_response::utilisation::with_task` meets its contract: the two utilisations are added over the least common multiple of their wholes,
 -- where that is at most cap; else they are rounded down.
 -- Assumes nothing.
 use Prim.Native.Nat.{_*_, _/_, _≤_}
 use native.Mathlib.Omega.{arith}
 use borrow.Author.Needs.{needs}
-use Rattle.timing.specs.Laws.ShareLaws.{times-positive, exact-ranges, exact-most}
+use Rattle.timing.specs.Laws.UtilisationLaws.{times-positive, exact-ranges, exact-most}
 use Rattle.timing_response.proofs.utilisation.with_task.Statement.{statement}
 use Rattle.timing_response.proofs.utilisation.with_task.Tie as tie
 

@@ -1,4 +1,4 @@
--- `timing_response::iteration::climb` meets its contract. The loop's invariant: r is a lower bound of the solutions, at which the demand
+-- `timing_response::iteration::iterate` meets its contract. The loop's invariant: r is a lower bound of the solutions, at which the demand
 -- is not below r, for any table of these times of which that holds at the start, and the arrays are kept for r. Where
 -- the demand is r, r is the least solution; else it is a higher lower bound. The measure is how far r is from passing
 -- the period. Assumes nothing.
@@ -7,15 +7,15 @@ use Prim.Native.Nat.{suc, _+_, _-_, _^_, _≤_, _<_}
 use native.Mathlib.Omega.{arith}
 use lib.ListN.{getD}
 use Rattle.taskfile.specs.declared.Table.{Table}
-use Rattle.timing.specs.Laws.ClimbLaws.{climb-found, climb-higher, climb-past}
+use Rattle.timing.specs.Laws.IterationLaws.{iteration-found, iteration-higher, iteration-past}
 use Rattle.timing.specs.Laws.LentTimesLaws.{lent-read, lent-times}
 use Rattle.timing.specs.Response.{demand}
 use Rattle.timing.specs.Code.ResponseParts.{NeedOf, boundOf, LowerBound, TimesOf}
 use Rattle.timing.specs.Laws.TimeableLaws.{TimesRead, demand-read}
 use Rattle.timing_response.specs.Code.Kept.{Kept}
 use Rattle.timing_response.specs.Laws.KeptLaws.{kept-none, kept-longer}
-use Rattle.timing_response.proofs.iteration.climb.Statement.{statement}
-use Rattle.timing_response.proofs.iteration.climb.Tie as tie
+use Rattle.timing_response.proofs.iteration.iterate.Statement.{statement}
+use Rattle.timing_response.proofs.iteration.iterate.Tie as tie
 
 abbrev Inv-loop : tie.InvT-loop
 Inv-loop executions periods i own start at period tasks ends₀ busy₀ r₀ ends busy r =
@@ -86,7 +86,7 @@ unfolding boundOf
 returns c =
     let start = head (c .before) in
     let solves = sym (next (c .before) (entry start .pre .0) (entry start .pre .2)) ∙ c .if1 .taken in
-    sym (ap boundOf (climb-found (bound start) solves (omega (arith, read start))))
+    sym (ap boundOf (iteration-found (bound start) solves (omega (arith, read start))))
 
 loop-less : tie.Need-loop-less Inv-loop μ-loop
 loop-less c = omega (arith, grows (c .before))
@@ -94,16 +94,16 @@ loop-less c = omega (arith, grows (c .before))
 loop-again : tie.Need-loop-again Inv-loop μ-loop
 loop-again c = (
   λ t times known lower.
-      rw (next (c .before) times known) (climb-higher (head (c .before) .loop .inv .0 t times known lower)),
+      rw (next (c .before) times known) (iteration-higher (head (c .before) .loop .inv .0 t times known lower)),
   kept-longer (c .before .kept-interference .ensures .1) (grows (c .before)),
 )
 
 returns-2 : tie.Need-returns-2 Inv-loop μ-loop
 unfolding boundOf
-returns-2 c = sym (ap boundOf (climb-past (bound (c .before)) (omega (arith, read (c .before)))))
+returns-2 c = sym (ap boundOf (iteration-past (bound (c .before)) (omega (arith, read (c .before)))))
 
-pub climb-spec : {M : Type 1} → statement M
-climb-spec =
+pub iterate-spec : {M : Type 1} → statement M
+iterate-spec =
     tie.close
     (tie.spec
     Inv-loop

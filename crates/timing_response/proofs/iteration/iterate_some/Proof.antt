@@ -1,4 +1,4 @@
--- `timing_response::iteration::climb_some` meets its contract. The loop's invariant: r is a lower bound of the solutions, at which the
+-- `timing_response::iteration::iterate_some` meets its contract. The loop's invariant: r is a lower bound of the solutions, at which the
 -- demand is not below r, for any table of these times of which that holds at the start. The measure is the number of
 -- turns left.
 -- Assumes nothing.
@@ -7,13 +7,13 @@ use Prim.Native.Nat.{_^_, _<_}
 use native.Mathlib.Omega.{arith}
 use lib.ListN.{getD}
 use Rattle.taskfile.specs.declared.Table.{Table}
-use Rattle.timing.specs.Laws.ClimbLaws.{climb-higher}
+use Rattle.timing.specs.Laws.IterationLaws.{iteration-higher}
 use Rattle.timing.specs.Laws.LentTimesLaws.{lent-read, lent-times}
 use Rattle.timing.specs.Response.{demand}
 use Rattle.timing.specs.Code.ResponseParts.{NeedOf, LowerBound, TimesOf}
 use Rattle.timing.specs.Laws.TimeableLaws.{TimesRead}
-use Rattle.timing_response.proofs.iteration.climb_some.Statement.{statement}
-use Rattle.timing_response.proofs.iteration.climb_some.Tie as tie
+use Rattle.timing_response.proofs.iteration.iterate_some.Statement.{statement}
+use Rattle.timing_response.proofs.iteration.iterate_some.Tie as tie
 
 abbrev Inv-loop : tie.InvT-loop
 Inv-loop executions periods i own start turns at period tasks r₀ left₀ r left =
@@ -82,13 +82,13 @@ loop-less c = omega arith
 
 loop-again : tie.Need-loop-again Inv-loop μ-loop
 loop-again c = λ t times known lower.
-    rw (next (c .before) times known) (climb-higher (head (c .before) .loop .inv t times known lower))
+    rw (next (c .before) times known) (iteration-higher (head (c .before) .loop .inv t times known lower))
 
 returns-3 : tie.Need-returns-3 Inv-loop μ-loop
 returns-3 c = bound (c .before)
 
-pub climb-some-spec : {M : Type 1} → statement M
-climb-some-spec =
+pub iterate-some-spec : {M : Type 1} → statement M
+iterate-some-spec =
     tie.close
     (tie.spec
     Inv-loop

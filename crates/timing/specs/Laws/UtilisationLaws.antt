@@ -1,4 +1,4 @@
--- Laws of the share of the processor that tasks need: two shares are added over a common whole, exactly or rounded
+-- Laws of the utilisation that tasks need: two utilisations are added over a common whole, exactly or rounded
 -- down, and each task above adds its own, since C × R ≤ C × P × ceil(R / P).
 -- Assumes nothing.
 use mathlib.Core.Path.{_≡_, ap}
@@ -11,13 +11,13 @@ use Rattle.taskfile.specs.declared.Table.{Table}
 use Rattle.taskfile.specs.declared.Task.{Task}
 use Rattle.taskfile.specs.Tables.{tasksOf}
 use Rattle.taskfile.specs.Judgement.{numbered}
-use Rattle.timing.specs.declared.Share.{Share}
+use Rattle.timing.specs.declared.Utilisation.{Utilisation}
 use Rattle.timing.specs.Response.{roundedUp, tasksAbove, interference}
 use Rattle.timing.specs.Laws.ResponseLaws.{roundedUp-covers, roundedUp-below, roundedUp-positive}
-use Rattle.timing.specs.Code.ResponseParts.{Timeable, SumFits, WithTask, ShareOf}
+use Rattle.timing.specs.Code.ResponseParts.{Timeable, SumFits, WithTask, UtilisationOf}
 use Rattle.timing.specs.Laws.TimeableLaws.{TimesRead, interference-next}
 
--- ---- adding one task's share
+-- ---- adding one task's utilisation
 
 -- n of d and c of p over the common whole d × a
 pub sum-exact : (n d c p a b : ℕ) → d * a ≡ p * b → (n * a + c * b) * (d * p) ≤ (n * p + c * d) * (d * a)
@@ -52,7 +52,7 @@ quotient-grouped d m {u} {w} some more eu ew =
       room = omega arith;
     }
 
-module _ {s : Share} {c p cap : ℕ} (fits : SumFits s c p cap) where
+module _ {s : Utilisation} {c p cap : ℕ} (fits : SumFits s c p cap) where
   module _ {u w : ℕ} (group : Grouped (s .whole) ((2 ^ 64 - 1) / c) u w) where
     -- the rounded sum can be worked out
     pub rounded-product : c * w < 2 ^ 64
@@ -61,7 +61,7 @@ module _ {s : Share} {c p cap : ℕ} (fits : SumFits s c p cap) where
     pub rounded-fits : s .part / u + c * w / p < 2 ^ 64
     rounded-fits = omega (arith, div-le-self (s .part) u, div-le-of-le-mul p (mul-le-mul-right w (fits .within)))
 
-    -- and is no more than the two shares
+    -- and is no more than the two utilisations
     pub rounded-most : WithTask s c p cap (record { part = s .part / u + c * w / p; whole = w })
     rounded-most = record {
       positive = group .positive;
@@ -95,7 +95,7 @@ module _ {s : Share} {c p cap : ℕ} (fits : SumFits s c p cap) where
         whole-few,
       )
 
-      -- and is no more than the two shares
+      -- and is no more than the two utilisations
       pub exact-most : WithTask s c p cap
           (record { part = s .part * (p / g) + c * (s .whole / g); whole = s .whole * (p / g) })
       exact-most = record {
@@ -106,22 +106,22 @@ module _ {s : Share} {c p cap : ℕ} (fits : SumFits s c p cap) where
 
 -- ---- the tasks above, one by one
 
--- a share in at most cap parts that the tasks from task j on need at least without those from task k on
-pub record ShareBefore (t : Table) (j k cap : ℕ) (s : Share) : Type 0 where
+-- a utilisation in at most cap parts that the tasks from task j on need at least without those from task k on
+pub record UtilisationBefore (t : Table) (j k cap : ℕ) (s : Utilisation) : Type 0 where
   pub positive : 1 ≤ s .whole
   pub few : s .whole ≤ cap
   pub needed : (R : ℕ) → R * s .part + interference (drop k (tasksOf t)) R * s .whole
       ≤ interference (drop j (tasksOf t)) R * s .whole
 
 -- before the first of them, nothing is needed
-pub share-none : (t : Table) (j : ℕ) {cap : ℕ} → 1 ≤ cap → ShareBefore t j j cap (record { part = 0; whole = 1 })
-share-none t j h = record { positive = omega arith; few = h; needed = λ R. omega arith }
+pub utilisation-none : (t : Table) (j : ℕ) {cap : ℕ} → 1 ≤ cap → UtilisationBefore t j j cap (record { part = 0; whole = 1 })
+utilisation-none t j h = record { positive = omega arith; few = h; needed = λ R. omega arith }
 
 -- what those passed need, all tasks above task i need
-pub share-found : {t : Table} (i : Task) {k cap : ℕ} {s : Share} → ShareBefore t (i .0 + 1) k cap s
-    → ShareOf (tasksAbove t i) cap s
+pub utilisation-found : {t : Table} (i : Task) {k cap : ℕ} {s : Utilisation} → UtilisationBefore t (i .0 + 1) k cap s
+    → UtilisationOf (tasksAbove t i) cap s
 unfolding tasksAbove
-share-found i share = record { positive = share .positive; few = share .few; needed = λ R. rw (← add-one (i .0)) (omega (arith, share .needed R)) }
+utilisation-found i share = record { positive = share .positive; few = share .few; needed = λ R. rw (← add-one (i .0)) (omega (arith, share .needed R)) }
 
 -- one task more: what was covered by n of d stays covered by m of w, which is at most n of d and c of p
 covered-more : (R n d c p m w u J I : ℕ) → 1 ≤ d → 1 ≤ p → R ≤ u * p → m * (d * p) ≤ (n * p + c * d) * w
@@ -131,9 +131,9 @@ covered-more R n d c p m w u J I some positive long most covered =
     (omega (arith, mul-le-mul-left R most, mul-le-mul-right (p * w) covered, mul-le-mul-right (c * d * w) long))
     (one-le-mul some positive)
 
-pub share-more : {t : Table} {j k C P cap : ℕ} {s r : Share} → Timeable t → k < t .tasks → TimesRead t (numbered k) C P
-    → ShareBefore t j k cap s → WithTask s C P cap r → ShareBefore t j (k + 1) cap r
-share-more {t} {j} {k} {C} {P} {cap} {s} {r} timeable lt read share more = record {
+pub utilisation-more : {t : Table} {j k C P cap : ℕ} {s r : Utilisation} → Timeable t → k < t .tasks → TimesRead t (numbered k) C P
+    → UtilisationBefore t j k cap s → WithTask s C P cap r → UtilisationBefore t j (k + 1) cap r
+utilisation-more {t} {j} {k} {C} {P} {cap} {s} {r} timeable lt read share more = record {
   positive = more .positive;
   few = more .few;
   needed = λ R.

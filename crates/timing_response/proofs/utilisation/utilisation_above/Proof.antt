@@ -1,4 +1,4 @@
--- `timing_response::utilisation::share_above` meets its contract. The loop's invariant: the share has at most cap parts, and is one that
+-- `timing_response::utilisation::utilisation_above` meets its contract. The loop's invariant: the utilisation has at most cap parts, and is one that
 -- the tasks from k₀ = i + 1 on need at least without those from k on, for any table of these times. The measure is
 -- the number of tasks left.
 -- Assumes nothing.
@@ -8,13 +8,13 @@ use Rattle.taskfile.specs.declared.Table.{Table}
 use Rattle.taskfile.specs.Judgement.{numbered}
 use Rattle.timing.specs.Laws.LentTimesLaws.{lent-read}
 use Rattle.timing.specs.Code.ResponseParts.{TimesOf}
-use Rattle.timing.specs.Laws.ShareLaws.{ShareBefore, share-none, share-more, share-found}
-use Rattle.timing_response.proofs.utilisation.share_above.Statement.{statement}
-use Rattle.timing_response.proofs.utilisation.share_above.Tie as tie
+use Rattle.timing.specs.Laws.UtilisationLaws.{UtilisationBefore, utilisation-none, utilisation-more, utilisation-found}
+use Rattle.timing_response.proofs.utilisation.utilisation_above.Statement.{statement}
+use Rattle.timing_response.proofs.utilisation.utilisation_above.Tie as tie
 
 abbrev Inv-loop : tie.InvT-loop
 Inv-loop executions periods tasks cap s₀ k₀ end s k =
-    (k ≤ end) × (s .whole ≤ cap) × ((t : Table) → TimesOf t executions periods tasks → ShareBefore t k₀ k cap s)
+    (k ≤ end) × (s .whole ≤ cap) × ((t : Table) → TimesOf t executions periods tasks → UtilisationBefore t k₀ k cap s)
 
 abbrev μ-loop : tie.MeasureT-loop
 μ-loop executions periods tasks cap s₀ k₀ end s k = end - k
@@ -30,10 +30,10 @@ add-k : tie.Need-add-k Inv-loop μ-loop
 add-k c = omega arith
 
 loop-holds : tie.Need-loop-holds Inv-loop μ-loop
-loop-holds c = (omega arith, omega arith, λ t times. share-none _ _ (c .before .pre .2))
+loop-holds c = (omega arith, omega arith, λ t times. utilisation-none _ _ (c .before .pre .2))
 
 returns : tie.Need-returns Inv-loop μ-loop
-returns c = λ t times. share-found _ (c .before .before .before .loop .inv .2 t times)
+returns c = λ t times. utilisation-found _ (c .before .before .before .loop .inv .2 t times)
 
 mul-with-task : tie.Need-mul-with-task Inv-loop μ-loop
 mul-with-task c = omega arith
@@ -65,15 +65,15 @@ loop-again c =
       omega arith,
       c .with-task .ensures .few,
       λ t times.
-          share-more (times .timeable) (omega (arith, times .count)) (lent-read times (numbered (start .before .loop .k)) (start .loop-test .taken))
+          utilisation-more (times .timeable) (omega (arith, times .count)) (lent-read times (numbered (start .before .loop .k)) (start .loop-test .taken))
           (start .before .loop .inv .2 t times) (c .with-task .ensures),
     )
 
 returns-2 : tie.Need-returns-2 Inv-loop μ-loop
-returns-2 c = λ t times. share-found _ (c .before .loop .inv .2 t times)
+returns-2 c = λ t times. utilisation-found _ (c .before .loop .inv .2 t times)
 
-pub share-above-spec : {M : Type 1} → statement M
-share-above-spec =
+pub utilisation-above-spec : {M : Type 1} → statement M
+utilisation-above-spec =
     tie.close
     (tie.spec
     Inv-loop

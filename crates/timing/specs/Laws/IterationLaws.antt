@@ -1,5 +1,5 @@
--- Laws of the climb to the response time: where it starts, that each step keeps a lower bound of the solutions, and
--- where it ends. The start rests on R × part ≤ I × whole, for a share that the tasks above need and I their
+-- Laws of the iteration to the response time: where it starts, that each step keeps a lower bound of the solutions, and
+-- where it ends. The start rests on R × part ≤ I × whole, for a utilisation that the tasks above need and I their
 -- interference in an interval of length R.
 -- Assumes nothing.
 use mathlib.Core.Path.{_≡_, sym, ap}
@@ -10,15 +10,15 @@ use mathlib.Core.Option.{none, some}
 use Rattle.taskfile.specs.declared.Table.{Table}
 use Rattle.taskfile.specs.declared.Task.{Task}
 use Rattle.taskfile.specs.Tables.{taskOf}
-use Rattle.timing.specs.declared.Share.{Share}
+use Rattle.timing.specs.declared.Utilisation.{Utilisation}
 use Rattle.timing.specs.Response.{roundedUp, tasksAbove, need, demand, responseOf}
 use Rattle.timing.specs.Laws.ResponseLaws.{roundedUp-below, roundedUp-positive, demand-mono, response-found, response-none}
-use Rattle.timing.specs.Code.ResponseParts.{ShareOf, LowerBound}
+use Rattle.timing.specs.Code.ResponseParts.{UtilisationOf, LowerBound}
 
 -- ---- the start
 
-module _ (t : Table) (i : Task) (positive : 1 ≤ need t i) {cap : ℕ} {s : Share} (share : ShareOf (tasksAbove t i) cap s) where
-  -- the demand covers the task's own need and the share of those above
+module _ (t : Table) (i : Task) (positive : 1 ≤ need t i) {cap : ℕ} {s : Utilisation} (share : UtilisationOf (tasksAbove t i) cap s) where
+  -- the demand covers the task's own need and the utilisation of those above
   demand-covers : (R : ℕ) → need t i * s .whole + R * s .part ≤ demand t i R * s .whole
   unfolding demand
   demand-covers R = omega (arith, share .needed R)
@@ -47,17 +47,17 @@ module _ (t : Table) (i : Task) (positive : 1 ≤ need t i) {cap : ℕ} {s : Sha
           below = λ Q a q. (let outside : Q < start → ⊥ = λ l. omega (arith, start-under Q l) in omega arith);
         }
 
--- ---- the climb
+-- ---- the iteration
 
 module _ {t : Table} {i : Task} {r : ℕ} (bound : LowerBound t i r) where
   -- a lower bound that solves the response equation is the response time
-  pub climb-found : demand t i r ≡ r → r ≤ taskOf t i .period → responseOf t i ≡ some r
-  climb-found solves within =
+  pub iteration-found : demand t i r ≡ r → r ≤ taskOf t i .period → responseOf t i ≡ some r
+  iteration-found solves within =
       response-found t i r .1 (record { positive = bound .positive; solves = sym solves; least = bound .below }, within)
 
   -- the demand at a lower bound is a lower bound
-  pub climb-higher : LowerBound t i (demand t i r)
-  climb-higher =
+  pub iteration-higher : LowerBound t i (demand t i r)
+  iteration-higher =
       record {
         positive = le-trans (bound .positive) (bound .rises);
         rises = demand-mono t i (bound .rises);
@@ -65,5 +65,5 @@ module _ {t : Table} {i : Task} {r : ℕ} (bound : LowerBound t i r) where
       }
 
   -- a lower bound past the period leaves no solution within it
-  pub climb-past : taskOf t i .period < r → responseOf t i ≡ none
-  climb-past past = response-none t i .1 (λ Q a b q. omega (arith, bound .below Q a q))
+  pub iteration-past : taskOf t i .period < r → responseOf t i ≡ none
+  iteration-past past = response-none t i .1 (λ Q a b q. omega (arith, bound .below Q a q))
