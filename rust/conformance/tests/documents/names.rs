@@ -67,10 +67,14 @@ fn stands_alone(tree: &Tree, code: &str) -> bool {
     tree.has_together(&parts) || (code.starts_with('.') && tree.has_extension(name))
 }
 
+/// The notes of landings: records of the past, which name things as they were then.
+const PAST: &str = "docs/landings/";
+
 /// The documents for readers.
 fn documents() -> Vec<String> {
     let pages = files("docs").into_iter().filter(|path| path.ends_with(".md"));
-    pages.chain(["README.md".to_string()]).collect()
+    let present = pages.filter(|path| !path.starts_with(PAST));
+    present.chain(["README.md".to_string()]).collect()
 }
 
 #[test]
