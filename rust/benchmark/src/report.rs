@@ -153,7 +153,7 @@ fn slowest(timings: &[Timing], kind: Kind, files: &str) -> String {
         _ => format!("The slowest {files}, one of {stopped} that were stopped,"),
     };
     let ratio = ratio(most.proved, timings[0].proved);
-    format!("{which} takes the proved entry {ratio} times as long as {}.", timings[0].name)
+    format!("{which}\ntakes the proved entry {ratio} times as long as {}.", timings[0].name)
 }
 
 /// The tables as text, in the order of the page.
