@@ -14,7 +14,7 @@ use Rattle.taskfile.specs.declared.Table.{Table}
 use Rattle.taskfile.specs.Chains.{Chains, chainsOf}
 use Rattle.taskfile.specs.Records.{File}
 use Rattle.timing.specs.Accepted.{Accepted, accept}
-use Rattle.writer.specs.Claims.{Bytes, Fits}
+use Rattle.writer.specs.Values.{Bytes, Fits}
 use Rattle.writer.specs.Fields.{acceptTable}
 use Rattle.writer.specs.SameTable.{SameTable}
 use Rattle.writer.specs.WalkOrder.{inWalkOrder}

@@ -18,7 +18,9 @@ use Rattle.taskfile.specs.Judgement.{numbered, judged}
 use Rattle.taskfile.specs.Records.{windowInRange, timesInRange, ceilingInRange, tidyInstruction, instructionInRange}
 use Rattle.timing.specs.Accepted.{Accepted, timed}
 use Rattle.writer.specs.declared.Lock.{Lock}
-use Rattle.writer.specs.Claims.{claimedTasks, claimedBody, claimedLocks, covered, indexOf}
+use Rattle.writer.specs.Claims.{claimedTasks, claimedBody, claimedLocks}
+use Rattle.writer.specs.Sites.{indexOf}
+use Rattle.writer.specs.Covered.{covered}
 
 -- the instructions of task i from position p on: an instruction too many, then its operation and fields
 unfoldable pub bodyFields : ℕ → ℕ → List Instruction → Checked Site (Unit {0})

@@ -22,6 +22,7 @@ pub mod MovedRecords
 pub mod PartLaws
 pub mod PlacedCheckLaws
 pub mod PositionLaws
+pub mod SiteLaws
 pub mod WalkOrderLaws
 pub mod WalkedTableLaws
 pub mod WideBytesLaws

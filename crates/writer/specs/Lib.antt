@@ -1,9 +1,13 @@
 pub mod Claims
+pub mod Covered
 pub mod Fields
 pub mod Laws
 pub mod Layout
 pub mod Memory
+pub mod Positions
 pub mod SameTable
+pub mod Sites
+pub mod Values
 pub mod WalkOrder
 pub mod WriteEntries
 pub mod WriterDemand

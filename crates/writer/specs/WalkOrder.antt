@@ -2,17 +2,13 @@
 -- records in walk order". Record k of the new file is the k-th record of the walk of records, with its links led to
 -- where their records now stand.
 -- Assumes nothing.
-use Prim.Native.Nat.{ℕ, zero, suc}
+use Prim.Native.Nat.{ℕ}
 use mathlib.Core.List.{List, [], _∷_, map}
 use lib.Dec.{eqb}
 use Rattle.notation.specs.Lists.{if_then_else_, upTo, member, each}
 use Rattle.taskfile.specs.Chains.{Chains, reachedBy}
 use Rattle.taskfile.specs.Records.{File, byteAt}
-
--- where a number stands in a list, from 0
-unfoldable pub positionOf : ℕ → List ℕ → ℕ
-positionOf x [] = 0
-positionOf x (y ∷ ys) = if eqb x y then 0 else suc (positionOf x ys)
+use Rattle.writer.specs.Positions.{positionOf}
 
 -- The bytes of a record that hold an index, by its kind: a header's first task and first lock; a task's next record and
 -- first instruction; a lock's and an instruction's next record.

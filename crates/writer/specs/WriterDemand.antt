@@ -12,7 +12,7 @@ use Rattle.taskfile.specs.Chains.{Chains, chainsOf}
 use Rattle.taskfile.specs.Records.{File}
 use Rattle.timing.specs.Accepted.{Accepted, accept}
 use Rattle.timing.specs.ReadEntries.{readAnswer}
-use Rattle.writer.specs.Claims.{Bytes, Fits}
+use Rattle.writer.specs.Values.{Bytes, Fits}
 use Rattle.writer.specs.Layout.{layout}
 use Rattle.writer.specs.Memory.{tableIn, tableBytes}
 use Rattle.writer.specs.SameTable.{SameTable}

@@ -13,7 +13,8 @@ ghost use mathlib.Core.Path.{_≡_};
 ghost use Prim.Native.Nat.{_+_, _≤_, _<_, min};
 ghost use lib.ListN.{length, getD};
 ghost use Rattle.taskfile.specs.Tables.{endInstruction, noTask};
-ghost use Rattle.writer.specs.Claims.{claimedTasks, claimedBody, lockArray, noLock, claimedLocks, recordTotal};
+ghost use Rattle.writer.specs.Claims.{claimedTasks, claimedBody, lockArray, noLock, claimedLocks};
+ghost use Rattle.writer.specs.Sites.{locksAt};
 ghost use Rattle.writer_layout.specs.Code.ClaimedParts.{linkAt};
 
 // As many as the count says, and never more than one too many.
@@ -93,9 +94,9 @@ pub fn link_at(r: u8, p: u8, count: u8) -> u8
     if p < count { r } else { 0 }
 }
 
-// How many records the tasks make with their bodies.
+// How many records the tasks make with their bodies: those between the header and the first lock.
 pub fn record_total(t: Table) -> u8
-    ensures { λ n. ⌜ (n ≡ recordTotal (claimedTasks t)) × (n ≤ 162) ⌝ }
+    ensures { λ n. ⌜ (1 + n ≡ locksAt t) × (n ≤ 162) ⌝ }
 {
     let count = task_count(t);
     let mut total: u8 = 0;

@@ -20,7 +20,7 @@ use Rattle.taskfile.specs.declared.Instruction.{Instruction}
 use Rattle.taskfile.specs.declared.Table.{Table}
 use Rattle.taskfile.specs.declared.TaskEntry.{TaskEntry}
 use Rattle.taskfile.specs.Tables.{noTask, emptyTable}
-use Rattle.writer.specs.Claims.{ByteFields, FitsEntry, Fits}
+use Rattle.writer.specs.Values.{ByteFields, FitsEntry, Fits}
 use Rattle.writer.specs.Laws.LaidChainLaws.{noTask-fits}
 use Rattle.writer.specs.Laws.WideBytesLaws.{Wide}
 use Rattle.texts.specs.declared.Form.{Form}

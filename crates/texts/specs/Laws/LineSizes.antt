@@ -22,7 +22,7 @@ use Rattle.taskfile.specs.Tables.{bodyOf, endInstruction}
 use Rattle.sheets.specs.Laws.DecimalLaws.{decimal-few}
 use Rattle.sheets.specs.Texts.{Text, decimal, spaced, line, taskWord}
 use Rattle.writer.specs.declared.Lock.{Lock}
-use Rattle.writer.specs.Claims.{Bytes, FitsEntry, ByteFields}
+use Rattle.writer.specs.Values.{Bytes, FitsEntry, ByteFields}
 use Rattle.texts.specs.declared.Form.the-variants.{WindowLine, StartLine, TaskLine, InstructionLine}
 use Rattle.texts.specs.Grammar.{Line, lineWith, lineText, rowOf, operationRows, joined}
 use Rattle.texts.specs.Laws.EveryLaws.{tested-below}

@@ -22,7 +22,8 @@ use Rattle.taskfile.specs.declared.Table.{Table}
 use Rattle.taskfile.specs.declared.TaskEntry.{TaskEntry}
 use Rattle.taskfile.specs.Tables.{tasksOf, bodyOf, noTask, emptyTable}
 use Rattle.writer.specs.declared.Lock.{Lock}
-use Rattle.writer.specs.Claims.{lockByLock, lockArray, FitsEntry, Fits}
+use Rattle.writer.specs.Claims.{lockByLock, lockArray}
+use Rattle.writer.specs.Values.{FitsEntry, Fits}
 use Rattle.writer.specs.Laws.LockLaws.{locks-full}
 use Rattle.texts.specs.declared.Form.{Form}
 use Rattle.texts.specs.declared.Form.the-variants.{WindowLine, StartLine, TaskLine, InstructionLine, LockLine}

@@ -40,7 +40,8 @@ use Rattle.sheets.specs.Laws.DecimalLaws.{decimal-few}
 use Rattle.sheets.specs.Laws.TextSizes.{each-most}
 use Rattle.sheets.specs.Texts.{decimal}
 use Rattle.writer.specs.declared.Lock.{Lock}
-use Rattle.writer.specs.Claims.{lockArray, Bytes, ByteFields, FitsEntry, Fits}
+use Rattle.writer.specs.Claims.{lockArray}
+use Rattle.writer.specs.Values.{Bytes, ByteFields, FitsEntry, Fits}
 use Rattle.writer.specs.Fields.{fields}
 use Rattle.writer.specs.Laws.CheckedTableLaws.{tasks-fit, fields-within}
 use Rattle.writer.specs.Laws.FieldsRead.{fields-read, fits-read}

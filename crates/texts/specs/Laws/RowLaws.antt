@@ -17,7 +17,7 @@ use Rattle.notation.specs.Lists.{upTo, from, all}
 use Rattle.notation.specs.Ordered.{Every}
 use Rattle.taskfile.specs.declared.Instruction.{Instruction}
 use Rattle.taskfile.specs.Records.{Use, unused, most, lockNumber, usesOf, operationUses, tidyField, tidyInstruction}
-use Rattle.writer.specs.Claims.{ByteFields}
+use Rattle.writer.specs.Values.{ByteFields}
 use Rattle.texts.specs.declared.Form.the-variants.{InstructionLine}
 use Rattle.texts.specs.Grammar.{lineWith, rowOf, operationRows, byteField, fits, inBody}
 use Rattle.texts.specs.Laws.EveryLaws.{tested-below}

@@ -25,7 +25,8 @@ use Rattle.taskfile.specs.Laws.RecordLaws.{instruction-ranged}
 use Rattle.taskfile.specs.Records.{timesInRange, ceilingInRange, tidyInstruction, instructionInRange}
 use Rattle.taskfile.specs.Tables.{tasksOf, bodyOf}
 use Rattle.writer.specs.declared.Lock.{Lock}
-use Rattle.writer.specs.Claims.{claimedTasks, claimedBody, claimedLocks, lockArray, noLock, ByteFields, FitsEntry, Fits}
+use Rattle.writer.specs.Claims.{claimedTasks, claimedBody, claimedLocks, lockArray, noLock}
+use Rattle.writer.specs.Values.{ByteFields, FitsEntry, Fits}
 use Rattle.writer.specs.Fields.{bodyFields, taskFields, lockFields, fields}
 use Rattle.writer.specs.Laws.CheckedTableLaws.{fields-parts, fields-within, tasks-fit, tasks-claimed, bodies-claimed}
 use Rattle.writer.specs.Laws.ClaimLaws.{claimed-covered}

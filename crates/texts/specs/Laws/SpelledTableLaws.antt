@@ -21,7 +21,9 @@ use Rattle.taskfile.specs.declared.TaskEntry.{TaskEntry}
 use Rattle.taskfile.specs.Chains.{mostTasks, mostLocks, mostInstructions}
 use Rattle.taskfile.specs.Tables.{tasksOf, bodyOf, ceilingsOf, holdingsOf, endInstruction, noTask, emptyTable}
 use Rattle.writer.specs.declared.Lock.{Lock}
-use Rattle.writer.specs.Claims.{lockArray, coveredEntry, covered, FitsEntry, Fits}
+use Rattle.writer.specs.Claims.{lockArray}
+use Rattle.writer.specs.Covered.{coveredEntry, covered}
+use Rattle.writer.specs.Values.{FitsEntry, Fits}
 use Rattle.writer.specs.Fields.{fields}
 use Rattle.writer.specs.Laws.CheckedTableLaws.{fields-within, tasks-fit}
 use Rattle.writer.specs.Laws.CoveredLaws.{held-tasks-length}

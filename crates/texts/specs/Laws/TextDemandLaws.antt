@@ -21,7 +21,8 @@ use Rattle.taskfile.specs.Records.{File}
 use Rattle.taskfile.specs.Tables.{tasksOf, noTask, tableAt}
 use Rattle.timing.specs.Accepted.{Accepted, accept}
 use Rattle.timing.specs.Laws.AcceptedLaws.{file-accepted}
-use Rattle.writer.specs.Claims.{Bytes, Fits, covered}
+use Rattle.writer.specs.Covered.{covered}
+use Rattle.writer.specs.Values.{Bytes, Fits}
 use Rattle.writer.specs.Fields.{fields, acceptTable}
 use Rattle.writer.specs.Layout.{layout}
 use Rattle.writer.specs.SameTable.{SameTable}

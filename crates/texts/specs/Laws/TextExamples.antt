@@ -3,12 +3,14 @@
 use mathlib.Core.Path.{_≡_, refl}
 use mathlib.Core.List.{[], _∷_}
 use Rattle.notation.specs.Checked.{refused, passed, require, given, placedBy, _>>=_, _>>_}
-use Rattle.notation.specs.Lists.{if_then_else_, upTo, from, all, firstWith, firstOr, same, each, bytesAt, padded, sum}
+use Rattle.notation.specs.Lists.{if_then_else_, upTo, from, all, firstWith, firstOr, same, each, bytesAt, padded}
 use Rattle.sheets.specs.Texts.{digit, digits, decimal, spaced, line, taskWord}
 use Rattle.taskfile.specs.Records.{tidyInstruction, fieldsInRange, choiceInRange, instructionInRange, usesOf, operationUses}
 use Rattle.taskfile.specs.Records.{tidyField, fieldInRange}
 use Rattle.taskfile.specs.Tables.{tasksOf, bodyOf, noTask, emptyTable}
-use Rattle.writer.specs.Claims.{claimed, claimedTasks, claimedBody, lockByLock, claimedLocks, recordTotal, indexOf}
+use Rattle.writer.specs.Claims.{claimed, claimedTasks, claimedBody, lockByLock, claimedLocks}
+use Rattle.writer.specs.Positions.{positionWhere}
+use Rattle.writer.specs.Sites.{bodySites, taskSites, sites, siteNumbers, sameSite, indexOf}
 use Rattle.writer.specs.Fields.{bodyFields, taskFields, fields, judgedWhole, acceptTable}
 use Rattle.writer.specs.WriteEntries.{written}
 use Rattle.writer.specs.Laws.WriterExamples.{small}
@@ -98,7 +100,8 @@ pick-two = refl
 unfoldable judging : Unit {0}
 unfolding opened filed lineOfRecord tableOf addLines addPart withWindow withStore withTasks counted bareTask addTask
     longerTask addInstruction addLock instructionWith emptyTable written acceptTable judgedWhole placedBy indexOf fields
-    taskFields bodyFields recordTotal claimedTasks claimedBody claimedLocks claimed sum tidyInstruction
+    taskFields bodyFields bodySites taskSites sites siteNumbers sameSite positionWhere claimedTasks claimedBody
+    claimedLocks claimed tidyInstruction
     fieldsInRange choiceInRange instructionInRange usesOf operationUses tidyField fieldInRange
 judging = tt
 

@@ -8,7 +8,7 @@ use lib.ListN.{length}
 use borrow.Author.Needs.{needs}
 use Rattle.notation.specs.Laws.ElementLaws.{at-every}
 use Rattle.notation_buffers.specs.Laws.WritingLaws.{appends-count}
-use Rattle.writer.specs.Claims.{Bytes}
+use Rattle.writer.specs.Values.{Bytes}
 use Rattle.texts.specs.TextEntries.{texted, toTextAnswer, toTextAfter, textRoom}
 use Rattle.texts.specs.TextTables.{textOf}
 use Rattle.writer_entries.specs.Laws.DeskLaws.{made-refused, made-no-room, made-done}

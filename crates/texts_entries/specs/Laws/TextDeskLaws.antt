@@ -10,7 +10,7 @@ use Rattle.timing.specs.declared.AcceptAnswer.{AcceptAnswer}
 use Rattle.timing.specs.Accepted.{accept}
 use Rattle.timing.specs.Code.AcceptParts.{AcceptedAs}
 use Rattle.timing.specs.Laws.AcceptLaws.{accepted-passed}
-use Rattle.writer.specs.Claims.{Bytes}
+use Rattle.writer.specs.Values.{Bytes}
 use Rattle.texts.specs.Laws.LongestText.{file-longest}
 use Rattle.texts.specs.TextTables.{textOf}
 

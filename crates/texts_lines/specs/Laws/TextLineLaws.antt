@@ -14,7 +14,8 @@ use Rattle.taskfile.specs.declared.TaskEntry.{TaskEntry}
 use Rattle.taskfile.specs.Tables.{tasksOf, bodyOf, endInstruction, noTask}
 use Rattle.sheets.specs.Texts.{Text}
 use Rattle.writer.specs.declared.Lock.{Lock}
-use Rattle.writer.specs.Claims.{lockArray, noLock, FitsEntry, Fits}
+use Rattle.writer.specs.Claims.{lockArray, noLock}
+use Rattle.writer.specs.Values.{FitsEntry, Fits}
 use Rattle.writer.specs.Laws.LockLaws.{locks-full}
 use Rattle.notation_buffers.specs.Laws.WritingLaws.{appends-more}
 use Rattle.texts.specs.declared.Form.the-variants.{WindowLine, StartLine, TaskLine}

@@ -17,7 +17,7 @@ use Rattle.taskfile.specs.declared.TaskEntry.{TaskEntry}
 use Rattle.taskfile.specs.Chains.{mostTasks, mostInstructions}
 use Rattle.taskfile.specs.Tables.{noTask}
 use Rattle.texts.specs.TextTables.{addInstruction, withTasks, longerTask, counted}
-use Rattle.writer.specs.Claims.{Fits, FitsEntry}
+use Rattle.writer.specs.Values.{Fits, FitsEntry}
 use Rattle.texts_tables.specs.Code.Overfull.{bodyOver}
 
 -- ---- what is read

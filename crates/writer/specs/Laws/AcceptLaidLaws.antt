@@ -4,7 +4,7 @@
 use mathlib.Core.Path.{_≡_}
 use Rattle.taskfile.specs.declared.Table.{Table}
 use Rattle.timing.specs.Accepted.{accept}
-use Rattle.writer.specs.Claims.{Fits}
+use Rattle.writer.specs.Values.{Fits}
 use Rattle.writer.specs.Fields.{acceptTable}
 use Rattle.writer.specs.Layout.{layout}
 use Rattle.writer.specs.Laws.LaidChainLaws.{sized-laid, chains-laid}

@@ -20,7 +20,8 @@ use Rattle.taskfile.specs.Judgement.{numbered}
 use Rattle.taskfile.specs.Records.{timesInRange}
 use Rattle.taskfile.specs.Tables.{tasksOf, bodyOf, ceilingsOf, holdingsOf, endInstruction, noTask}
 use Rattle.writer.specs.declared.Lock.{Lock}
-use Rattle.writer.specs.Claims.{claimed, claimedTasks, claimedBody, lockByLock, lockArray, noLock, claimedLocks, FitsEntry, Fits}
+use Rattle.writer.specs.Claims.{claimed, claimedTasks, claimedBody, lockByLock, lockArray, noLock, claimedLocks}
+use Rattle.writer.specs.Values.{FitsEntry, Fits}
 use Rattle.writer.specs.Fields.{bodyFields, taskFields, lockFields, fields}
 use Rattle.writer.specs.Laws.ClaimLaws.{claimed-covered, locks-held}
 use Rattle.writer.specs.Laws.LockLaws.{locks-full}

@@ -15,7 +15,8 @@ use Rattle.taskfile.specs.declared.Task.{Task}
 use Rattle.taskfile.specs.declared.TaskEntry.{TaskEntry}
 use Rattle.taskfile.specs.Chains.{mostTasks, mostLocks, mostInstructions}
 use Rattle.taskfile.specs.Tables.{tasksOf, taskOf, bodyOf, ceilingsOf, holdingsOf, endInstruction, noTask}
-use Rattle.writer.specs.Claims.{coveredEntry, covered, FitsEntry, Fits}
+use Rattle.writer.specs.Covered.{coveredEntry, covered}
+use Rattle.writer.specs.Values.{FitsEntry, Fits}
 use Rattle.writer.specs.Fields.{fields}
 use Rattle.writer.specs.Laws.CheckedTableLaws.{tasks-fit, fields-within}
 use Rattle.writer.specs.SameTable.{contentsOf, SameTable}

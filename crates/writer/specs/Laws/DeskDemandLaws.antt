@@ -21,7 +21,9 @@ use Rattle.taskfile.specs.Tables.{tableAt}
 use Rattle.timing.specs.Accepted.{Accepted, responsesOf, timed, accept, mostJobs}
 use Rattle.timing.specs.Jobs.{jobCount}
 use Rattle.timing.specs.ReadEntries.{readAnswer, readAnswerOf}
-use Rattle.writer.specs.Claims.{Bytes, Fits, covered, indexOf}
+use Rattle.writer.specs.Sites.{indexOf}
+use Rattle.writer.specs.Covered.{covered}
+use Rattle.writer.specs.Values.{Bytes, Fits}
 use Rattle.writer.specs.Fields.{fields, judgedWhole, acceptTable}
 use Rattle.writer.specs.Layout.{layout}
 use Rattle.writer.specs.Memory.{memoryOf, tableIn, tableBytes}

@@ -25,7 +25,9 @@ use Rattle.taskfile.specs.Laws.ChainLaws.{tasks-held, ceilings-held, holdings-h
 use Rattle.taskfile.specs.Records.{File, byteAt, wideAt, next, tidy, inRange, zeroFrom, instructionAt}
 use Rattle.taskfile.specs.Records.{tidyInstruction, instructionInRange, windowInRange}
 use Rattle.taskfile.specs.Tables.{endInstruction, noTask, entryAt, tableAt}
-use Rattle.writer.specs.Claims.{claimedTasks, claimedBody, claimedLocks, covered, coveredEntry, Bytes, Fits, FitsEntry, ByteFields}
+use Rattle.writer.specs.Claims.{claimedTasks, claimedBody, claimedLocks}
+use Rattle.writer.specs.Covered.{covered, coveredEntry}
+use Rattle.writer.specs.Values.{Bytes, Fits, FitsEntry, ByteFields}
 use Rattle.writer.specs.Fields.{bodyFields, taskFields, lockFields, fields}
 use Rattle.writer.specs.Laws.ChainRecords.{GoodRecord, LedChain, LedTasks, chains-led}
 use Rattle.writer.specs.Laws.LaidChainLaws.{noTask-fits}

@@ -17,7 +17,7 @@ use Rattle.taskfile.proofs.TaskEntry as entry
 use Rattle.taskfile.specs.declared.Instruction.{Instruction}
 use Rattle.taskfile.specs.declared.Table.{Table}
 use Rattle.taskfile.specs.declared.TaskEntry.{TaskEntry}
-use Rattle.writer.specs.Claims.{Fits, FitsEntry, ByteFields}
+use Rattle.writer.specs.Values.{Fits, FitsEntry, ByteFields}
 
 -- an array's elements have what any value of their type has
 pub elements-fit : (F : Field) (P : F .Value → Type 0)

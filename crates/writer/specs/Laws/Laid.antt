@@ -7,7 +7,8 @@ use Rattle.notation.specs.Lists.{from}
 use Rattle.taskfile.specs.declared.Table.{Table}
 use Rattle.taskfile.specs.declared.TaskEntry.{TaskEntry}
 use Rattle.taskfile.specs.Chains.{Chains, TaskChain}
-use Rattle.writer.specs.Claims.{claimedTasks, claimedBody, claimedLocks, locksAt}
+use Rattle.writer.specs.Claims.{claimedTasks, claimedBody, claimedLocks}
+use Rattle.writer.specs.Sites.{locksAt}
 use Rattle.writer.specs.Layout.{afterTask}
 
 -- the task at index r, and its body after it

@@ -16,17 +16,19 @@ use Rattle.notation.specs.Laws.PaddedLaws.{padded-length, every-padded, every-t
 use Rattle.notation.specs.Laws.PairLaws.{every-imp, every-append, from-within}
 use Rattle.notation.specs.Ordered.{Every}
 use Rattle.taskfile.specs.declared.Kind.the-variants.{Header, LockRecord}
-use Rattle.taskfile.specs.declared.Site.the-variants.{AtHeader, AtLock}
+use Rattle.taskfile.specs.declared.Site.the-variants.{AtHeader, AtTask, AtInstruction, AtLock}
 use Rattle.taskfile.specs.declared.Table.{Table}
 use Rattle.taskfile.specs.declared.TaskEntry.{TaskEntry}
 use Rattle.taskfile.specs.Chains.{mostTasks, mostLocks, mostInstructions, chain, taskChains, recordsOf}
 use Rattle.taskfile.specs.Chains.{reachedBy, noStray, chainsOf}
 use Rattle.taskfile.specs.File.{sized}
 use Rattle.taskfile.specs.Laws.CheckSteps.{noneOf-upTo-none}
+use Rattle.taskfile.specs.Judgement.{numbered}
 use Rattle.taskfile.specs.Records.{records, windowInRange}
 use Rattle.taskfile.specs.Tables.{endInstruction, noTask}
-use Rattle.writer.specs.Claims.{claimed, claimedTasks, claimedBody, lockArray, noLock, claimedLocks, recordTotal, indexOf, locksAt}
-use Rattle.writer.specs.Claims.{FitsEntry, ByteFields, Fits}
+use Rattle.writer.specs.Claims.{claimed, claimedTasks, claimedBody, lockArray, noLock, claimedLocks}
+use Rattle.writer.specs.Sites.{indexOf, locksAt}
+use Rattle.writer.specs.Values.{FitsEntry, ByteFields, Fits}
 use Rattle.writer.specs.Fields.{taskFields, lockFields, fields}
 use Rattle.writer.specs.Layout.{linkTo, afterTask, headerRecord, taskRecords, lockRecords, layout}
 use Rattle.writer.specs.Laws.ClaimLaws.{claimed-most}
@@ -35,10 +37,10 @@ use Rattle.writer.specs.Laws.LaidListLaws.{Below, recordOf-laid}
 use Rattle.writer.specs.Laws.LaidRecordLaws.{header-kind, header-task, header-lock, header-fine}
 use Rattle.writer.specs.Laws.LaidTaskLaws.{TaskPlaces, claimed-linked, locks-laid, tasks-laid}
 use Rattle.writer.specs.Laws.LayoutLaws.{headerRecord-length, taskRecords-length, lockRecords-length}
-use Rattle.writer.specs.Laws.LayoutLaws.{recordTotal-cons}
 use Rattle.writer.specs.Laws.LockLaws.{locks-full}
 use Rattle.writer.specs.Laws.PartLaws.{StandsAt, stands-first, stands-second}
 use Rattle.writer.specs.Laws.PlacedCheckLaws.{placed-whole}
+use Rattle.writer.specs.Laws.SiteLaws.{recordTotal, recordTotal-cons, countedIndex, index-counted, locks-counted}
 
 -- ---- what a table that fits claims
 
@@ -122,7 +124,7 @@ pub layout-parts : (t : Table) → Fits t
     → StandsAt (layout t) 0 (headerRecord t (linkTo 1 (claimedTasks t)) (linkTo (locksAt t) (claimedLocks t)))
     × StandsAt (layout t) 1 (taskRecords 1 (claimedTasks t))
     × StandsAt (layout t) (locksAt t) (lockRecords (locksAt t) (claimedLocks t))
-unfolding layout locksAt
+unfolding layout
 layout-parts t fits =
     let firstTask = linkTo 1 (claimedTasks t) in
     let firstLock = linkTo (locksAt t) (claimedLocks t) in
@@ -136,25 +138,30 @@ layout-parts t fits =
       stands-first (layout t) 0 header tasks front,
       stands-second (layout t) 0 1 1 header tasks front (omega (arith, long)) (omega arith),
       stands-second (layout t) 0 (locksAt t) (locksAt t) (header ++ tasks) locks whole
-          (length-append header tasks ∙ omega (arith, long, taskRecords-length 1 (claimedTasks t))) (omega arith),
+          (length-append header tasks ∙ omega (arith, long, taskRecords-length 1 (claimedTasks t), locks-counted t))
+          (omega arith),
     )
 
 -- the tasks stand, with their bodies, where `indexOf` says; and so do the locks
 pub layout-places : (t : Table) → TaskPlaces (indexOf t) 0 1 (claimedTasks t)
-unfolding indexOf
+unfolding countedIndex
 layout-places t =
     record {
-      taskPlace = λ j.
+      taskPlace = λ j few.
           let same : 0 + j ≡ j = omega arith in
-          ap (λ n. suc (recordTotal (take n (claimedTasks t)))) same ∙ omega arith;
-      instructionPlace = λ j q.
+          ap (λ n. indexOf t (AtTask (numbered n))) same ∙ index-counted t (AtTask (numbered j)) few ∙ omega arith;
+      instructionPlace = λ j q few inside.
           let same : 0 + j ≡ j = omega arith in
-          ap (λ n. suc (suc (recordTotal (take n (claimedTasks t))) + q)) same ∙ omega arith;
+          ap (λ n. indexOf t (AtInstruction (numbered n) q)) same
+          ∙ index-counted t (AtInstruction (numbered j) q) (few, inside)
+          ∙ omega arith;
     }
 
-pub lock-places : (t : Table) (q : ℕ) → indexOf t (AtLock (0 + q)) ≡ locksAt t + q
-unfolding indexOf locksAt
-lock-places t q = omega arith
+pub lock-places : (t : Table) (q : ℕ) → q < length (claimedLocks t) → indexOf t (AtLock (0 + q)) ≡ locksAt t + q
+unfolding countedIndex
+lock-places t q few =
+    let same : 0 + q ≡ q = omega arith in
+    ap (λ n. indexOf t (AtLock n)) same ∙ index-counted t (AtLock q) few ∙ omega (arith, locks-counted t)
 
 -- ---- the records reached
 
@@ -174,8 +181,7 @@ from-append start (suc m) n =
 
 -- the locks stand after the header and the tasks
 locks-after : (t : Table) → locksAt t ≡ 0 + suc (recordTotal (claimedTasks t))
-unfolding locksAt
-locks-after t = omega arith
+locks-after t = omega (arith, locks-counted t)
 
 -- the records of tasks laid out from index r on are those from r on
 pub tasks-reached : (r : ℕ) (tasks : List TaskEntry) → recordsOf (laidTasks r tasks) ≡ from r (recordTotal tasks)
@@ -221,8 +227,8 @@ locks-below t =
     )
 
 header-place : (t : Table) → indexOf t AtHeader ≡ 0
-unfolding indexOf
-header-place t = refl
+unfolding countedIndex
+header-place t = index-counted t AtHeader tt
 
 -- the header has a first task just if the table counts one
 tasks-linked-some : (t : Table) → eqb (linkTo 1 (claimedTasks t)) 0 ≡ eqb (t .tasks) 0

@@ -56,16 +56,17 @@ more-allowed zero p most count = sym (le-ltb p most (omega arith))
 more-allowed (suc allowed) p most count = lt-ltb 0 (suc allowed) (omega arith) ∙ sym (lt-ltb p most (omega arith))
 
 -- places that rise by one, from the first on and from the second on
-module _ (index : Site → ℕ) (site : ℕ → Site) (p r : ℕ) (places : (q : ℕ) → index (site (p + q)) ≡ r + q) where
+module _ (index : Site → ℕ) (site : ℕ → Site) (p r n : ℕ)
+    (places : (q : ℕ) → q < suc n → index (site (p + q)) ≡ r + q) where
   place-first : index (site p) ≡ r
   place-first =
       let same : p ≡ p + 0 = omega arith in
-      ap (λ n. index (site n)) same ∙ places 0 ∙ omega arith
+      ap (λ m. index (site m)) same ∙ places 0 (omega arith) ∙ omega arith
 
-  place-later : (q : ℕ) → index (site (suc p + q)) ≡ suc r + q
-  place-later q =
+  place-later : (q : ℕ) → q < n → index (site (suc p + q)) ≡ suc r + q
+  place-later q few =
       let same : suc p + q ≡ p + suc q = omega arith in
-      ap (λ n. index (site n)) same ∙ places (suc q) ∙ omega arith
+      ap (λ m. index (site m)) same ∙ places (suc q) (omega arith) ∙ omega arith
 
 -- The records of a list of parts stand from index r on, each linked to the next; the fields of a part are right where
 -- `fine` holds of it, and at most `most` parts may come.
@@ -102,7 +103,7 @@ module _ {A : Type 0} (kind : Kind) (most : ℕ) (fine : A → Bool) (recordOfPa
 
   -- the parts from part p on, laid out from index r on
   pub chain-laid : (xs : List A) (r p allowed : ℕ) (reached : List ℕ) (holder : ℕ) → StandsAt f r (recordsFrom r xs)
-      → 0 < r → Below r reached → allowed + p ≡ most → ((q : ℕ) → index (site (p + q)) ≡ r + q)
+      → 0 < r → Below r reached → allowed + p ≡ most → ((q : ℕ) → q < length xs → index (site (p + q)) ≡ r + q)
       → chain kind allowed f reached holder (linkTo r xs)
       ≡ _>>_ (placedBy index (fieldsFrom p xs)) (passed (from r (length xs)))
   unfolding chain linkTo from _>>_ placedBy
@@ -112,7 +113,7 @@ module _ {A : Type 0} (kind : Kind) (most : ℕ) (fine : A → Bool) (recordOfPa
   chain-laid (x ∷ xs) zero p (suc allowed) reached holder stands some below count places = absurd (omega arith)
   chain-laid (x ∷ xs) (suc r) p zero reached holder stands some below count places =
       let own = first-stands x xs (suc r) stands .0 in
-      let here : index (site p) ≡ suc r = place-first index site p (suc r) places in
+      let here : index (site p) ≡ suc r = place-first index site p (suc r) (length xs) places in
       ap (λ c. _>>_ c (passed []))
       (first-follow x (linkTo (suc (suc r)) xs) (suc r) p 0 reached holder own below count)
       ∙ placed-many index (ltb p most) (fine x) (site p) (suc r) _ _ _ here (le-ltb p most (omega arith))
@@ -120,10 +121,10 @@ module _ {A : Type 0} (kind : Kind) (most : ℕ) (fine : A → Bool) (recordOfPa
   chain-laid (x ∷ xs) (suc r) p (suc allowed) reached holder stands some below count places =
       let parts = first-stands x xs (suc r) stands in
       let link = linkTo (suc (suc r)) xs in
-      let here : index (site p) ≡ suc r = place-first index site p (suc r) places in
+      let here : index (site p) ≡ suc r = place-first index site p (suc r) (length xs) places in
       let deeper = chain-laid xs (suc (suc r)) (suc p) allowed (suc r ∷ reached) (suc r) (parts .1) (omega arith)
       (omega arith, below-more (suc r) (suc (suc r)) reached (omega arith) below) (omega arith)
-      (place-later index site p (suc r) places) in
+      (place-later index site p (suc r) (length xs) places) in
       ap (λ c. _>>_ c
       (_>>=_ (chain kind allowed f (suc r ∷ reached) (suc r) (next f (suc r))) (λ others. passed (suc r ∷ others))))
       (first-follow x link (suc r) p (suc allowed) reached holder (parts .0) below count)

@@ -19,7 +19,7 @@ use Rattle.taskfile.specs.declared.TaskEntry.{TaskEntry}
 use Rattle.taskfile.specs.Records.{File, kindNumber, byteAt, wideAt, next, zeroFrom, instructionAt, tidy, inRange}
 use Rattle.taskfile.specs.Records.{tidyInstruction, instructionInRange, windowInRange, timesInRange, ceilingInRange}
 use Rattle.writer.specs.declared.Lock.{Lock}
-use Rattle.writer.specs.Claims.{Fits, FitsEntry}
+use Rattle.writer.specs.Values.{Fits, FitsEntry}
 use Rattle.writer.specs.Layout.{wideBytes, instructionRecord, taskRecord, lockRecord, headerRecord}
 use Rattle.writer.specs.Laws.LayoutLaws.{headerRecord-length}
 use Rattle.writer.specs.Laws.PartLaws.{StandsAt, stands-byte}

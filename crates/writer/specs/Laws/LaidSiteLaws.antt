@@ -9,7 +9,6 @@ use Rattle.notation.specs.Checked.{passed}
 use Rattle.notation.specs.Laws.ListLaws.{getD-from}
 use Rattle.notation.specs.Laws.PairLaws.{every-at}
 use Rattle.notation.specs.Laws.QuantifierLaws.{map-length}
-use Rattle.notation.specs.Lists.{sum}
 use Rattle.taskfile.specs.declared.Instruction.{Instruction}
 use Rattle.taskfile.specs.declared.Site.{Site}
 use Rattle.taskfile.specs.declared.Site.the-variants.{AtHeader, AtTask, AtInstruction, AtLock}
@@ -20,18 +19,17 @@ use Rattle.taskfile.specs.Chains.{TaskChain}
 use Rattle.taskfile.specs.File.{recordAt}
 use Rattle.taskfile.specs.Laws.ChainLaws.{InTable}
 use Rattle.taskfile.specs.Tables.{tasksOf, taskOf, bodyOf, ceilingsOf, holdingsOf, noTask}
-use Rattle.writer.specs.Claims.{claimedTasks, claimedBody, claimedLocks, recordTotal, indexOf, coveredEntry, covered, FitsEntry, Fits, locksAt}
+use Rattle.writer.specs.Claims.{claimedTasks, claimedBody, claimedLocks}
+use Rattle.writer.specs.Sites.{indexOf, locksAt}
+use Rattle.writer.specs.Covered.{coveredEntry, covered}
+use Rattle.writer.specs.Values.{FitsEntry, Fits}
 use Rattle.writer.specs.Fields.{fields}
 use Rattle.writer.specs.Layout.{afterTask}
 use Rattle.writer.specs.Laws.CheckedTableLaws.{tasks-fit, body-claimed, fields-within, tasks-claimed, locks-even, locks-claimed}
 use Rattle.writer.specs.Laws.CoveredLaws.{body-covered, tasks-covered, ceilings-covered, task-covered}
 use Rattle.writer.specs.Laws.Laid.{laidTask, laidTasks, laidChains}
-use Rattle.writer.specs.Laws.LayoutLaws.{recordTotal-cons}
 use Rattle.writer.specs.Laws.LockLaws.{locks-length}
-
-total-none : recordTotal [] ≡ 0
-unfolding recordTotal sum
-total-none = refl
+use Rattle.writer.specs.Laws.SiteLaws.{recordTotal, recordTotal-cons, total-none, countedIndex, ClaimedSite, index-counted, locks-counted}
 
 after-total : (r : ℕ) (e : TaskEntry) (before : List TaskEntry)
     → afterTask r e + recordTotal before ≡ r + recordTotal (e ∷ before)
@@ -80,16 +78,26 @@ module _ (t : Table) (fit : Fits t) {u : Unit {0}} (sound : fields t ≡ passed 
         locks-length (ceilingsOf t) (holdingsOf t) (locks-even t fit),
       )
 
-  pub record-laid : (s : Site) → InTable (covered t) s → recordAt (laidChains t) s ≡ indexOf t s
-  unfolding recordAt indexOf laidChains laidTask locksAt
-  record-laid AtHeader h = refl
-  record-laid (AtTask i) h =
+  record-counted : (s : Site) → InTable (covered t) s → recordAt (laidChains t) s ≡ countedIndex t s
+  unfolding recordAt countedIndex laidChains laidTask
+  record-counted AtHeader h = refl
+  record-counted (AtTask i) h =
       ap (λ (c : TaskChain). c .taskRecord) (chain-at 1 (claimedTasks t) (i .0) _ noTask (task-claimed i h))
       ∙ omega arith
-  record-laid (AtInstruction i p) h =
+  record-counted (AtInstruction i p) h =
       ap (λ (c : TaskChain). getD (c .body) p 0)
       (chain-at 1 (claimedTasks t) (i .0) _ noTask (task-claimed i (h .0)))
       ∙ getD-from _ _ p 0 (instruction-claimed i p (h .0) (h .1))
       ∙ omega arith
-  record-laid (AtLock l) h =
-      getD-from (locksAt t) (length (claimedLocks t)) l 0 (lock-claimed l h)
+  record-counted (AtLock l) h =
+      getD-from (locksAt t) (length (claimedLocks t)) l 0 (lock-claimed l h) ∙ omega (arith, locks-counted t)
+
+  -- a site of the covered table is one of what the table claims
+  site-claimed : (s : Site) → InTable (covered t) s → ClaimedSite t s
+  site-claimed AtHeader h = tt
+  site-claimed (AtTask i) h = task-claimed i h
+  site-claimed (AtInstruction i p) h = (task-claimed i (h .0), instruction-claimed i p (h .0) (h .1))
+  site-claimed (AtLock l) h = lock-claimed l h
+
+  pub record-laid : (s : Site) → InTable (covered t) s → recordAt (laidChains t) s ≡ indexOf t s
+  record-laid s h = record-counted s h ∙ sym (index-counted t s (site-claimed s h))

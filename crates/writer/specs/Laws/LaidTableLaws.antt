@@ -17,7 +17,10 @@ use Rattle.taskfile.specs.Chains.{mostTasks, mostLocks, mostInstructions}
 use Rattle.taskfile.specs.Records.{File, byteAt, wideAt, instructionAt}
 use Rattle.taskfile.specs.Tables.{tasksOf, ceilingsOf, holdingsOf, endInstruction, noTask, entryAt, tableAt}
 use Rattle.writer.specs.declared.Lock.{Lock}
-use Rattle.writer.specs.Claims.{claimedTasks, claimedBody, lockByLock, lockArray, noLock, claimedLocks, coveredEntry, covered, FitsEntry, Fits, locksAt}
+use Rattle.writer.specs.Claims.{claimedTasks, claimedBody, lockByLock, lockArray, noLock, claimedLocks}
+use Rattle.writer.specs.Sites.{locksAt}
+use Rattle.writer.specs.Covered.{coveredEntry, covered}
+use Rattle.writer.specs.Values.{FitsEntry, Fits}
 use Rattle.writer.specs.Fields.{fields}
 use Rattle.writer.specs.Layout.{wideBytes, linkTo, instructionRecord, bodyRecords, taskRecord, afterTask, taskRecords}
 use Rattle.writer.specs.Layout.{lockRecord, lockRecords, headerRecord, layout}

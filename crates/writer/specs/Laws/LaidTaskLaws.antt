@@ -6,7 +6,7 @@ use native.Mathlib.Omega.{arith}
 use mathlib.Core.Bool.{not, _&&_}
 use mathlib.Core.List.{List, [], _∷_, _++_}
 use lib.Dec.{ltb, eqb, eqb·suc-zero}
-use lib.ListN.{length, take, length-append}
+use lib.ListN.{length, getD, take, length-append}
 use borrow.Author.Tests.{le-ltb}
 use Rattle.notation.specs.Checked.{passed, require, placedBy, _>>=_, _>>_}
 use Rattle.notation.specs.Lists.{from, member, sum}
@@ -20,9 +20,10 @@ use Rattle.taskfile.specs.declared.TaskEntry.{TaskEntry}
 use Rattle.taskfile.specs.Chains.{mostTasks, mostLocks, mostInstructions, follow, chain, bodyChain, taskChains}
 use Rattle.taskfile.specs.Judgement.{numbered}
 use Rattle.taskfile.specs.Records.{File, next, tidyInstruction, instructionInRange, timesInRange, ceilingInRange}
-use Rattle.taskfile.specs.Tables.{endInstruction}
+use Rattle.taskfile.specs.Tables.{endInstruction, noTask}
 use Rattle.writer.specs.declared.Lock.{Lock}
-use Rattle.writer.specs.Claims.{claimed, claimedBody, recordTotal, FitsEntry}
+use Rattle.writer.specs.Claims.{claimed, claimedBody}
+use Rattle.writer.specs.Values.{FitsEntry}
 use Rattle.writer.specs.Fields.{bodyFields, taskFields, lockFields}
 use Rattle.writer.specs.Layout.{wideBytes, linkTo, instructionRecord, bodyRecords, lockRecord, lockRecords, taskRecord}
 use Rattle.writer.specs.Layout.{afterTask, taskRecords}
@@ -31,16 +32,17 @@ use Rattle.writer.specs.Laws.LaidListLaws.{Below, below-more, below-fres
 use Rattle.writer.specs.Laws.LaidRecordLaws.{instruction-kind, instruction-link, instruction-fine}
 use Rattle.writer.specs.Laws.LaidRecordLaws.{lock-kind, lock-link, lock-fine}
 use Rattle.writer.specs.Laws.LaidRecordLaws.{task-kind, task-link, task-first, task-fine}
-use Rattle.writer.specs.Laws.LayoutLaws.{bodyRecords-length, taskRecord-length, recordTotal-cons}
+use Rattle.writer.specs.Laws.LayoutLaws.{bodyRecords-length, taskRecord-length}
 use Rattle.writer.specs.Laws.PartLaws.{StandsAt, stands-first, stands-second, stands-inside}
 use Rattle.writer.specs.Laws.PlacedCheckLaws.{bind-rest, placed-many, placed-holder}
+use Rattle.writer.specs.Laws.SiteLaws.{recordTotal, recordTotal-cons}
 
 -- ---- bodies and locks
 
 -- the instructions of a body from position p on, laid out from index r on
 pub body-laid : (f : File) (index : Site → ℕ) (i : ℕ) (body : List Instruction) (r p allowed : ℕ) (reached : List ℕ)
     (holder : ℕ) → StandsAt f r (bodyRecords r body) → 0 < r → Below r reached → allowed + p ≡ mostInstructions
-    → ((q : ℕ) → index (AtInstruction (numbered i) (p + q)) ≡ r + q)
+    → ((q : ℕ) → q < length body → index (AtInstruction (numbered i) (p + q)) ≡ r + q)
     → chain InstructionRecord allowed f reached holder (linkTo r body)
     ≡ _>>_ (placedBy index (bodyFields i p body)) (passed (from r (length body)))
 unfolding bodyRecords bodyFields instructionRecord
@@ -53,7 +55,7 @@ body-laid f index i =
 -- the locks from lock l on
 pub locks-laid : (f : File) (index : Site → ℕ) (locks : List Lock) (r l allowed : ℕ) (reached : List ℕ) (holder : ℕ)
     → StandsAt f r (lockRecords r locks) → 0 < r → Below r reached → allowed + l ≡ mostLocks
-    → ((q : ℕ) → index (AtLock (l + q)) ≡ r + q)
+    → ((q : ℕ) → q < length locks → index (AtLock (l + q)) ≡ r + q)
     → chain LockRecord allowed f reached holder (linkTo r locks)
     ≡ _>>_ (placedBy index (lockFields l locks)) (passed (from r (length locks)))
 unfolding lockRecords lockFields lockRecord wideBytes
@@ -74,8 +76,8 @@ claimed-linked (suc count) (x ∷ array) blank r = eqb·suc-zero r ∙ sym (eqb�
 
 -- where the tasks from task i on stand, and their instructions, where the first stands at index r
 pub record TaskPlaces (index : Site → ℕ) (i r : ℕ) (tasks : List TaskEntry) : Type 0 where
-  pub taskPlace : (j : ℕ) → index (AtTask (numbered (i + j))) ≡ r + recordTotal (take j tasks)
-  pub instructionPlace : (j q : ℕ)
+  pub taskPlace : (j : ℕ) → j < length tasks → index (AtTask (numbered (i + j))) ≡ r + recordTotal (take j tasks)
+  pub instructionPlace : (j q : ℕ) → j < length tasks → q < length (claimedBody (getD tasks j noTask))
       → index (AtInstruction (numbered (i + j)) q) ≡ suc (r + recordTotal (take j tasks)) + q
 
 -- so the first task, its instructions and the other tasks stand
@@ -85,28 +87,28 @@ module _ (index : Site → ℕ) (i r : ℕ) (e : TaskEntry) (others : List TaskE
   unfolding recordTotal sum
   task-first-place =
       let same : i ≡ i + 0 = omega arith in
-      ap (λ n. index (AtTask (numbered n))) same ∙ places .taskPlace 0 ∙ omega arith
+      ap (λ n. index (AtTask (numbered n))) same ∙ places .taskPlace 0 (omega arith) ∙ omega arith
 
-  body-first-place : (q : ℕ) → index (AtInstruction (numbered i) (0 + q)) ≡ suc r + q
+  body-first-place : (q : ℕ) → q < length (claimedBody e) → index (AtInstruction (numbered i) (0 + q)) ≡ suc r + q
   unfolding recordTotal sum
-  body-first-place q =
+  body-first-place q inside =
       let same : i ≡ i + 0 = omega arith in
       let position : 0 + q ≡ q = omega arith in
-      (λ k. index (AtInstruction (numbered (same k)) (position k))) ∙ places .instructionPlace 0 q ∙ omega arith
+      (λ k. index (AtInstruction (numbered (same k)) (position k))) ∙ places .instructionPlace 0 q (omega arith) inside ∙ omega arith
 
   task-later-place : TaskPlaces index (suc i) (afterTask r e) others
   unfolding afterTask
   task-later-place =
       record {
-        taskPlace = λ j.
+        taskPlace = λ j few.
             let same : suc i + j ≡ i + suc j = omega arith in
             ap (λ n. index (AtTask (numbered n))) same
-            ∙ places .taskPlace (suc j)
+            ∙ places .taskPlace (suc j) (omega arith)
             ∙ omega (arith, recordTotal-cons e (take j others));
-        instructionPlace = λ j q.
+        instructionPlace = λ j q few inside.
             let same : suc i + j ≡ i + suc j = omega arith in
             ap (λ n. index (AtInstruction (numbered n) q)) same
-            ∙ places .instructionPlace (suc j) q
+            ∙ places .instructionPlace (suc j) q (omega arith) inside
             ∙ omega (arith, recordTotal-cons e (take j others));
       }
 
@@ -151,7 +153,7 @@ module _ (f : File) (index : Site → ℕ) (i r : ℕ) (e : TaskEntry) (link : �
 
   -- "an empty body (place: the holder)", and the body
   pub bodyChain-laid : (reached : List ℕ) → StandsAt f (suc r) (bodyRecords (suc r) (claimedBody e)) → Below r reached
-      → ((q : ℕ) → index (AtInstruction (numbered i) (0 + q)) ≡ suc r + q)
+      → ((q : ℕ) → q < length (claimedBody e) → index (AtInstruction (numbered i) (0 + q)) ≡ suc r + q)
       → bodyChain f (r ∷ reached) r
       ≡ _>>_ (require (not (eqb (e .length) 0)) 5 r)
       (_>>_ (placedBy index (bodyFields i 0 (claimedBody e))) (passed (from (suc r) (length (claimedBody e)))))

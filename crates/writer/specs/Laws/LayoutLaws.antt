@@ -12,9 +12,10 @@ use Rattle.taskfile.specs.declared.Table.{Table}
 use Rattle.taskfile.specs.declared.TaskEntry.{TaskEntry}
 use Rattle.taskfile.specs.Records.{byteAt}
 use Rattle.writer.specs.declared.Lock.{Lock}
-use Rattle.writer.specs.Claims.{claimedBody, recordTotal}
+use Rattle.writer.specs.Claims.{claimedBody}
 use Rattle.writer.specs.Layout.{wideBytes, linkTo, instructionRecord, bodyRecords, taskRecord, afterTask, taskRecords}
 use Rattle.writer.specs.Layout.{lockRecord, lockRecords, headerRecord}
+use Rattle.writer.specs.Laws.SiteLaws.{recordTotal}
 
 -- ---- how long the parts are
 
@@ -28,11 +29,6 @@ bodyRecords-length r (i ∷ others) =
 pub taskRecord-length : (e : TaskEntry) (next first : ℕ) → length (taskRecord e next first) ≡ 16
 unfolding taskRecord wideBytes
 taskRecord-length e next first = refl
-
-pub recordTotal-cons : (e : TaskEntry) (others : List TaskEntry)
-    → recordTotal (e ∷ others) ≡ suc (length (claimedBody e)) + recordTotal others
-unfolding recordTotal sum
-recordTotal-cons e others = refl
 
 pub taskRecords-length : (r : ℕ) (tasks : List TaskEntry) → length (taskRecords r tasks) ≡ 16 * recordTotal tasks
 unfolding taskRecords recordTotal sum taskRecord wideBytes bodyRecords

@@ -11,12 +11,13 @@ use Rattle.notation.specs.Ordered.{Every}
 use Rattle.taskfile.specs.declared.Table.{Table}
 use Rattle.taskfile.specs.declared.TaskEntry.{TaskEntry}
 use Rattle.taskfile.specs.Chains.{mostInstructions}
-use Rattle.writer.specs.Claims.{claimedTasks, claimedBody, recordTotal, Fits}
+use Rattle.writer.specs.Claims.{claimedTasks, claimedBody}
+use Rattle.writer.specs.Values.{Fits}
 use Rattle.writer.specs.Fields.{fields}
 use Rattle.writer.specs.Layout.{layout}
 use Rattle.writer.specs.Laws.CheckedTableLaws.{claims-few}
 use Rattle.writer.specs.Laws.LaidChainLaws.{layout-bytes, layout-most}
-use Rattle.writer.specs.Laws.LayoutLaws.{recordTotal-cons}
+use Rattle.writer.specs.Laws.SiteLaws.{recordTotal, recordTotal-cons}
 
 pub layout-length : (t : Table) → Fits t → length (layout t) ≤ 2752
 layout-length t fit = omega (arith, layout-bytes t fit, layout-most t fit)

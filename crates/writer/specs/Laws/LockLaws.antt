@@ -12,7 +12,8 @@ use Rattle.taskfile.specs.declared.Table.{Table}
 use Rattle.taskfile.specs.Chains.{mostLocks}
 use Rattle.taskfile.specs.Records.{File, byteAt, wideAt}
 use Rattle.writer.specs.declared.Lock.{Lock}
-use Rattle.writer.specs.Claims.{claimed, lockByLock, lockArray, noLock, claimedLocks, Fits}
+use Rattle.writer.specs.Claims.{claimed, lockByLock, lockArray, noLock, claimedLocks}
+use Rattle.writer.specs.Values.{Fits}
 use Rattle.writer.specs.Laws.WideBytesLaws.{Wide}
 
 -- the lock of the record r

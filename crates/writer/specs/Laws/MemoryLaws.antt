@@ -13,7 +13,7 @@ use Rattle.notation.specs.Ordered.{Every}
 use Rattle.taskfile.specs.declared.Instruction.{Instruction}
 use Rattle.taskfile.specs.declared.Table.{Table}
 use Rattle.taskfile.specs.declared.TaskEntry.{TaskEntry}
-use Rattle.writer.specs.Claims.{Fits, FitsEntry, ByteFields}
+use Rattle.writer.specs.Values.{Fits, FitsEntry, ByteFields}
 use Rattle.writer.specs.Laws.MemoryReading.{byte-behind, wide-behind, wide-skipped, bytes-behind, parts-long, parts-back}
 use Rattle.writer.specs.Laws.WideBytesLaws.{Wide}
 use Rattle.writer.specs.Layout.{wideBytes}

@@ -24,7 +24,8 @@ use Rattle.taskfile.specs.Tables.{entryAt, tableAt}
 use Rattle.writer.specs.Laws.ChainRecords.{GoodRecord}
 use Rattle.writer.specs.Laws.LockLaws.{lockAt}
 use Rattle.writer.specs.Layout.{wideBytes, headerRecord, taskRecord, lockRecord, instructionRecord}
-use Rattle.writer.specs.WalkOrder.{positionOf, linkBytes, movedRecord}
+use Rattle.writer.specs.Positions.{positionOf}
+use Rattle.writer.specs.WalkOrder.{linkBytes, movedRecord}
 
 -- ---- the fields
 

@@ -11,12 +11,12 @@ use borrow.Author.Tests.{eq-eqb}
 use Rattle.notation.specs.Lists.{if_then_else_, member}
 use Rattle.notation.specs.Laws.MemberLaws.{member-append}
 use Rattle.notation.specs.Laws.TestLaws.{or-neither}
-use Rattle.writer.specs.WalkOrder.{positionOf}
+use Rattle.writer.specs.Positions.{positionWhere, positionOf}
 
 -- a number that does not stand in front stands right behind
 pub position-behind : (front : List ℕ) (x : ℕ) (others : List ℕ) → member x front ≡ false
     → positionOf x (front ++ (x ∷ others)) ≡ length front
-unfolding positionOf member if_then_else_
+unfolding positionWhere member if_then_else_
 position-behind [] x others h = rw (eq-eqb x x refl)
 position-behind (y ∷ front) x others h =
     let parts = or-neither (eqb x y) (member x front) h in

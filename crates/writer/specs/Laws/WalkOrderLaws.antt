@@ -14,14 +14,17 @@ use Rattle.taskfile.specs.declared.Kind.the-variants.{LockRecord, InstructionRe
 use Rattle.taskfile.specs.Chains.{Chains, TaskChain, recordsOf, reachedBy, chainsOf}
 use Rattle.taskfile.specs.Records.{File, byteAt, next, instructionAt}
 use Rattle.taskfile.specs.Tables.{entryAt, tableAt}
-use Rattle.writer.specs.Claims.{claimedTasks, claimedBody, claimedLocks, recordTotal, locksAt}
+use Rattle.writer.specs.Claims.{claimedTasks, claimedBody, claimedLocks}
+use Rattle.writer.specs.Sites.{locksAt}
 use Rattle.writer.specs.Laws.ChainRecords.{LedChain, LedTasks, chains-led}
 use Rattle.writer.specs.Laws.ClaimLaws.{body-spelled, tasks-spelled, locks-spelled}
 use Rattle.writer.specs.Laws.LockLaws.{lockAt}
 use Rattle.writer.specs.Laws.MovedRecords.{lock-moved, instruction-moved, task-moved, header-moved}
 use Rattle.writer.specs.Laws.PositionLaws.{StandFrom, new-stand, stand-first, stand-second}
 use Rattle.writer.specs.Layout.{linkTo, instructionRecord, bodyRecords, taskRecord, afterTask, taskRecords, lockRecord, lockRecords, headerRecord, layout}
-use Rattle.writer.specs.WalkOrder.{positionOf, movedRecord, inWalkOrder}
+use Rattle.writer.specs.Positions.{positionOf}
+use Rattle.writer.specs.WalkOrder.{movedRecord, inWalkOrder}
+use Rattle.writer.specs.Laws.SiteLaws.{recordTotal, locks-counted}
 
 -- ---- chains of one kind, laid out from index n on
 
@@ -106,7 +109,7 @@ module _ (f : File) (small : Every (λ (b : ℕ). b < 256) f) (walk : List ℕ) 
 -- document 02, E2: "an accepted file, read and written, is that file with its records in walk order"
 pub walk-order : (f : File) → Every (λ (b : ℕ). b < 256) f → {c : Chains} → chainsOf f ≡ passed c
     → layout (tableAt f c) ≡ inWalkOrder f c
-unfolding layout inWalkOrder locksAt reachedBy each
+unfolding layout inWalkOrder reachedBy each
 walk-order f small {c} e =
     let led = chains-led f e in
     let t = tableAt f c in
@@ -118,7 +121,12 @@ walk-order f small {c} e =
     let heldTasks = tasks-spelled f c (led .fewTasks) in
     let heldLocks = locks-spelled f c (led .fewLocks) in
     let locksFrom : 1 + length tasks ≡ locksAt t =
-    omega (arith, ap recordTotal heldTasks, total-claimed f (byteAt f 0 2) (c .tasks) (led .tasks)) in
+    omega (
+      arith,
+      locks-counted t,
+      ap recordTotal heldTasks,
+      total-claimed f (byteAt f 0 2) (c .tasks) (led .tasks),
+    ) in
     let standTasks : StandFrom walk 1 tasks = stand-first walk 1 tasks (c .locks) (stand .1) in
     let standLocks : StandFrom walk (locksAt t) (c .locks) =
     subst (λ (n : ℕ). StandFrom walk n (c .locks)) locksFrom (stand-second walk 1 tasks (c .locks) (stand .1)) in

@@ -20,7 +20,9 @@ use Rattle.taskfile.specs.Laws.LoadLaws.{task-in, fault-in-table, load-unchaine
 use Rattle.timing.specs.Accepted.{mostJobs, responsesOf, timed, accept}
 use Rattle.timing.specs.Jobs.{jobCount}
 use Rattle.timing.specs.Laws.AcceptLaws.{accept-refused, responses-refused}
-use Rattle.writer.specs.Claims.{covered, indexOf, Fits}
+use Rattle.writer.specs.Sites.{indexOf}
+use Rattle.writer.specs.Covered.{covered}
+use Rattle.writer.specs.Values.{Fits}
 use Rattle.writer.specs.Fields.{fields, judgedWhole, acceptTable}
 use Rattle.writer.specs.Layout.{layout}
 use Rattle.writer.specs.Laws.Laid.{laidChains}

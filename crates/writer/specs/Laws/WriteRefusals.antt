@@ -15,7 +15,9 @@ use Rattle.timing.specs.Accepted.{responsesOf, timed}
 use Rattle.timing.specs.Jobs.{jobCount}
 use Rattle.timing.specs.Response.{responseOf}
 use Rattle.writer.specs.declared.Lock.{Lock}
-use Rattle.writer.specs.Claims.{claimedTasks, claimedBody, claimedLocks, covered, indexOf}
+use Rattle.writer.specs.Claims.{claimedTasks, claimedBody, claimedLocks}
+use Rattle.writer.specs.Sites.{indexOf}
+use Rattle.writer.specs.Covered.{covered}
 use Rattle.writer.specs.Fields.{bodyFields, taskFields, lockFields, fields, judgedWhole, acceptTable}
 use Rattle.writer.specs.WriteEntries.{written}
 

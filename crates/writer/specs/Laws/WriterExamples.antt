@@ -5,14 +5,16 @@ use Prim.Native.Nat.{ℕ}
 use mathlib.Core.List.{[], _∷_}
 use lib.ListN.{length, replicate}
 use Rattle.notation.specs.Checked.{refused, placedBy, require, _>>_}
-use Rattle.notation.specs.Lists.{if_then_else_, sum, padded}
+use Rattle.notation.specs.Lists.{if_then_else_, from, upTo, same, padded}
 use Rattle.taskfile.specs.declared.Instruction.{Instruction}
 use Rattle.taskfile.specs.declared.Table.{Table}
 use Rattle.taskfile.specs.declared.TaskEntry.{TaskEntry}
 use Rattle.taskfile.specs.Records.{tidyInstruction, fieldsInRange, choiceInRange, instructionInRange, usesOf, operationUses}
 use Rattle.taskfile.specs.Records.{tidyField, fieldInRange}
 use Rattle.taskfile.specs.Tables.{endInstruction, noTask}
-use Rattle.writer.specs.Claims.{claimed, claimedTasks, claimedBody, lockByLock, claimedLocks, recordTotal, indexOf, locksAt}
+use Rattle.writer.specs.Claims.{claimed, claimedTasks, claimedBody, lockByLock, claimedLocks}
+use Rattle.writer.specs.Sites.{bodySites, taskSites, sites, siteNumbers, sameSite, indexOf, locksAt}
+use Rattle.writer.specs.Positions.{positionWhere}
 use Rattle.writer.specs.Fields.{bodyFields, taskFields, fields}
 use Rattle.writer.specs.Layout.{wideBytes, linkTo, instructionRecord, bodyRecords, taskRecord, afterTask, taskRecords}
 use Rattle.writer.specs.Layout.{lockRecord, lockRecords, headerRecord, layout}
@@ -49,6 +51,11 @@ small W tasks C =
       holdings = 66051 ∷ replicate 7 0;
     }
 
+-- all that an index rests on
+unfoldable indexing : Unit {0}
+unfolding locksAt indexOf sites taskSites bodySites sameSite siteNumbers same positionWhere if_then_else_ upTo from
+indexing = tt
+
 -- header, each task followed by its body, the lock
 pub small-laid :
     layout (small 5 2 1)
@@ -59,18 +66,18 @@ pub small-laid :
     ∷ 2 ∷ 0 ∷ 5 ∷ 0 ∷ 1 ∷ 0 ∷ 0 ∷ 0 ∷ 4 ∷ 0 ∷ 0 ∷ 0 ∷ 1 ∷ 0 ∷ 0 ∷ 0
     ∷ 4 ∷ 0 ∷ 0 ∷ 0 ∷ 0 ∷ 0 ∷ 0 ∷ 0 ∷ 0 ∷ 0 ∷ 0 ∷ 0 ∷ 0 ∷ 0 ∷ 0 ∷ 0
     ∷ 3 ∷ 0 ∷ 1 ∷ 0 ∷ 3 ∷ 2 ∷ 1 ∷ 0 ∷ 0 ∷ 0 ∷ 0 ∷ 0 ∷ 0 ∷ 0 ∷ 0 ∷ 0 ∷ [])
-unfolding layout headerRecord locksAt recordTotal claimedTasks claimedBody claimedLocks lockByLock claimed taskRecords taskRecord afterTask
-    bodyRecords instructionRecord lockRecords lockRecord linkTo wideBytes sum small noTask padded
+unfolding layout headerRecord indexing claimedTasks claimedBody claimedLocks lockByLock claimed taskRecords taskRecord afterTask
+    bodyRecords instructionRecord lockRecords lockRecord linkTo wideBytes small noTask padded
 small-laid = refl
 
 -- the place of the second task's fault is its index, with the first one's body before it
 pub small-placed : placedBy (indexOf (small 5 2 0)) (fields (small 5 2 0)) ≡ refused 4 4
-unfolding placedBy indexOf fields taskFields bodyFields recordTotal claimedTasks claimedBody claimedLocks lockByLock claimed sum small
+unfolding placedBy indexing fields taskFields bodyFields claimedTasks claimedBody claimedLocks lockByLock claimed small
     noTask padded require _>>_ tidyInstruction fieldsInRange choiceInRange instructionInRange usesOf operationUses
     tidyField fieldInRange if_then_else_
 small-placed = refl
 
 -- a window of 0 is named before the tasks that are missing
 pub small-ordered : placedBy (indexOf (small 0 0 1)) (fields (small 0 0 1)) ≡ refused 4 0
-unfolding placedBy indexOf fields small require _>>_
+unfolding placedBy indexing fields small require _>>_
 small-ordered = refl

@@ -5,7 +5,7 @@ use native.Mathlib.Omega.{arith}
 use lib.Seq.{length-take-le}
 use borrow.Author.Needs.{needs}
 use Rattle.writer.specs.declared.WriteAnswer.{WriteAnswer}
-use Rattle.writer.specs.Claims.{Fits}
+use Rattle.writer.specs.Values.{Fits}
 use Rattle.writer.specs.Laws.FitsLaws.{table-fits}
 use Rattle.writer_entries.specs.Laws.DeskLaws.{laying-room, laid-within, laid-inside, laid-accepted}
 use Rattle.writer_entries.specs.Laws.DeskLaws.{copied-count, copied-within, copied-whole}

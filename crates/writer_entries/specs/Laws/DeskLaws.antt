@@ -20,7 +20,7 @@ use Rattle.timing.specs.Laws.AcceptLaws.{accepted-refused, accepted-passed}
 use Rattle.notation_buffers.specs.Code.Writing.{Appends}
 use Rattle.notation_buffers.specs.Laws.WritingLaws.{appends-count, appends-length}
 use Rattle.writer.specs.declared.WriteAnswer.{WriteAnswer}
-use Rattle.writer.specs.Claims.{Fits}
+use Rattle.writer.specs.Values.{Fits}
 use Rattle.writer.specs.Fields.{acceptTable}
 use Rattle.writer.specs.Laws.AcceptLaidLaws.{accept-laid}
 use Rattle.writer.specs.Laws.DeskDemandLaws.{fields-sound}

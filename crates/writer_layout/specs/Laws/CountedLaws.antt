@@ -15,7 +15,9 @@ use Rattle.taskfile.specs.declared.Table.{Table}
 use Rattle.taskfile.specs.declared.TaskEntry.{TaskEntry}
 use Rattle.taskfile.specs.Tables.{endInstruction, noTask}
 use Rattle.writer.specs.declared.Lock.{Lock}
-use Rattle.writer.specs.Claims.{claimed, claimedTasks, claimedBody, lockArray, noLock, claimedLocks, recordTotal, Fits}
+use Rattle.writer.specs.Claims.{claimed, claimedTasks, claimedBody, lockArray, noLock, claimedLocks}
+use Rattle.writer.specs.Laws.SiteLaws.{recordTotal}
+use Rattle.writer.specs.Values.{Fits}
 use Rattle.writer.specs.Laws.LockLaws.{locks-full}
 use Rattle.writer.specs.Layout.{linkTo}
 use Rattle.writer_layout.specs.Code.ClaimedParts.{linkAt}

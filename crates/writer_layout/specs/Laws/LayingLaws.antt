@@ -10,7 +10,8 @@ use Rattle.taskfile.specs.declared.Instruction.{Instruction}
 use Rattle.taskfile.specs.declared.Table.{Table}
 use Rattle.taskfile.specs.declared.TaskEntry.{TaskEntry}
 use Rattle.writer.specs.declared.Lock.{Lock}
-use Rattle.writer.specs.Claims.{claimedTasks, claimedBody, claimedLocks, recordTotal, locksAt}
+use Rattle.writer.specs.Claims.{claimedTasks, claimedBody, claimedLocks}
+use Rattle.writer.specs.Sites.{locksAt}
 use Rattle.writer.specs.Layout.{linkTo, instructionRecord, bodyRecords, taskRecord, afterTask, taskRecords}
 use Rattle.writer.specs.Layout.{lockRecord, lockRecords, headerRecord, layout}
 use Rattle.notation_buffers.specs.Laws.WritingLaws.{appends-none, appends-more, appends-length}
@@ -163,25 +164,24 @@ task-laid e r link {count} {first} enough counted linked one two =
     (ap (λ (k : ℕ). taskRecord e link k ++ bodyRecords (r + 1) body) same
     ∙ ap (λ (k : ℕ). taskRecord e link (linkTo k body) ++ bodyRecords k body) (add-one r)) (appends-more enough one two)
 
-pub layout-laid : (t : Table) {total tasks locks task lock : ℕ} {before mid : List ℕ} {m : ℕ} {later : List ℕ} {k : ℕ}
-    {after : List ℕ} {n : ℕ} → 2752 ≤ length before → total ≡ recordTotal (claimedTasks t)
+pub layout-laid : (t : Table) {index tasks locks task lock : ℕ} {before mid : List ℕ} {m : ℕ} {later : List ℕ} {k : ℕ}
+    {after : List ℕ} {n : ℕ} → 2752 ≤ length before → index ≡ locksAt t
     → tasks ≡ length (claimedTasks t) → locks ≡ length (claimedLocks t)
-    → task ≡ linkAt 1 0 tasks → lock ≡ linkAt (1 + total) 0 locks
+    → task ≡ linkAt 1 0 tasks → lock ≡ linkAt index 0 locks
     → Lays before 0 (headerRecord t task lock) mid m → Lays mid m (taskRecords 1 (claimedTasks t)) later k
-    → Lays later k (lockRecords (1 + total) (claimedLocks t)) after n → Lays before 0 (layout t) after n
-unfolding layout locksAt
-layout-laid t {total} {tasks} {locks} {task} {lock} enough counted many few to-task to-lock one two three =
+    → Lays later k (lockRecords index (claimedLocks t)) after n → Lays before 0 (layout t) after n
+unfolding layout
+layout-laid t {index} {tasks} {locks} {task} {lock} enough is many few to-task to-lock one two three =
     let first : task ≡ linkTo 1 (claimedTasks t) =
     to-task ∙ ap (linkAt 1 0) many ∙ sym (link-from 1 0 (claimedTasks t)) in
-    let second : lock ≡ linkTo (1 + total) (claimedLocks t) =
-    to-lock ∙ ap (linkAt (1 + total) 0) few ∙ sym (link-from (1 + total) 0 (claimedLocks t)) in
-    let index : 1 + total ≡ suc (recordTotal (claimedTasks t)) = omega arith in
+    let second : lock ≡ linkTo index (claimedLocks t) =
+    to-lock ∙ ap (linkAt index 0) few ∙ sym (link-from index 0 (claimedLocks t)) in
     let tasks-part = taskRecords 1 (claimedTasks t) in
     let to : ℕ = linkTo 1 (claimedTasks t) in
-    let named : headerRecord t task lock ≡ headerRecord t to (linkTo (1 + total) (claimedLocks t)) =
+    let named : headerRecord t task lock ≡ headerRecord t to (linkTo index (claimedLocks t)) =
     λ j. headerRecord t (first j) (second j) in
     lays-same
-    (ap (λ (l : List ℕ). l ++ tasks-part ++ lockRecords (1 + total) (claimedLocks t)) named
+    (ap (λ (l : List ℕ). l ++ tasks-part ++ lockRecords index (claimedLocks t)) named
     ∙ ap
     (λ (k : ℕ). headerRecord t to (linkTo k (claimedLocks t)) ++ tasks-part ++ lockRecords k (claimedLocks t))
-    index) (appends-more enough (appends-more enough one two) three)
+    is) (appends-more enough (appends-more enough one two) three)

@@ -6,7 +6,7 @@ use borrow.Author.Needs.{needs}
 use lib.ListN.{set}
 use lib.Seq.{set-out}
 use Rattle.texts.specs.TextTables.{addLock}
-use Rattle.writer.specs.Claims.{Fits}
+use Rattle.writer.specs.Values.{Fits}
 use Rattle.writer.specs.Laws.FitsLaws.{table-fits}
 use Rattle.texts_tables.proofs.line_parts.add_lock.Statement.{statement}
 use Rattle.texts_tables.proofs.line_parts.add_lock.Tie as tie

@@ -4,7 +4,7 @@
 use native.Mathlib.Omega.{arith}
 use borrow.Author.Needs.{needs}
 use borrow.Author.Tests.{eqb-true}
-use Rattle.writer.specs.Claims.{Fits}
+use Rattle.writer.specs.Values.{Fits}
 use Rattle.writer.specs.Laws.FitsLaws.{table-fits}
 use Rattle.texts_tables.specs.Laws.OverfullLaws.{over-past, over-read, table-past, table-kept}
 use Rattle.texts_tables.proofs.line_parts.instruction_adds_nothing.Statement.{statement}

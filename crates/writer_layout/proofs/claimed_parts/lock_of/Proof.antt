@@ -4,7 +4,8 @@ use borrow.Author.Needs.{needs}
 use mathlib.Core.Path.{sym, _∙_}
 use native.Mathlib.Omega.{arith}
 use lib.ListN.{List·getD-eq-default}
-use Rattle.writer.specs.Claims.{lockArray, noLock, Fits}
+use Rattle.writer.specs.Claims.{lockArray, noLock}
+use Rattle.writer.specs.Values.{Fits}
 use Rattle.writer.specs.Laws.FitsLaws.{table-fits}
 use Rattle.writer.specs.Laws.LockLaws.{locks-getD, locks-full}
 use Rattle.writer_layout.proofs.claimed_parts.lock_of.Statement.{statement}

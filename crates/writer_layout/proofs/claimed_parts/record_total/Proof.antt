@@ -4,7 +4,8 @@
 use mathlib.Core.Path.{_≡_}
 use Prim.Native.Nat.{_+_, _*_, _-_, _≤_}
 use native.Mathlib.Omega.{arith}
-use Rattle.writer.specs.Claims.{claimedTasks, recordTotal}
+use Rattle.writer.specs.Claims.{claimedTasks}
+use Rattle.writer.specs.Laws.SiteLaws.{recordTotal, locks-counted}
 use Rattle.writer_layout.specs.Laws.CountedLaws.{tasks-from, totalFrom, total-whole, total-more, total-all}
 use Rattle.writer_layout.proofs.claimed_parts.record_total.Statement.{statement}
 use Rattle.writer_layout.proofs.claimed_parts.record_total.Tie as tie
@@ -51,7 +52,9 @@ loop-again c =
 
 returns : tie.Need-returns Inv-loop μ-loop
 returns c =
-    (total-all _ _ _ _ (omega arith) (c .before .loop .inv .2), omega arith)
+    let at = c .before in
+    let all = total-all _ _ _ _ (omega arith) (at .loop .inv .2) in
+    (omega (arith, all, locks-counted (at .before .before .args .t)), omega arith)
 
 pub record-total-spec : {M : Type 1} → statement M
 record-total-spec =
