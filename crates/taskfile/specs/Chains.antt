@@ -9,7 +9,7 @@ use lib.Dec.{ltb, eqb}
 use Rattle.taskfile.specs.declared.Kind.{Kind}
 use Rattle.taskfile.specs.declared.Kind.the-variants.{Header, TaskRecord, LockRecord, InstructionRecord}
 use Rattle.notation.specs.Checked.{Checked, passed, require, noneOf, _>>=_, _>>_}
-use Rattle.notation.specs.Lists.{if_then_else_, upTo, member, each}
+use Rattle.notation.specs.Lists.{upTo, member, each}
 use Rattle.taskfile.specs.Records.{File, kindNumber, records, byteAt, next, tidy, inRange}
 
 -- "1 to 8 tasks, 0 to 8 locks, 1 to 16 instructions in a body"
@@ -37,17 +37,22 @@ follow kind allowed f again holder index = do
   require (ltb 0 allowed) 5 index
   recordOf kind f index
 
--- A chain of records of one kind, as a body or the locks, from an index that `holder` holds. "zero ends the chain"
+-- From an index that `holder` holds: "zero ends the chain"; any other index is followed, and `rest` goes on from the
+-- record that it leads to.
+abbrev pub following : {A : Type 0}
+    → Kind → ℕ → File → List ℕ → ℕ → ℕ → (ℕ → Checked ℕ (List A)) → Checked ℕ (List A)
+following kind allowed f reached holder zero rest = passed []
+following kind allowed f reached holder (suc i) rest = do
+  follow kind allowed f (member (suc i) reached) holder (suc i)
+  rest (suc i)
+
+-- A chain of records of one kind, as a body or the locks: where `allowed` is 0, `follow` lets no record in.
 unfoldable pub chain : Kind → ℕ → File → List ℕ → ℕ → ℕ → Checked ℕ (List ℕ)
-chain kind zero f reached holder zero = passed []
-chain kind zero f reached holder (suc i) = do
-  follow kind 0 f (member (suc i) reached) holder (suc i)
-  passed []
-chain kind (suc allowed) f reached holder zero = passed []
-chain kind (suc allowed) f reached holder (suc i) = do
-  follow kind (suc allowed) f (member (suc i) reached) holder (suc i)
-  others ← chain kind allowed f (suc i ∷ reached) (suc i) (next f (suc i))
-  passed (suc i ∷ others)
+chain kind zero f reached holder index = following kind 0 f reached holder index (λ r. passed [])
+chain kind (suc allowed) f reached holder index =
+    following kind (suc allowed) f reached holder index (λ r. do
+      others ← chain kind allowed f (r ∷ reached) r (next f r)
+      passed (r ∷ others))
 
 -- a task's record and the records of its body
 pub record TaskChain : Type 0 where
@@ -65,16 +70,12 @@ bodyChain f reached holder = do
 
 -- The tasks' chain, "each task followed by its body".
 unfoldable pub taskChains : ℕ → File → List ℕ → ℕ → ℕ → Checked ℕ (List TaskChain)
-taskChains zero f reached holder zero = passed []
-taskChains zero f reached holder (suc i) = do
-  follow TaskRecord 0 f (member (suc i) reached) holder (suc i)
-  passed []
-taskChains (suc allowed) f reached holder zero = passed []
-taskChains (suc allowed) f reached holder (suc i) = do
-  follow TaskRecord (suc allowed) f (member (suc i) reached) holder (suc i)
-  body ← bodyChain f (suc i ∷ reached) (suc i)
-  others ← taskChains allowed f (suc i ∷ body ++ reached) (suc i) (next f (suc i))
-  passed (record { taskRecord = suc i; body = body } ∷ others)
+taskChains zero f reached holder index = following TaskRecord 0 f reached holder index (λ r. passed [])
+taskChains (suc allowed) f reached holder index =
+    following TaskRecord (suc allowed) f reached holder index (λ r. do
+      body ← bodyChain f (r ∷ reached) r
+      others ← taskChains allowed f (r ∷ body ++ reached) r (next f r)
+      passed (record { taskRecord = r; body = body } ∷ others))
 
 -- the records reached: tasks with their bodies, and locks
 pub record Chains : Type 0 where

@@ -1,8 +1,8 @@
 // Chains of records: a body, the tasks, each followed by its body, and the locks. Each reader calls itself on the next
 // index, and the marks of the records reached are lent to it. Document 01: "The chain reader keeps the lent file
-// together with its present index". A function over a struct that holds a slice is not covered, so `reader_at`,
-// `held_index` and `index_at` are proved by walks of their code, by hand; every index that is followed is read by a
-// reader at the record that holds it.
+// together with its present index". A function over a struct that holds a slice is not covered, so the three over a
+// `ChainReader`, and `index_at` and `next_at`, which make one, are proved by walks of their code, by hand. Here and in
+// `record_walk`, `tables` and `sites` each index that is followed is read by one of the last two.
 use crate::links::follow_index;
 use taskfile::Check;
 use taskfile::Kind;
@@ -16,7 +16,7 @@ ghost use mathlib.Core.List.{List};
 ghost use Prim.Native.Nat.{ℕ};
 ghost use Rattle.taskfile.specs.Chains.{chain, bodyChain, taskChains, recordsOf};
 ghost use Rattle.taskfile.specs.Code.Reading.{marks, ChainedAs};
-ghost use Rattle.taskfile.specs.Records.{byteAt};
+ghost use Rattle.taskfile.specs.Records.{byteAt, next};
 
 // The lent file together with the present index in it.
 pub struct ChainReader<'a> {
@@ -38,11 +38,30 @@ pub fn held_index<'a>(reader: ChainReader<'a>, k: u8) -> u8
     byte_at(reader.file, reader.index, k)
 }
 
+// A reader at the next record of the chain, to which byte 1 of the present record leads.
+pub fn next_record<'a>(reader: ChainReader<'a>) -> ChainReader<'a>
+    ensures { λ r. ⌜ (r .file ≡ reader .entry .file)
+        × (r .index ≡ next (now (reader .entry .file)) (reader .entry .index)) ⌝ }
+{
+    ChainReader {
+        file: reader.file,
+        index: held_index(reader, offsets::NEXT),
+    }
+}
+
 // The index that byte k of a record holds, read by a reader at that record.
 pub fn index_at(file: &[u8], index: u8, k: u8) -> u8
     ensures { λ x. ⌜ x ≡ byteAt (now (file .entry)) index k ⌝ }
 {
     held_index(reader_at(file, index), k)
+}
+
+// The index to which a reader at a record moves on.
+pub fn next_at(file: &[u8], index: u8) -> u8
+    ensures { λ x. ⌜ x ≡ next (now (file .entry)) index ⌝ }
+{
+    let reader = next_record(reader_at(file, index));
+    reader.index
 }
 
 // Reads a chain of records of one kind from an index that `holder` holds, and marks its records. It calls itself on
@@ -68,14 +87,7 @@ pub fn read_chain(
         return step;
     };
     seen[at] = true;
-    read_chain(
-        file,
-        kind,
-        allowed - 1,
-        seen,
-        index,
-        index_at(file, index, offsets::NEXT),
-    )
+    read_chain(file, kind, allowed - 1, seen, index, next_at(file, index))
 }
 
 // The body of the task whose record is `holder`.
@@ -122,11 +134,5 @@ pub fn read_tasks(
     let Check::Passed = body else {
         return body;
     };
-    read_tasks(
-        file,
-        allowed - 1,
-        seen,
-        index,
-        index_at(file, index, offsets::NEXT),
-    )
+    read_tasks(file, allowed - 1, seen, index, next_at(file, index))
 }

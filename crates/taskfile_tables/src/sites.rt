@@ -1,7 +1,8 @@
 // The record at a site of a file's table, by following indices.
 use taskfile::Site;
 use taskfile::offsets;
-use taskfile_records::records::byte_at;
+use taskfile_chains::chains::index_at;
+use taskfile_chains::chains::next_at;
 ghost use mathlib.Core.Path.{_≡_};
 ghost use Rattle.taskfile.specs.Code.ReadingParts.{linkAfter, siteRecord};
 
@@ -12,7 +13,7 @@ pub fn link_after(file: &[u8], index: u8, n: u8) -> u8
     let mut at = index;
     let mut left = n;
     while 0 < left {
-        at = byte_at(file, at, offsets::NEXT);
+        at = next_at(file, at);
         left -= 1;
     }
     at
@@ -24,11 +25,11 @@ pub fn record_at(file: &[u8], site: Site) -> u8
 {
     match site {
         Site::AtHeader => 0,
-        Site::AtTask(i) => link_after(file, byte_at(file, 0, offsets::FIRST_TASK), i.0),
+        Site::AtTask(i) => link_after(file, index_at(file, 0, offsets::FIRST_TASK), i.0),
         Site::AtInstruction(i, p) => {
-            let task = link_after(file, byte_at(file, 0, offsets::FIRST_TASK), i.0);
-            link_after(file, byte_at(file, task, offsets::FIRST_INSTRUCTION), p)
+            let task = link_after(file, index_at(file, 0, offsets::FIRST_TASK), i.0);
+            link_after(file, index_at(file, task, offsets::FIRST_INSTRUCTION), p)
         }
-        Site::AtLock(l) => link_after(file, byte_at(file, 0, offsets::FIRST_LOCK), l),
+        Site::AtLock(l) => link_after(file, index_at(file, 0, offsets::FIRST_LOCK), l),
     }
 }

@@ -13,6 +13,8 @@ use taskfile::limits::MOST_TASKS;
 use taskfile::limits::TASKS;
 use taskfile::limits::VARIABLES;
 use taskfile::offsets;
+use taskfile_chains::chains::index_at;
+use taskfile_chains::chains::next_at;
 use taskfile_records::records::byte_at;
 use taskfile_records::records::empty_task;
 use taskfile_records::records::end_instruction;
@@ -36,7 +38,7 @@ pub fn chain_at(file: &[u8], first: u8, most: u8) -> Chain
     while index != 0 && n < most {
         let at = n as usize;
         records[at] = index;
-        index = byte_at(file, index, offsets::NEXT);
+        index = next_at(file, index);
         n += 1;
     }
     Chain {
@@ -69,7 +71,7 @@ pub fn body_at(file: &[u8], first: u8) -> Body
 pub fn entry_at(file: &[u8], r: u8) -> TaskEntry
     ensures { λ x. ⌜ x ≡ entryAt (now (file .entry)) (linkedTask (now (file .entry)) r) ⌝ }
 {
-    let read = body_at(file, byte_at(file, r, offsets::FIRST_INSTRUCTION));
+    let read = body_at(file, index_at(file, r, offsets::FIRST_INSTRUCTION));
     let body = read.body;
     TaskEntry {
         execution: wide_at(file, r, offsets::EXECUTION),
@@ -143,8 +145,8 @@ pub fn table_at(file: &[u8]) -> Table
     requires { ⌜ 16 ≤ length (now file) ⌝ }
     ensures { λ x. ⌜ x ≡ tableAt (now (file .entry)) (linkedChains (now (file .entry))) ⌝ }
 {
-    let tasks = entries_at(file, byte_at(file, 0, offsets::FIRST_TASK));
-    let locks = locks_at(file, byte_at(file, 0, offsets::FIRST_LOCK));
+    let tasks = entries_at(file, index_at(file, 0, offsets::FIRST_TASK));
+    let locks = locks_at(file, index_at(file, 0, offsets::FIRST_LOCK));
     let entries = tasks.entries;
     let ceilings = locks.ceilings;
     let holdings = locks.holdings;

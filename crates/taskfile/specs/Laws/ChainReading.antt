@@ -92,11 +92,10 @@ module _ (kind : Kind) (allowed : ℕ) (f : File) (seen : List Bool) (holder ind
         (chain-refused kind f reached holder allowed index some
         (step-refused kind allowed f seen holder index step followed byte reached marked e)) e
 
-    module _ (passes : step ≡ Passed) (next-index : ℕ) (next-is : next-index ≡ byteAt f index 1) (x : Check) (after : List Bool)
+    module _ (passes : step ≡ Passed) (next-index : ℕ) (next-is : next-index ≡ next f index) (x : Check) (after : List Bool)
         (read : (reached : List ℕ) → set seen index true ≡ marks reached
         → ChainRead x after kind (allowed - 1) f reached index next-index) where
       pub chain-goes-on : (reached : List ℕ) → seen ≡ marks reached → ChainRead x after kind allowed f reached holder index
-      unfolding next
       chain-goes-on reached marked =
           let goes : chain kind allowed f reached holder index
           ≡ _>>=_ (chain kind (allowed - 1) f (index ∷ reached) index next-index) (λ others. passed (index ∷ others)) =
@@ -162,10 +161,10 @@ module _ (allowed : ℕ) (f : File) (seen : List Bool) (holder index : ℕ) wher
           let body = refused-chained _ _ within _ _ (bodyRead (index ∷ reached) (marks-more seen reached index byte marked)) e in
           chained-refused _ _ after reached _ (tasks-on reached marked ∙ bind-refused _ body) e
 
-      module _ (complete : whole ≡ Passed) (next-index : ℕ) (next-is : next-index ≡ byteAt f index 1) (x : Check) (after : List Bool)
+      module _ (complete : whole ≡ Passed) (next-index : ℕ) (next-is : next-index ≡ next f index) (x : Check) (after : List Bool)
           (read : (reached : List ℕ) → within ≡ marks reached → TasksRead x after (allowed - 1) f reached index next-index) where
         pub tasks-go-on : (reached : List ℕ) → seen ≡ marks reached → TasksRead x after allowed f reached holder index
-        unfolding next recordsOf each
+        unfolding recordsOf each
         tasks-go-on reached marked =
             let body = passed-chained _ _ within _ _ (bodyRead (index ∷ reached) (marks-more seen reached index byte marked)) complete in
             let goes : taskChains allowed f reached holder index

@@ -76,7 +76,7 @@ limited : ℕ → ℕ → Bool
 limited field o = eqb (getD (limits operationUses) (12 * field + o) 0) (limitOf (fieldOf field (usesOf o)))
 
 all-limited : (field : ℕ) → field ≤ 2 → all (limited field) (upTo 12) ≡ true
-unfolding all upTo from limited limits map operationUses usesOf limitOf fieldOf
+unfolding all upTo from limited limits operationUses usesOf limitOf fieldOf
 all-limited zero h = refl
 all-limited (suc zero) h = refl
 all-limited (suc (suc zero)) h = refl

@@ -11,7 +11,7 @@ use borrow.Fn.PlainCycle.{Measures, is, falls, and}
 use Rattle.taskfile_chains.proofs.chains.read_chain.Reads as read-chain
 use Rattle.taskfile_chains.proofs.chains.read_chain.Kinds as read-chain-kinds
 use Rattle.taskfile_chains.proofs.chains.+read_chain.Lts-read_chain as read-chain-lts
-use Rattle.taskfile_chains.proofs.chains.index_at.Reads as index-at-reads
+use Rattle.taskfile_chains.proofs.chains.next_at.Reads as next-at-reads
 use Rattle.taskfile_chains.proofs.links.follow_index.Reads as follow-index-reads
 use Rattle.taskfile_chains.proofs.chains.+read_chain.{statement}
 use Rattle.taskfile_chains.proofs.chains.+read_chain.Tie.{close}
@@ -32,8 +32,8 @@ abbrev claims : ℕ → read-chain-lts.Claims
 claims t = (
   follow-index-reads.Asked,
   follow-index-reads.Learnt,
-  index-at-reads.Asked,
-  index-at-reads.Learnt,
+  next-at-reads.Asked,
+  next-at-reads.Learnt,
   read-chain-below t,
   read-chain.Post,
 )
@@ -65,8 +65,8 @@ read-chain-element-write-seen t c = omega arith
 read-chain-sub-read-chain : (t : ℕ) → read-chain-lts.Need-sub-read-chain (claims t) (read-chain-at t) read-chain.Post
 read-chain-sub-read-chain t c = step-allowed _ _ _ _ _ _ _ (c .before .before .follow-index .ensures) (c .enum-told .given .1)
 
-read-chain-index-at-requires : (t : ℕ) → read-chain-lts.Need-index-at-requires (claims t) (read-chain-at t) read-chain.Post
-read-chain-index-at-requires t c κs = search needs
+read-chain-next-at-requires : (t : ℕ) → read-chain-lts.Need-next-at-requires (claims t) (read-chain-at t) read-chain.Post
+read-chain-next-at-requires t c κs = search needs
 
 read-chain-read-chain-requires : (t : ℕ) → read-chain-lts.Need-read-chain-requires (claims t) (read-chain-at t) read-chain.Post
 read-chain-read-chain-requires t c κs =
@@ -77,7 +77,7 @@ read-chain-returns-3 t c =
     let stepped = c .before .before .before in
     let followed = stepped .before .before in
     chain-goes-on _ _ _ _ _ _ (followed .before .before .if1 .left) (omega arith) _ (followed .follow-index .ensures)
-    (stepped .enum-told .given .1) _ (c .before .index-at .ensures) _ _ (c .read-chain .ensures)
+    (stepped .enum-told .given .1) _ (c .before .next-at .ensures) _ _ (c .read-chain .ensures)
 
 pub +read-chain-spec : {M : Type 1} → statement M
 +read-chain-spec = close μ-read-chain λ t. read-chain-lts.spec (claims t)
@@ -91,6 +91,6 @@ pub +read-chain-spec : {M : Type 1} → statement M
     (read-chain-returns-2 t)
     (read-chain-element-write-seen t)
     (read-chain-sub-read-chain t)
-    (read-chain-index-at-requires t)
+    (read-chain-next-at-requires t)
     (read-chain-read-chain-requires t)
     (read-chain-returns-3 t)

@@ -13,7 +13,7 @@ use Rattle.taskfile_chains.proofs.chains.read_tasks.Kinds as read-tasks
 use Rattle.taskfile_chains.proofs.chains.+read_tasks.Lts-read_tasks as read-tasks-lts
 use Rattle.taskfile_chains.proofs.links.follow_index.Reads as follow-index-reads
 use Rattle.taskfile_chains.proofs.chains.read_body.Reads as read-body-reads
-use Rattle.taskfile_chains.proofs.chains.index_at.Reads as index-at-reads
+use Rattle.taskfile_chains.proofs.chains.next_at.Reads as next-at-reads
 use Rattle.taskfile_chains.proofs.chains.+read_tasks.{statement}
 use Rattle.taskfile_chains.proofs.chains.+read_tasks.Tie.{close}
 
@@ -35,8 +35,8 @@ claims t = (
   follow-index-reads.Learnt,
   read-body-reads.Asked,
   read-body-reads.Learnt,
-  index-at-reads.Asked,
-  index-at-reads.Learnt,
+  next-at-reads.Asked,
+  next-at-reads.Learnt,
   read-tasks-below t,
   read-tasks.Post,
 )
@@ -87,8 +87,8 @@ read-tasks-sub-read-tasks t c =
     let stepped = c .before .before .before .before in
     step-allowed _ _ _ _ _ _ _ (stepped .before .before .follow-index .ensures) (stepped .enum-told .given .1)
 
-read-tasks-index-at-requires : (t : ℕ) → read-tasks-lts.Need-index-at-requires (claims t) (read-tasks-at t) read-tasks.Post
-read-tasks-index-at-requires t c κs = search needs
+read-tasks-next-at-requires : (t : ℕ) → read-tasks-lts.Need-next-at-requires (claims t) (read-tasks-at t) read-tasks.Post
+read-tasks-next-at-requires t c κs = search needs
 
 read-tasks-read-tasks-requires : (t : ℕ) → read-tasks-lts.Need-read-tasks-requires (claims t) (read-tasks-at t) read-tasks.Post
 read-tasks-read-tasks-requires t c κs =
@@ -102,7 +102,7 @@ read-tasks-returns-4 t c =
     let stepped = body .before .before in
     let followed = stepped .before .before in
     tasks-go-on _ _ _ _ _ (followed .before .before .if1 .left) (omega arith) _ (followed .follow-index .ensures)
-    (stepped .enum-told .given .1) _ _ (body .read-body .ensures) (whole .enum-told3 .given .1) _ (c .before .index-at .ensures)
+    (stepped .enum-told .given .1) _ _ (body .read-body .ensures) (whole .enum-told3 .given .1) _ (c .before .next-at .ensures)
     _ _ (c .read-tasks .ensures)
 
 pub +read-tasks-spec : {M : Type 1} → statement M
@@ -121,6 +121,6 @@ pub +read-tasks-spec : {M : Type 1} → statement M
     (read-tasks-enum-told-4 t)
     (read-tasks-returns-3 t)
     (read-tasks-sub-read-tasks t)
-    (read-tasks-index-at-requires t)
+    (read-tasks-next-at-requires t)
     (read-tasks-read-tasks-requires t)
     (read-tasks-returns-4 t)

@@ -3,7 +3,6 @@
 -- Assumes nothing.
 use mathlib.Core.Path.{sym}
 use borrow.Author.Needs.{needs}
-use mathlib.Core.List.{map}
 use Rattle.taskfile.specs.Code.RecordFields.{limitOf}
 use Rattle.taskfile.specs.Laws.RecordLaws.{limits, limits-at, limit-past}
 use Rattle.taskfile.specs.Records.{operationUses, usesOf}
@@ -20,7 +19,7 @@ array-read-result : tie.Need-array-read-result
 array-read-result c = search needs
 
 returns : tie.Need-returns
-unfolding limits map operationUses limitOf usesOf
+unfolding limits operationUses limitOf usesOf
 returns c = limits-at _ _ (c .if1 .taken) (c .before .pre)
 
 returns-2 : tie.Need-returns-2

@@ -29,8 +29,8 @@ abbrev μ-loop : tie.MeasureT-loop
 loop-holds : tie.Need-loop-holds Inv-loop μ-loop
 loop-holds c = refl
 
-byte-at-requires : tie.Need-byte-at-requires Inv-loop μ-loop
-byte-at-requires c κs = search needs
+next-at-requires : tie.Need-next-at-requires Inv-loop μ-loop
+next-at-requires c κs = search needs
 
 sub-left : tie.Need-sub-left Inv-loop μ-loop
 sub-left c = omega arith
@@ -39,8 +39,7 @@ loop-less : tie.Need-loop-less Inv-loop μ-loop
 loop-less c = omega arith
 
 loop-again : tie.Need-loop-again Inv-loop μ-loop
-unfolding next
-loop-again c = link-turn _ _ _ _ _ _ (c .before .before .loop .inv) (c .before .loop-test .taken) (c .byte-at .ensures)
+loop-again c = link-turn _ _ _ _ _ _ (c .before .before .loop .inv) (c .before .loop-test .taken) (c .next-at .ensures)
 
 returns : tie.Need-returns Inv-loop μ-loop
 returns c = link-done _ _ _ _ _ (c .before .loop .inv) (c .loop-test .left)
@@ -48,4 +47,4 @@ returns c = link-done _ _ _ _ _ (c .before .loop .inv) (c .loop-test .left)
 pub link-after-spec : {M : Type 1} → statement M
 link-after-spec =
     tie.close
-    (tie.spec Inv-loop μ-loop loop-holds byte-at-requires sub-left loop-less loop-again returns)
+    (tie.spec Inv-loop μ-loop loop-holds next-at-requires sub-left loop-less loop-again returns)

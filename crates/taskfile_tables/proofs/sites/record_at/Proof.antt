@@ -37,8 +37,8 @@ enum-told c = search needs
 enum-known-site : tie.Need-enum-known-site
 enum-known-site c = search needs
 
-byte-at-requires : tie.Need-byte-at-requires
-byte-at-requires c κs = search needs
+index-at-requires : tie.Need-index-at-requires
+index-at-requires c κs = search needs
 
 link-after-requires : tie.Need-link-after-requires
 link-after-requires c κs = search needs
@@ -46,14 +46,14 @@ link-after-requires c κs = search needs
 enum-known-site-2 : tie.Need-enum-known-site-2
 enum-known-site-2 c = search needs
 
-byte-at-requires-2 : tie.Need-byte-at-requires-2
-byte-at-requires-2 c κs = search needs
+index-at-requires-2 : tie.Need-index-at-requires-2
+index-at-requires-2 c κs = search needs
 
 link-after-requires-2 : tie.Need-link-after-requires-2
 link-after-requires-2 c κs = search needs
 
-byte-at-requires-3 : tie.Need-byte-at-requires-3
-byte-at-requires-3 c κs = search needs
+index-at-requires-3 : tie.Need-index-at-requires-3
+index-at-requires-3 c κs = search needs
 
 link-after-requires-3 : tie.Need-link-after-requires-3
 link-after-requires-3 c κs = search needs
@@ -61,8 +61,8 @@ link-after-requires-3 c κs = search needs
 enum-known-site-3 : tie.Need-enum-known-site-3
 enum-known-site-3 c = search needs
 
-byte-at-requires-4 : tie.Need-byte-at-requires-4
-byte-at-requires-4 c κs = search needs
+index-at-requires-4 : tie.Need-index-at-requires-4
+index-at-requires-4 c κs = search needs
 
 link-after-requires-4 : tie.Need-link-after-requires-4
 link-after-requires-4 c κs = search needs
@@ -73,17 +73,17 @@ returns c = sym (ap (siteRecord _) (c .enum-told .given .1))
 
 returns-2 : tie.Need-returns-2
 returns-2 c =
-    task-site _ _ _ _ _ (c .before .before .before .site .given .1) (c .before .byte-at .ensures) (c .link-after .ensures)
+    task-site _ _ _ _ _ (c .before .before .before .site .given .1) (c .before .index-at .ensures) (c .link-after .ensures)
 
 returns-3 : tie.Need-returns-3
 returns-3 c =
     instruction-site _ _ _ _ _ _ _ _ (c .before .before .before .before .before .site2 .given .1)
-    (c .before .before .before .byte-at2 .ensures) (c .before .before .link-after2 .ensures) (c .before .byte-at3 .ensures)
+    (c .before .before .before .index-at2 .ensures) (c .before .before .link-after2 .ensures) (c .before .index-at3 .ensures)
     (c .link-after3 .ensures)
 
 returns-4 : tie.Need-returns-4
 returns-4 c =
-    lock-site _ _ _ _ _ (c .before .before .before .site3 .given .1) (c .before .byte-at4 .ensures) (c .link-after4 .ensures)
+    lock-site _ _ _ _ _ (c .before .before .before .site3 .given .1) (c .before .index-at4 .ensures) (c .link-after4 .ensures)
 
 pub record-at-spec : {M : Type 1} → statement M
 record-at-spec =
@@ -91,15 +91,15 @@ record-at-spec =
     (tie.spec
     enum-told
     enum-known-site
-    byte-at-requires
+    index-at-requires
     link-after-requires
     enum-known-site-2
-    byte-at-requires-2
+    index-at-requires-2
     link-after-requires-2
-    byte-at-requires-3
+    index-at-requires-3
     link-after-requires-3
     enum-known-site-3
-    byte-at-requires-4
+    index-at-requires-4
     link-after-requires-4
     returns
     returns-2

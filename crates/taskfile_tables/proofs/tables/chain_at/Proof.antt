@@ -7,7 +7,6 @@ use borrow.Author.Needs.{needs}
 use mathlib.Core.Logic.{inl, inr}
 use borrow.Author.Tests.{ltb-true, ltb-false}
 use Rattle.taskfile.specs.Laws.LinkedLaws.{Followed, followed-none, followed-more, followed-end}
-use Rattle.taskfile.specs.Records.{next}
 use Rattle.taskfile_tables.proofs.tables.chain_at.Statement.{statement}
 use Rattle.taskfile_tables.proofs.tables.chain_at.Tie as tie
 
@@ -26,8 +25,8 @@ cast-at c = omega arith
 array-write-records : tie.Need-array-write-records Inv-loop μ-loop
 array-write-records c = omega (arith, ltb-true)
 
-byte-at-requires : tie.Need-byte-at-requires Inv-loop μ-loop
-byte-at-requires c κs = search needs
+next-at-requires : tie.Need-next-at-requires Inv-loop μ-loop
+next-at-requires c κs = search needs
 
 add-n : tie.Need-add-n Inv-loop μ-loop
 add-n c = omega (arith, ltb-true)
@@ -36,11 +35,10 @@ loop-less : tie.Need-loop-less Inv-loop μ-loop
 loop-less c = omega (arith, ltb-true)
 
 loop-again : tie.Need-loop-again Inv-loop μ-loop
-unfolding next
 loop-again c =
     let turn = c .before .before in
     followed-more _ _ _ _ _ _ _ (turn .before .loop .inv) (turn .before .before .before .pre) (turn .loop-test .taken)
-    (ltb-true _ _ (c .before .if1 .taken)) (c .byte-at .ensures)
+    (ltb-true _ _ (c .before .if1 .taken)) (c .next-at .ensures)
 
 returns : tie.Need-returns Inv-loop μ-loop
 returns c = followed-end _ _ _ _ _ _ (c .before .before .loop .inv) (inr (ltb-false _ _ (c .if1 .left)))
@@ -57,7 +55,7 @@ chain-at-spec =
     loop-holds
     cast-at
     array-write-records
-    byte-at-requires
+    next-at-requires
     add-n
     loop-less
     loop-again

@@ -28,8 +28,8 @@ entry-parts f r first execution period arrival read atFirst atBody atExecution a
       body = body i .body;
     }
 
-byte-at-requires : tie.Need-byte-at-requires
-byte-at-requires c κs = search needs
+index-at-requires : tie.Need-index-at-requires
+index-at-requires c κs = search needs
 
 body-at-requires : tie.Need-body-at-requires
 body-at-requires c κs = search needs
@@ -45,7 +45,7 @@ wide-at-requires-3 c κs = search needs
 
 returns : tie.Need-returns
 returns c =
-    entry-parts _ _ _ _ _ _ _ (c .before .before .before .before .before .byte-at .ensures)
+    entry-parts _ _ _ _ _ _ _ (c .before .before .before .before .before .index-at .ensures)
     (c .before .before .before .before .body-at .ensures) (c .before .before .wide-at .ensures) (c .before .wide-at2 .ensures)
     (c .wide-at3 .ensures)
 
@@ -53,7 +53,7 @@ pub entry-at-spec : {M : Type 1} → statement M
 entry-at-spec =
     tie.close
     (tie.spec
-    byte-at-requires
+    index-at-requires
     body-at-requires
     wide-at-requires
     wide-at-requires-2

@@ -50,14 +50,14 @@ table-parts f firstTask firstLock window store tasks locks atTask atTasks atLock
       holdings = held i .holdings;
     }
 
-byte-at-requires : tie.Need-byte-at-requires
-byte-at-requires c κs = search needs
+index-at-requires : tie.Need-index-at-requires
+index-at-requires c κs = search needs
 
 entries-at-requires : tie.Need-entries-at-requires
 entries-at-requires c κs = search needs
 
-byte-at-requires-2 : tie.Need-byte-at-requires-2
-byte-at-requires-2 c κs = search needs
+index-at-requires-2 : tie.Need-index-at-requires-2
+index-at-requires-2 c κs = search needs
 
 locks-at-requires : tie.Need-locks-at-requires
 locks-at-requires c κs = search needs
@@ -71,16 +71,16 @@ store-at-requires c κs = search needs
 returns : tie.Need-returns
 returns c =
     let read = c .before .before .before .before .before in
-    table-parts _ _ _ _ _ _ _ (read .before .before .before .byte-at .ensures) (read .before .before .entries-at .ensures)
-    (read .before .byte-at2 .ensures) (read .locks-at .ensures) (c .before .wide-at .ensures) (c .store-at .ensures)
+    table-parts _ _ _ _ _ _ _ (read .before .before .before .index-at .ensures) (read .before .before .entries-at .ensures)
+    (read .before .index-at2 .ensures) (read .locks-at .ensures) (c .before .wide-at .ensures) (c .store-at .ensures)
 
 pub table-at-spec : {M : Type 1} → statement M
 table-at-spec =
     tie.close
     (tie.spec
-    byte-at-requires
+    index-at-requires
     entries-at-requires
-    byte-at-requires-2
+    index-at-requires-2
     locks-at-requires
     wide-at-requires
     store-at-requires
