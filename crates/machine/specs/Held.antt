@@ -4,12 +4,12 @@
 -- removes it; either changes nothing if the set is already so." This one does: "A job's priority is the largest of its
 -- base and the ceilings it holds." Other definitions use the names below and never the counts.
 -- Assumes nothing.
-use Prim.Native.Nat.{ℕ, suc, max, _+_, _-_}
+use Prim.Native.Nat.{ℕ, _+_, _-_}
 use mathlib.Core.Bool.{Bool}
-use mathlib.Core.List.{List, [], _∷_}
+use mathlib.Core.List.{List, _∷_, map}
 use lib.ListN.{length, getD, set, replicate}
 use lib.Dec.{ltb}
-use Rattle.notation.specs.Lists.{if_then_else_}
+use Rattle.notation.specs.Lists.{if_then_else_, upTo, only, largest}
 
 -- "a count per lock"
 abbrev pub Held : Type 0
@@ -34,11 +34,10 @@ acquire held lock = set held lock (countOf held lock + 1)
 unfoldable pub release : Held → ℕ → Held
 release held lock = if holds held lock then set held lock (countOf held lock - 1) else held
 
--- the largest of the base and the ceilings of the held locks, where the listed ceilings are those from `lock` on
-unfoldable pub raised : Held → ℕ → ℕ → List ℕ → ℕ
-raised held base lock [] = base
-raised held base lock (ceiling ∷ ceilings) =
-    max (if holds held lock then ceiling else 0) (raised held base (suc lock) ceilings)
+-- the ceilings that apply: those of the held locks
+unfoldable pub heldCeilings : List ℕ → Held → List ℕ
+heldCeilings ceilings held = map (λ lock. getD ceilings lock 0) (only (holds held) (upTo (length ceilings)))
 
+-- "A job's priority is the largest of its base and the ceilings it holds."
 unfoldable pub priority : List ℕ → ℕ → Held → ℕ
-priority ceilings base held = raised held base 0 ceilings
+priority ceilings base held = largest (base ∷ heldCeilings ceilings held)

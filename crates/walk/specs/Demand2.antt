@@ -23,12 +23,13 @@ use Rattle.order.specs.States.{initial}
 use Rattle.order.specs.Laws.StepLaws.{initial-invariant}
 use Rattle.walk.specs.declared.Verdict.the-variants.{Holds, Fails}
 use Rattle.walk.specs.declared.WalkAnswer.{WalkAnswer}
+use Rattle.walk.specs.Code.FromState.{ordersFrom, pathsFrom, walkFrom}
 use Rattle.walk.specs.Laws.MoveCountLaws.{from-counted, initial-sound}
 use Rattle.walk.specs.Laws.FailingLaws.{order-listed, listed-complete}
 use Rattle.walk.specs.FailingOrders.{SomeFails, FirstFailing, answeredEnd}
 use Rattle.walk.specs.Laws.ListedLaws.{from-ascends}
 use Rattle.walk.specs.Laws.PathLaws.{path-listed, listed-path, from-once}
-use Rattle.walk.specs.Paths.{Begun, Lex, Sooner, UpTo, paths}
+use Rattle.walk.specs.Paths.{Begun, BranchesLower, Sooner, UpTo, paths}
 use Rattle.walk.specs.Laws.ShownLaws.{answer-room, after-room, decided-fails, decided-holds, decided-counted, decided-first, decided-filled}
 use Rattle.walk.specs.WalkEntry.{decided, decidedAnswer, decidedBytes, walkAnswer, walkAfter}
 use Rattle.walk.specs.Laws.WalkLaws.{walk-from-first, undecided-when}
@@ -43,7 +44,7 @@ pub record WalkDemand (a : Accepted) : Type 0 where
   pub listed : (order : List ℕ) (end : End)
       → OrderEnds a order end ↔ List·Memᴰ (record { bytes = order; ending = end }) (orders a)
   -- they are listed in ascending walk order, and so each once
-  pub ascending : Ordered (λ f g. Lex (f .bytes) (g .bytes)) (orders a)
+  pub ascending : Ordered (λ f g. BranchesLower (f .bytes) (g .bytes)) (orders a)
   -- "stops at the first complete order with a failed assertion"
   pub first : walk a .failing ≡ firstWith (λ f. fails (f .ending)) (orders a)
   -- "Its count is the moves made up to there, each move of the tree once"
@@ -85,7 +86,7 @@ pub record Demand2 (f : File) : Type 0 where
       → WalkAnswers a allowance buffer (walkAnswer f allowance buffer) (walkAfter f allowance buffer)
 
 walk-demand : {a : Accepted} → IsAccepted a → WalkDemand a
-unfolding orders walk paths
+unfolding orders walk paths ordersFrom walkFrom pathsFrom
 walk-demand {a} ok =
     let counted = from-counted a orderRoom (initial a) (initial-sound a) in
     record {

@@ -4,19 +4,18 @@
 -- Assumes nothing.
 use mathlib.Core.Path.{_≡_}
 use mathlib.Core.Logic.{_⊎_}
-use Prim.Native.Nat.{ℕ, zero, suc, _≤_, _<_}
-use mathlib.Core.Bool.{true, false}
+use Prim.Native.Nat.{ℕ, suc, _≤_, _<_}
 use mathlib.Core.List.{List, [], _∷_, _++_, map}
 use mathlib.Core.Option.{some}
 use lib.ListN.{length}
 use Rattle.timing.specs.Accepted.{Accepted}
-use Rattle.machine.specs.Buffers.{orderRoom}
 use Rattle.order.specs.Orders.{run}
-use Rattle.order.specs.States.{State, initial, allEnded}
-use Rattle.walk.specs.Moves.{Move, moves}
+use Rattle.order.specs.States.{State}
+use Rattle.walk.specs.Trees.{Tree, ended, tried, move, tree}
 
--- xs comes before ys: after a common beginning xs goes on with a smaller number
-pub record Lex (xs ys : List ℕ) : Type 0 where
+-- xs branches off lower than ys: after a common beginning it goes on with a smaller number. No list is a proper
+-- beginning of one that it branches off from.
+pub record BranchesLower (xs ys : List ℕ) : Type 0 where
   pub common : List ℕ
   pub lower : ℕ
   pub higher : ℕ
@@ -32,24 +31,20 @@ pub record Begins (xs ys : List ℕ) : Type 0 where
   pub rest : List ℕ
   pub parts : ys ≡ xs ++ (next ∷ rest)
 
--- depth first, xs comes sooner than ys: it is a proper beginning of ys, or comes before it
+-- depth first, xs comes sooner than ys: it is a proper beginning of ys, or branches off lower
 abbrev pub Sooner : List ℕ → List ℕ → Type 0
-Sooner xs ys = Begins xs ys ⊎ Lex xs ys
+Sooner xs ys = Begins xs ys ⊎ BranchesLower xs ys
 
--- the paths through each of the moves: the move itself, then those below it, where `below` lists those from a state on
-unfoldable pub pathsThrough : (State → List (List ℕ)) → List Move → List (List ℕ)
-pathsThrough below [] = []
-pathsThrough below (m ∷ ms) =
-    (m .byte ∷ []) ∷ (map (λ path. m .byte ∷ path) (below (m .after)) ++ pathsThrough below ms)
+-- the paths of the tree's moves, depth first: each move's own, then those below it with its byte in front, then those of
+-- the moves not tried yet
+unfoldable pub pathsOf : Tree → List (List ℕ)
+pathsOf (ended s) = []
+pathsOf tried = []
+pathsOf (move byte below others) = (byte ∷ []) ∷ (map (λ path. byte ∷ path) (pathsOf below) ++ pathsOf others)
 
-unfoldable pub pathsFrom : Accepted → ℕ → State → List (List ℕ)
-pathsFrom a zero s = []
-pathsFrom a (suc left) s =
-    elim (allEnded a s) [ true ↦ [] | false ↦ pathsThrough (λ next. pathsFrom a left next) (moves a s) ]
-
--- all moves of the tree, depth first, each as the bytes from the root up to it
+-- all moves of the tree, each as the bytes from the root up to it
 unfoldable pub paths : Accepted → List (List ℕ)
-paths a = pathsFrom a orderRoom (initial a)
+paths a = pathsOf (tree a)
 
 -- the bytes of one or more allowed steps from a state on
 pub record Begun (a : Accepted) (s : State) (bytes : List ℕ) : Type 0 where

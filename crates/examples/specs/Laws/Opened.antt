@@ -67,7 +67,7 @@ unfolding Ends.noFlags Ends.flagged Ends.noStore Buffers.runAnswer Buffers.unwri
 endsOpened = tt
 
 unfoldable pub instructionsOpened : Unit {0}
-unfolding Held.noLocks Held.holds Held.acquire Held.release Held.raised Held.priority Instructions.fresh
+unfolding Held.noLocks Held.holds Held.acquire Held.release Held.heldCeilings Held.priority Instructions.fresh
     Instructions.values Instructions.register Instructions.skipping Instructions.withRegister
     Instructions.withHeld Instructions.plus Instructions.minus Instructions.endJob Instructions.loadVariable
     Instructions.store Instructions.setNumber Instructions.add Instructions.subtract Instructions.skipLess

@@ -4,16 +4,17 @@ use Prim.Native.Nat.{ℕ, zero, suc, max, _+_, _-_, _≤_, _<_}
 use native.Mathlib.Omega.{arith}
 use native.Mathlib.Decide.{decLe, ℕ-discrete}
 use mathlib.Core.Logic.{_≢_, _⊎_, inl, inr}
-use mathlib.Core.Path.{_≡_, refl, _∙_}
+use mathlib.Core.Path.{_≡_, refl, sym, ap, _∙_}
 use mathlib.Core.Bool.{Bool, true, false}
-use mathlib.Core.List.{List, [], _∷_}
+use mathlib.Core.List.{List, [], _∷_, map}
 use lib.ListN.{length, getD, set, take, drop, length-set, length-take, getD-replicate, length-replicate, drop-of-length-le, List·getD-eq-default}
 use lib.Seq.{getD-set-same, getD-set-other, ext-getD, drop-cons, getD-take}
 use borrow.Author.Tests.{ltb-true, ltb-false, lt-ltb, le-ltb}
-use Rattle.notation.specs.Lists.{if_then_else_}
+use Rattle.notation.specs.Lists.{if_then_else_, from, upTo, only, largest}
+use Rattle.notation.specs.Laws.LargestLaws.{largest-step}
 use Rattle.notation.specs.Laws.SetLaws.{set-each}
 use Rattle.notation.specs.Laws.TestLaws.{not-both, test-decided}
-use Rattle.machine.specs.Held.{Held, countOf, noLocks, holds, acquire, release, raised, priority}
+use Rattle.machine.specs.Held.{Held, countOf, noLocks, holds, acquire, release, heldCeilings, priority}
 use Rattle.machine.specs.Code.Within.{Within}
 
 -- ---- how many locks there are
@@ -199,6 +200,13 @@ counted : (p : Bool) (x : ℕ) → p ≡ true → (if p then x else 0) ≡ x
 unfolding if_then_else_
 counted p x h = rw h
 
+-- the priority lock by lock: the largest of the base and the ceilings of the held locks, where the listed ceilings
+-- are those from `lock` on
+unfoldable pub raised : Held → ℕ → ℕ → List ℕ → ℕ
+raised held base lock [] = base
+raised held base lock (ceiling ∷ ceilings) =
+    max (if holds held lock then ceiling else 0) (raised held base (suc lock) ceilings)
+
 module _ (held : Held) (base : ℕ) where
   raised-base : (lock : ℕ) (ceilings : List ℕ) → base ≤ raised held base lock ceilings
   unfolding raised
@@ -240,7 +248,6 @@ module _ (held : Held) (base : ℕ) where
             | no less ↦ above _ rest (omega arith) f
           ]
 
--- more held locks never lower it
 raised-more : (before after : Held) (base : ℕ) → ((lock : ℕ) → holds before lock ≡ true → holds after lock ≡ true)
     → (lock : ℕ) (ceilings : List ℕ) → raised before base lock ceilings ≤ raised after base lock ceilings
 unfolding raised
@@ -250,25 +257,47 @@ raised-more before after base more lock (x ∷ xs) =
 
 -- ---- the priority
 
+module _ (held : Held) (base : ℕ) where
+  -- the largest of the ceilings of the held locks from `lock` on, where `ceilingOf` gives the listed ceilings
+  largest-raised : (ceilingOf : ℕ → ℕ) (lock : ℕ) (ceilings : List ℕ)
+      → ((k : ℕ) → k < length ceilings → ceilingOf (lock + k) ≡ getD ceilings k 0)
+      → max base (largest (map ceilingOf (only (holds held) (from lock (length ceilings)))))
+      ≡ raised held base lock ceilings
+  unfolding raised from only largest
+  largest-raised ceilingOf lock [] given = omega arith
+  largest-raised ceilingOf lock (x ∷ xs) given =
+      let here : lock + 0 ≡ lock = omega arith in
+      let first : ceilingOf lock ≡ x = ap ceilingOf (sym here) ∙ given 0 (omega arith) in
+      let one = largest-step ceilingOf (holds held) lock (from (suc lock) (length xs)) in
+      let later = largest-raised ceilingOf (suc lock) xs
+      (λ k b. let further : suc lock + k ≡ lock + suc k = omega arith in ap ceilingOf further ∙ given (suc k) (omega arith)) in
+      omega (arith, rw first at one, later)
+
+  -- so the priority is that
+  pub priority-raised : (ceilings : List ℕ) → priority ceilings base held ≡ raised held base 0 ceilings
+  unfolding priority heldCeilings upTo largest
+  priority-raised ceilings =
+      largest-raised (λ lock. getD ceilings lock 0) 0 ceilings
+      (λ k b. let same : 0 + k ≡ k = omega arith in ap (λ (j : ℕ). getD ceilings j 0) same)
+
 module _ (ceilings : List ℕ) (base : ℕ) where
   pub priority-base : (held : Held) → base ≤ priority ceilings base held
-  unfolding priority
-  priority-base held = raised-base held base 0 ceilings
+  priority-base held = rw (priority-raised held base ceilings) (raised-base held base 0 ceilings)
 
   pub priority-ceiling : (held : Held) (lock : ℕ) → lock < length ceilings → holds held lock ≡ true
       → getD ceilings lock 0 ≤ priority ceilings base held
-  unfolding priority
   priority-ceiling held lock b h =
-      let same : 0 + lock ≡ lock = omega arith in raised-ceiling held base 0 ceilings lock b (rw same h)
+      let same : 0 + lock ≡ lock = omega arith in
+      rw (priority-raised held base ceilings) (raised-ceiling held base 0 ceilings lock b (rw same h))
 
   pub priority-from : (held : Held)
       → (priority ceilings base held ≡ base) ⊎ ((lock : ℕ) × (lock < length ceilings) × (holds held lock ≡ true)
       × (priority ceilings base held ≡ getD ceilings lock 0))
-  unfolding priority
   priority-from held =
+      let worked = priority-raised held base ceilings in
       elim (raised-from held base 0 ceilings) [
-        | inl is ↦ inl is
-        | inr f ↦ (let same : 0 + f .0 ≡ f .0 = omega arith in inr (f .0, f .1, rw same at (f .2), f .3))
+        | inl is ↦ inl (worked ∙ is)
+        | inr f ↦ (let same : 0 + f .0 ≡ f .0 = omega arith in inr (f .0, f .1, rw same at (f .2), worked ∙ f .3))
       ]
 
   -- with no lock held it is the base
@@ -283,15 +312,20 @@ module _ (ceilings : List ℕ) (base : ℕ) where
   pub priority-none : priority ceilings base noLocks ≡ base
   priority-none = priority-free noLocks (λ lock b. none-held lock)
 
+  -- more held locks never lower it
+  priority-more : (before after : Held) → ((lock : ℕ) → holds before lock ≡ true → holds after lock ≡ true)
+      → priority ceilings base before ≤ priority ceilings base after
+  priority-more before after more =
+      rw (priority-raised before base ceilings, priority-raised after base ceilings)
+      (raised-more before after base more 0 ceilings)
+
   pub acquire-raises : (held : Held) (lock : ℕ)
       → priority ceilings base held ≤ priority ceilings base (acquire held lock)
-  unfolding priority
-  acquire-raises held lock = raised-more held (acquire held lock) base (acquire-keeps held lock) 0 ceilings
+  acquire-raises held lock = priority-more held (acquire held lock) (acquire-keeps held lock)
 
   pub release-lowers : (held : Held) (lock : ℕ)
       → priority ceilings base (release held lock) ≤ priority ceilings base held
-  unfolding priority
-  release-lowers held lock = raised-more (release held lock) held base (release-takes held lock) 0 ceilings
+  release-lowers held lock = priority-more (release held lock) held (release-takes held lock)
 
 -- ---- the priority worked out from the highest lock down
 

@@ -18,9 +18,10 @@ use Rattle.machine.specs.Ends.{End}
 use Rattle.order.specs.Orders.{OrderEnds}
 use Rattle.order.specs.States.{initial}
 use Rattle.order.specs.Laws.StepLaws.{initial-invariant}
+use Rattle.walk.specs.Code.FromState.{ordersFrom, walkFrom}
 use Rattle.walk.specs.FailingOrders.{SomeFails, FirstFailing}
 use Rattle.walk.specs.Laws.ListedLaws.{from-listed, listed-from, from-ascends}
-use Rattle.walk.specs.Paths.{Lex}
+use Rattle.walk.specs.Paths.{BranchesLower}
 use Rattle.walk.specs.Laws.WalkLaws.{walk-from-first}
 use Rattle.walk.specs.Walks.{EndedOrder, fails, orders, walk}
 use Rattle.machine.specs.Buffers.{orderRoom}
@@ -76,7 +77,7 @@ module _ {a : Accepted} (ok : IsAccepted a) where
   -- a complete order is listed, with its end
   pub order-listed : {order : List ℕ} {end : End} → OrderEnds a order end
       → List·Memᴰ (record { bytes = order; ending = end }) (orders a)
-  unfolding orders
+  unfolding orders ordersFrom
   order-listed {order} {end} whole =
       let full = whole .complete in
       subst (λ (e : End). List·Memᴰ (record { bytes = order; ending = e }) (orders a)) (whole .ends)
@@ -84,7 +85,7 @@ module _ {a : Accepted} (ok : IsAccepted a) where
 
   -- whatever is listed is a complete order, with its end
   pub listed-complete : (f : EndedOrder) → List·Memᴰ f (orders a) → OrderEnds a (f .bytes) (f .ending)
-  unfolding orders
+  unfolding orders ordersFrom
   listed-complete f here =
       let ends = listed-from ok orderRoom (initial-invariant a) here in
       record {
@@ -95,14 +96,14 @@ module _ {a : Accepted} (ok : IsAccepted a) where
 
   -- the walk's failing order is the first of the complete orders that fail
   pub walk-first : (f : EndedOrder) → walk a .failing ≡ some f → FirstFailing a (f .bytes) (f .ending)
-  unfolding walk orders
+  unfolding walk orders walkFrom ordersFrom
   walk-first f e =
       let is = sym (walk-from-first a orderRoom (initial a)) ∙ e in
       let found = first-member (λ g. fails (g .ending)) (orders a) is in
       record {
         failing = record { complete = listed-complete f (found .0); failed = found .1 };
         first = λ other end fails'.
-            elim (first-related (λ g. fails (g .ending)) (λ g h. Lex (g .bytes) (h .bytes)) (orders a)
+            elim (first-related (λ g. fails (g .ending)) (λ g h. BranchesLower (g .bytes) (h .bytes)) (orders a)
             (from-ascends ok orderRoom (initial-invariant a)) is (order-listed (fails' .complete)) (fails' .failed)) [
               | inl same ↦ inl (ap (λ (g : EndedOrder). g .bytes) same)
               | inr later ↦ inr later
@@ -119,7 +120,7 @@ module _ {a : Accepted} (ok : IsAccepted a) where
 
   -- where it finds none, no complete order fails
   pub walk-holds : walk a .failing ≡ none → SomeFails a → ⊥
-  unfolding walk orders
+  unfolding walk orders walkFrom ordersFrom
   walk-holds e some' =
       first-lacks (λ g. fails (g .ending)) (orders a) (sym (walk-from-first a orderRoom (initial a)) ∙ e)
       (order-listed (some' .failing .complete)) (some' .failing .failed)

@@ -21,8 +21,9 @@ use Rattle.order.specs.Laws.StepLaws.{step-keeps}
 use Rattle.walk.specs.Laws.CaseLaws.{orders-end, orders-cut, orders-on, end-steps, run-first, run-on}
 use Rattle.walk.specs.Laws.MoveLaws.{moves-ascend, move-is-step, step-is-move}
 use Rattle.walk.specs.Moves.{Move, moves}
-use Rattle.walk.specs.Paths.{Lex}
-use Rattle.walk.specs.Walks.{EndedOrder, starting, ordersThrough, ordersFrom}
+use Rattle.walk.specs.Paths.{BranchesLower}
+use Rattle.walk.specs.Code.FromState.{ordersFrom, ordersThrough}
+use Rattle.walk.specs.Walks.{EndedOrder, starting}
 
 -- ---- the complete orders are listed
 
@@ -117,42 +118,42 @@ module _ {a : Accepted} (ok : IsAccepted a) where
 -- ---- in ascending order
 
 -- a list does not come before itself, so a list that ascends has each element once
-pub lex-apart : (xs : List ℕ) → Lex xs xs → ⊥
-lex-apart xs lex = go (lex .common) (sym (lex .first) ∙ lex .second)
+pub branch-apart : (xs : List ℕ) → BranchesLower xs xs → ⊥
+branch-apart xs branch = go (branch .common) (sym (branch .first) ∙ branch .second)
   where
-    go : (ys : List ℕ) → ys ++ (lex .lower ∷ lex .restLower) ≡ ys ++ (lex .higher ∷ lex .restHigher) → ⊥
-    go [] e = let same : lex .lower ≡ lex .higher = cc in omega (arith, lex .smaller)
+    go : (ys : List ℕ) → ys ++ (branch .lower ∷ branch .restLower) ≡ ys ++ (branch .higher ∷ branch .restHigher) → ⊥
+    go [] e = let same : branch .lower ≡ branch .higher = cc in omega (arith, branch .smaller)
     go (y ∷ ys) e = go ys (cc)
 
-pub lex-first : {x y : ℕ} {xs ys : List ℕ} → x < y → Lex (x ∷ xs) (y ∷ ys)
-lex-first {x} {y} {xs} {ys} lt =
+pub branch-first : {x y : ℕ} {xs ys : List ℕ} → x < y → BranchesLower (x ∷ xs) (y ∷ ys)
+branch-first {x} {y} {xs} {ys} lt =
     record { common = []; lower = x; higher = y; restLower = xs; restHigher = ys; first = refl; second = refl; smaller = lt }
 
-pub lex-later : (x : ℕ) {xs ys : List ℕ} → Lex xs ys → Lex (x ∷ xs) (x ∷ ys)
-lex-later x lex =
+pub branch-later : (x : ℕ) {xs ys : List ℕ} → BranchesLower xs ys → BranchesLower (x ∷ xs) (x ∷ ys)
+branch-later x branch =
     record {
-      common = x ∷ lex .common;
-      lower = lex .lower;
-      higher = lex .higher;
-      restLower = lex .restLower;
-      restHigher = lex .restHigher;
-      first = ap (λ (l : List ℕ). x ∷ l) (lex .first);
-      second = ap (λ (l : List ℕ). x ∷ l) (lex .second);
-      smaller = lex .smaller;
+      common = x ∷ branch .common;
+      lower = branch .lower;
+      higher = branch .higher;
+      restLower = branch .restLower;
+      restHigher = branch .restHigher;
+      first = ap (λ (l : List ℕ). x ∷ l) (branch .first);
+      second = ap (λ (l : List ℕ). x ∷ l) (branch .second);
+      smaller = branch .smaller;
     }
 
 abbrev Before : EndedOrder → EndedOrder → Type 0
-Before f g = Lex (f .bytes) (g .bytes)
+Before f g = BranchesLower (f .bytes) (g .bytes)
 
 module _ (below : State → List EndedOrder) where
   -- an order that begins with a byte comes before those through moves with higher ones
   through-above : (byte : ℕ) (bytes : List ℕ) (ms : List Move) → Every (λ m. byte < m .byte) ms
-      → Every (λ g. Lex (byte ∷ bytes) (g .bytes)) (ordersThrough below ms)
+      → Every (λ g. BranchesLower (byte ∷ bytes) (g .bytes)) (ordersThrough below ms)
   unfolding ordersThrough starting
   through-above byte bytes [] above = tt
   through-above byte bytes (m ∷ ms) above =
-      every-append (λ g. Lex (byte ∷ bytes) (g .bytes)) (map (starting (m .byte)) (below (m .after))) (ordersThrough below ms)
-      (every-map _ (starting (m .byte)) (below (m .after)) (every-of _ (λ g. lex-first (above .0)) (below (m .after))))
+      every-append (λ g. BranchesLower (byte ∷ bytes) (g .bytes)) (map (starting (m .byte)) (below (m .after))) (ordersThrough below ms)
+      (every-map _ (starting (m .byte)) (below (m .after)) (every-of _ (λ g. branch-first (above .0)) (below (m .after))))
       (through-above byte bytes ms (above .1))
 
   -- moves that ascend, with orders below each that ascend, make orders that ascend
@@ -163,7 +164,7 @@ module _ (below : State → List EndedOrder) where
   through-ascends (m ∷ ms) rise each =
       ordered-append Before (map (starting (m .byte)) (below (m .after))) (ordersThrough below ms)
       (ordered-map Before (starting (m .byte)) (below (m .after))
-      (ordered-imp Before _ (λ f g lex. lex-later (m .byte) lex) (below (m .after)) (each .0)))
+      (ordered-imp Before _ (λ f g branch. branch-later (m .byte) branch) (below (m .after)) (each .0)))
       (through-ascends ms (rise .1) (each .1))
       (every-map _ (starting (m .byte)) (below (m .after))
       (every-of _ (λ f. through-above (m .byte) (f .bytes) ms (rise .0)) (below (m .after))))

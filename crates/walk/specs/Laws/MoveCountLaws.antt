@@ -18,9 +18,10 @@ use Rattle.order.specs.Orders.{orderEnd}
 use Rattle.order.specs.States.{State, initial, allEnded}
 use Rattle.walk.specs.Laws.CaseLaws.{walk-end, walk-cut, walk-on, after-none, after-some, paths-end, paths-cut, paths-on}
 use Rattle.walk.specs.Moves.{Move, moves}
-use Rattle.walk.specs.Paths.{UpTo, pathsThrough, pathsFrom}
+use Rattle.walk.specs.Code.FromState.{pathsFrom, pathsThrough, walkFrom, trial}
+use Rattle.walk.specs.Paths.{UpTo}
 use Rattle.walk.specs.WalkEntry.{decided}
-use Rattle.walk.specs.Walks.{EndedOrder, Walked, fails, starting, afterMove, trial, atEnd, walkFrom}
+use Rattle.walk.specs.Walks.{EndedOrder, Walked, fails, starting, afterMove, atEnd}
 
 -- a walk over the listed paths made all their moves, or those up to the failing order
 pub record Counted (w : Walked) (listed : List (List ℕ)) : Type 0 where

@@ -22,10 +22,11 @@ use Rattle.order.specs.Orders.{run}
 use Rattle.order.specs.States.{State, initial, allEnded}
 use Rattle.order.specs.Laws.StepLaws.{step-keeps, initial-invariant}
 use Rattle.walk.specs.Laws.CaseLaws.{paths-end, paths-cut, paths-on, end-steps, run-first, run-on}
-use Rattle.walk.specs.Laws.ListedLaws.{lex-apart, lex-first, lex-later}
+use Rattle.walk.specs.Laws.ListedLaws.{branch-apart, branch-first, branch-later}
 use Rattle.walk.specs.Laws.MoveLaws.{moves-ascend, move-is-step, step-is-move}
 use Rattle.walk.specs.Moves.{Move, moves}
-use Rattle.walk.specs.Paths.{Begun, Sooner, pathsThrough, pathsFrom, paths}
+use Rattle.walk.specs.Code.FromState.{pathsFrom, pathsThrough}
+use Rattle.walk.specs.Paths.{Begun, Sooner, paths}
 
 -- ---- the beginnings of orders are the paths
 
@@ -92,7 +93,7 @@ module _ {a : Accepted} (ok : IsAccepted a) where
   -- no order has more steps than may come, so every beginning of one is listed
   pub path-listed : (bytes : List ℕ) {s : State} → run a (initial a) bytes ≡ some s → 1 ≤ length bytes
       → List·Memᴰ bytes (paths a)
-  unfolding paths
+  unfolding paths pathsFrom
   path-listed [] e filled = absurd (omega arith)
   path-listed (byte ∷ bytes) e filled =
       let short = order-short ok (byte ∷ bytes) e in
@@ -129,12 +130,12 @@ module _ {a : Accepted} (ok : IsAccepted a) where
 pub sooner-apart : (xs : List ℕ) → Sooner xs xs → ⊥
 sooner-apart xs (inl begins) =
     omega (arith, ap (λ (l : List ℕ). length l) (begins .parts), length-append xs (begins .next ∷ begins .rest))
-sooner-apart xs (inr lex) = lex-apart xs lex
+sooner-apart xs (inr branch) = branch-apart xs branch
 
 sooner-later : (x : ℕ) {xs ys : List ℕ} → Sooner xs ys → Sooner (x ∷ xs) (x ∷ ys)
 sooner-later x (inl begins) =
     inl (record { next = begins .next; rest = begins .rest; parts = ap (λ (l : List ℕ). x ∷ l) (begins .parts) })
-sooner-later x (inr lex) = inr (lex-later x lex)
+sooner-later x (inr branch) = inr (branch-later x branch)
 
 -- a move comes sooner than those below it
 sooner-below : (x : ℕ) (ys : List ℕ) → 1 ≤ length ys → Sooner (x ∷ []) (x ∷ ys)
@@ -148,10 +149,10 @@ module _ (below : State → List (List ℕ)) where
   unfolding pathsThrough
   through-sooner byte bytes [] above = tt
   through-sooner byte bytes (m ∷ ms) above = (
-    inr (lex-first (above .0)),
+    inr (branch-first (above .0)),
     every-append (Sooner (byte ∷ bytes)) (map (λ path. m .byte ∷ path) (below (m .after))) (pathsThrough below ms)
         (every-map (Sooner (byte ∷ bytes)) (λ path. m .byte ∷ path) (below (m .after))
-        (every-of _ (λ path. inr (lex-first (above .0))) (below (m .after))))
+        (every-of _ (λ path. inr (branch-first (above .0))) (below (m .after))))
         (through-sooner byte bytes ms (above .1)),
   )
 

@@ -19,7 +19,8 @@ use Rattle.order.specs.States.{State, allEnded}
 use Rattle.walk.specs.Laws.CaseLaws.{orders-end, orders-cut, orders-on, walk-end, walk-cut, walk-on, after-none, after-some}
 use Rattle.walk.specs.Moves.{Move, moves}
 use Rattle.walk.specs.WalkEntry.{decided, decidedAnswer, verdictOf, refusal}
-use Rattle.walk.specs.Walks.{EndedOrder, Walked, fails, starting, ordersThrough, ordersFrom, afterMove, trial, atEnd, walkFrom}
+use Rattle.walk.specs.Code.FromState.{ordersFrom, ordersThrough, walkFrom, trial}
+use Rattle.walk.specs.Walks.{EndedOrder, Walked, fails, starting, afterMove, atEnd}
 
 -- ---- the first that fails
 

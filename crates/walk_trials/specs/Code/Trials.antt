@@ -14,7 +14,8 @@ use Rattle.order.specs.Code.Invariant.{Invariant}
 use Rattle.order_states.specs.Code.Shows.{Lends, Shows}
 use Rattle.order.specs.States.{State}
 use Rattle.walk.specs.Moves.{moves}
-use Rattle.walk.specs.Walks.{EndedOrder, Walked, trial, walkFrom}
+use Rattle.walk.specs.Code.FromState.{walkFrom, trial}
+use Rattle.walk.specs.Walks.{EndedOrder, Walked}
 use Rattle.walk_trials.specs.declared.Outcome.{Outcome}
 
 -- the locks' ceilings, of which the first so many are there

@@ -21,7 +21,8 @@ use Rattle.walk.specs.Laws.ByteLaws.{stepsFrom, moves-steps, steps-skip, steps-
 use Rattle.walk_trials.specs.declared.Outcome.{Outcome}
 use Rattle.walk.specs.Moves.{Move, moves}
 use Rattle.walk_trials.specs.Code.Trials.{Path, WalkEndsAs, Came, Held, Stopped}
-use Rattle.walk.specs.Walks.{EndedOrder, Walked, starting, afterMove, trial, walkFrom}
+use Rattle.walk.specs.Code.FromState.{walkFrom, trial}
+use Rattle.walk.specs.Walks.{EndedOrder, Walked, starting, afterMove}
 
 -- the moves from a byte on are what is left of all moves: nothing failed before, and `made` moves were made with
 -- `count` before the trial

@@ -21,7 +21,7 @@ use Rattle.walk_trials.specs.declared.Outcome.{Outcome}
 use Rattle.walk_trials.specs.Laws.TrialLaws.{Rest, rest-all, rest-skip, trial-ends, trial-stops, trial-finds, trial-cut, trial-on}
 use Rattle.walk_trials.specs.Code.Trials.{Path, Came, Held, Stopped, Left, WalksAs, TriesAs}
 use Rattle.walk_moves.specs.Code.MoveParts.{NoStep}
-use Rattle.walk.specs.Walks.{walkFrom}
+use Rattle.walk.specs.Code.FromState.{walkFrom}
 
 -- at a byte: what was tried held, and what is left starts there
 pub record Trying (program waits : List ℕ) (locks : Ceilings) (p : Snapshot) (left count made allowance byte : ℕ)

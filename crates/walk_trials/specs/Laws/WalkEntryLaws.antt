@@ -39,6 +39,7 @@ use Rattle.order_lending.specs.Code.Lending.{LentOf}
 use Rattle.walk_trials.specs.Laws.OutcomeLaws.{answer-stopped, answer-found, answer-held, length-found, length-none}
 use Rattle.walk.specs.Laws.FailingLaws.{walk-short}
 use Rattle.walk.specs.Laws.ShownLaws.{decided-within, decided-over, answer-room, after-room}
+use Rattle.walk.specs.Code.FromState.{walkFrom}
 use Rattle.walk.specs.Walks.{EndedOrder, Walked, walk}
 use Rattle.notation_buffers.specs.Code.Writing.{Appends, clearedFrom}
 use Rattle.notation_buffers.specs.Laws.WritingLaws.{appends-filled}
@@ -47,7 +48,7 @@ pub walk-lent : {t : Table} {list : JobList} {l : Lent} {allowance : ℕ} {befor
     → LentOf t list l
     → WalksAs (l .program) (l .waits) (l .locks) (snapshotIn (l .start)) 512 0 allowance before after r
     → WalkOf t list allowance before after r
-unfolding walk
+unfolding walk walkFrom
 walk-lent lent walks a ok table listed =
     walks a (initial a) ok (lent .lends a ok table listed) (initial-invariant a) (lent .shows a ok table listed)
 

@@ -24,7 +24,8 @@ use Rattle.walk_trials.specs.declared.Outcome.{Outcome}
 use Rattle.walk.specs.Moves.{moves}
 use Rattle.walk_trials.specs.Code.Outcomes.{noneFailed, endedAt, outcomeOf}
 use Rattle.walk_trials.specs.Code.Trials.{WalkEndsAs, Came, Held, Stopped, WalksAs, TriesAs}
-use Rattle.walk.specs.Walks.{EndedOrder, Walked, fails, trial, atEnd, walkFrom}
+use Rattle.walk.specs.Code.FromState.{walkFrom, trial}
+use Rattle.walk.specs.Walks.{EndedOrder, Walked, fails, atEnd}
 
 -- what the numbers of an answer come to
 module _ (count : ℕ) (p : Snapshot) where

@@ -7,8 +7,7 @@ use mathlib.Core.Path.{_≡_, sym, _∙_}
 use mathlib.Core.Bool.{Bool, true, false}
 use lib.ListN.{getD}
 use Rattle.notation.specs.Lists.{if_then_else_}
-use Rattle.machine.specs.Held.{priority}
-use Rattle.machine.specs.Laws.HeldLaws.{highestFrom, highest-start, highest-step}
+use Rattle.machine.specs.Laws.HeldLaws.{highestFrom, highest-start, highest-step, priority-raised}
 use Rattle.machine_locals.proofs.held.priority_of.Statement.{statement}
 use Rattle.machine_locals.proofs.held.priority_of.Tie as tie
 
@@ -65,10 +64,10 @@ unfolding if_then_else_
 loop-again-3 c = (omega arith, omega (arith, next (c .before) false (c .if1 .left)))
 
 returns : tie.Need-returns Inv-loop μ-loop
-unfolding priority
 returns c =
+    let start = c .before .before .args in
     let last : c .before .loop .lock ≡ 0 = omega arith in
-    rw last at (c .before .loop .inv .1)
+    rw last at (c .before .loop .inv .1) ∙ sym (priority-raised (start .held) (start .base) _)
 
 pub priority-of-spec : {M : Type 1} → statement M
 priority-of-spec =
