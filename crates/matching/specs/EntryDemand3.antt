@@ -18,7 +18,6 @@ use Rattle.order.specs.Replay.{replayAnswer}
 use Rattle.plan.specs.Plans.{PlanEnds, planAnswer}
 use Rattle.plan.specs.Runs.{Plan}
 use Rattle.matching.specs.ConversionEntries.{orderToPlanAnswer, planToOrderAnswer, AnswersEnd, planLeft, orderLeft}
-use Rattle.matching.specs.Laws.EntryLaws as entries
 
 -- of an accepted file's table, with a lent buffer for a plan and one for an order
 pub record EntryDemand3 (f : File) (a : Accepted) (planBuffer orderBuffer : List ℕ) : Type 0 where
@@ -37,15 +36,8 @@ pub record EntryDemand3 (f : File) (a : Accepted) (planBuffer orderBuffer : List
       → AnswersEnd (orderToPlanAnswer f (orderLeft f plan orderBuffer) planBuffer) e
       × (planLeft f (orderLeft f plan orderBuffer) planBuffer ≡ plan)
 
--- "A table is accepted if its file earns no number."
-pub entryDemand3 : (f : File) {a : Accepted} → accept f ≡ passed a → (planBuffer orderBuffer : List ℕ)
+-- the demand: of every file that earns no number, and of buffers that have room
+abbrev pub EntryMatchingDemand : Type 0
+EntryMatchingDemand =
+    (f : File) (a : Accepted) → accept f ≡ passed a → (planBuffer orderBuffer : List ℕ)
     → planRoom ≤ length planBuffer → orderRoom ≤ length orderBuffer → EntryDemand3 f a planBuffer orderBuffer
-entryDemand3 f isAccepted planBuffer orderBuffer planFits orderFits =
-    record {
-      orders = entries.order-answers f isAccepted planBuffer planFits;
-      plans = entries.plan-answers f isAccepted orderBuffer orderFits;
-      replays = entries.replay-answers f isAccepted;
-      checks = entries.check-answers f isAccepted;
-      order-back = entries.order-returns f isAccepted planBuffer orderBuffer planFits orderFits;
-      plan-back = entries.plan-returns f isAccepted planBuffer orderBuffer planFits orderFits;
-    }

@@ -4,37 +4,18 @@
 -- Assumes nothing.
 use mathlib.Core.Path.{_≡_}
 use Prim.Native.Nat.{ℕ, _/_, _%_}
-use mathlib.Core.List.{List, [], _∷_, _++_}
-use mathlib.Core.Option.{none, some}
+use mathlib.Core.List.{List, _∷_, _++_}
+use mathlib.Core.Option.{some}
 use lib.ListN.{length}
-use lib.Dec.{eqb}
-use Rattle.notation.specs.Lists.{only}
 use Rattle.timing.specs.declared.Job.{Job}
 use Rattle.timing.specs.Accepted.{Accepted}
-use Rattle.timing.specs.Relations.{IsJob, jobNumbers}
-use Rattle.order.specs.Orders.{Turn, turnOf, performed, run}
-use Rattle.order.specs.States.{State, initial, hasEnded}
+use Rattle.timing.specs.Relations.{IsJob}
+use Rattle.order.specs.Orders.{Turn, turnOf, run}
+use Rattle.order.specs.OrderSteps.{stepsMade, endedCount}
+use Rattle.order.specs.States.{State, initial}
 use Rattle.plan.specs.Legality.{stepsOf}
 use Rattle.plan.specs.Plans.{Legal}
 use Rattle.plan.specs.Runs.{Plan, Step, JobRuns}
-use Rattle.matching.specs.Laws.Histories.{job}
-
--- the jobs whose steps the bytes are, byte by byte from a state on
-unfoldable pub jobsFrom : Accepted → State → List ℕ → List Job
-jobsFrom a s [] = []
-jobsFrom a s (byte ∷ bytes) =
-    elim (turnOf a s (byte / 16)) [
-      | none ↦ []
-      | some turn ↦ turn .frame .job ∷ jobsFrom a (performed a s (byte % 16) turn) bytes
-    ]
-
--- how many of an order's bytes are steps of job x
-unfoldable pub stepsMade : Accepted → List ℕ → Job → ℕ
-stepsMade a bytes x = length (only (λ y. eqb (y .0) (x .0)) (jobsFrom a (initial a) bytes))
-
--- how many jobs have ended
-unfoldable pub endedCount : Accepted → State → ℕ
-endedCount a s = length (only (hasEnded s) (jobNumbers a))
 
 -- the step of the byte that comes after the bytes `earlier`, in a plan's run
 pub record StepPlanned (a : Accepted) (runs : JobRuns) (earlier : List ℕ) (byte : ℕ) : Type 0 where

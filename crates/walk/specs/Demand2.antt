@@ -14,28 +14,17 @@ use Rattle.notation.specs.Lists.{firstWith}
 use Rattle.notation.specs.Ordered.{Ordered}
 use Rattle.taskfile.specs.Records.{File}
 use Rattle.timing.specs.Accepted.{Accepted, accept}
-use Rattle.timing.specs.Laws.AcceptedLaws.{file-accepted}
 use Rattle.timing.specs.ResponseDemand.{ResponseDemand}
-use Rattle.timing.specs.Laws.ResponseDemandLaws.{response-demand}
+use Rattle.machine.specs.Buffers.{orderRoom, filled}
 use Rattle.machine.specs.Ends.{End}
 use Rattle.order.specs.Orders.{OrderEnds}
 use Rattle.order.specs.States.{initial}
-use Rattle.order.specs.Laws.StepLaws.{initial-invariant}
 use Rattle.walk.specs.declared.Verdict.the-variants.{Holds, Fails}
 use Rattle.walk.specs.declared.WalkAnswer.{WalkAnswer}
-use Rattle.walk.specs.Code.FromState.{ordersFrom, pathsFrom, walkFrom}
-use Rattle.walk.specs.Laws.MoveCountLaws.{from-counted, initial-sound}
-use Rattle.walk.specs.Laws.FailingLaws.{order-listed, listed-complete}
 use Rattle.walk.specs.FailingOrders.{SomeFails, FirstFailing, answeredEnd}
-use Rattle.walk.specs.Laws.ListedLaws.{from-ascends}
-use Rattle.walk.specs.Laws.PathLaws.{path-listed, listed-path, from-once}
 use Rattle.walk.specs.Paths.{Begun, BranchesLower, Sooner, UpTo, paths}
-use Rattle.walk.specs.Laws.ShownLaws.{answer-room, after-room, decided-fails, decided-holds, decided-counted, decided-first, decided-filled}
-use Rattle.walk.specs.WalkEntry.{decided, decidedAnswer, decidedBytes, walkAnswer, walkAfter}
-use Rattle.walk.specs.Laws.WalkLaws.{walk-from-first, undecided-when}
+use Rattle.walk.specs.WalkEntry.{walkAnswer, walkAfter}
 use Rattle.walk.specs.Walks.{EndedOrder, fails, orders, walk}
-use Rattle.timing.specs.Code.IsAccepted.{IsAccepted}
-use Rattle.machine.specs.Buffers.{orderRoom, filled}
 
 -- ---- the walk of an accepted table
 
@@ -76,6 +65,7 @@ pub record WalkAnswers (a : Accepted) (allowance : ℕ) (buffer : List ℕ) (ans
 
 -- ---- the theorem
 
+-- of every file
 pub record Demand2 (f : File) : Type 0 where
   -- "Response times are the least solutions of the response equation", and number 10 names the lowest task without one
   pub responses : ResponseDemand f
@@ -84,43 +74,3 @@ pub record Demand2 (f : File) : Type 0 where
   -- what its caller sees, whatever the allowance, where the lent buffer has room
   pub answers : (a : Accepted) → accept f ≡ passed a → (allowance : ℕ) (buffer : List ℕ) → orderRoom ≤ length buffer
       → WalkAnswers a allowance buffer (walkAnswer f allowance buffer) (walkAfter f allowance buffer)
-
-walk-demand : {a : Accepted} → IsAccepted a → WalkDemand a
-unfolding orders walk paths ordersFrom walkFrom pathsFrom
-walk-demand {a} ok =
-    let counted = from-counted a orderRoom (initial a) (initial-sound a) in
-    record {
-      listed = λ order end. (order-listed ok, listed-complete ok (record { bytes = order; ending = end }));
-      ascending = from-ascends ok orderRoom (initial-invariant a);
-      first = walk-from-first a orderRoom (initial a);
-      countUpTo = counted .found;
-      countAll = counted .all;
-      moves = λ bytes. (
-        λ begun. path-listed ok bytes (begun .allowed) (begun .filled),
-        λ here. listed-path ok orderRoom (initial-invariant a) here,
-      );
-      once = from-once ok orderRoom (initial-invariant a);
-    }
-
-walk-answers : {a : Accepted} → IsAccepted a → (allowance : ℕ) (buffer : List ℕ)
-    → let outcome = decided allowance (walk a) in
-    WalkAnswers a allowance buffer (decidedAnswer outcome) (filled orderRoom (decidedBytes outcome) buffer)
-walk-answers {a} ok allowance buffer =
-    record {
-      undecided = undecided-when allowance (walk a);
-      shows = decided-fails ok allowance;
-      holds = decided-holds ok allowance;
-      counts = decided-counted ok allowance;
-      shown = decided-first ok allowance buffer;
-      rest = decided-filled ok allowance buffer;
-    }
-
-pub demand2 : (f : File) → Demand2 f
-demand2 f =
-    record {
-      responses = response-demand f;
-      walks = λ a e. walk-demand (file-accepted f e);
-      answers = λ a e allowance buffer room.
-          rw (answer-room f e allowance buffer room, after-room f e allowance buffer room)
-          (walk-answers (file-accepted f e) allowance buffer);
-    }

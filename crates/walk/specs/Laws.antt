@@ -1,5 +1,6 @@
 pub mod ByteLaws
 pub mod CaseLaws
+pub mod Demand2Laws
 pub mod Examples
 pub mod FailingLaws
 pub mod ListedLaws

@@ -19,7 +19,7 @@ use Rattle.plan.specs.Runs.{Plan}
 use Rattle.walk.specs.Laws.SizeLaws.{Sized, replay-sized}
 use Rattle.matching.specs.Conversions.{orderToPlan, planToOrder}
 use Rattle.matching.specs.ConversionEntries.{plannedOrder, orderToPlanAnswer, orderedPlan, planToOrderAnswer}
-use Rattle.matching.specs.Demand3.{demand3}
+use Rattle.matching.specs.Laws.Demand3Laws.{demand3}
 use Rattle.matching.specs.Laws.EntryLaws.{replay-answers, check-legal}
 
 -- ---- how an order or a plan ends
@@ -37,7 +37,7 @@ order-sized f isAccepted order e full =
 plan-end-sized : (f : File) {a : Accepted} → accept f ≡ passed a → (plan : Plan) (e : End) → PlanEnds a plan e
     → Sized (e .store) (e .failed)
 plan-end-sized f isAccepted plan e legal =
-    let same = demand3 f isAccepted .same-ends e .1 (plan, legal) in
+    let same = demand3 f _ isAccepted .same-ends e .1 (plan, legal) in
     order-sized f isAccepted (same .0) e (same .1)
 
 -- ---- an answer
@@ -76,7 +76,7 @@ planned-sized f order buffer =
     (λ w h.
     let parts = bind-passed (accept f) _ h in
     let roomy = then-passed (require (leb planRoom (length buffer)) 20 0) (orderToPlan (parts .0) order) (parts .2) in
-    order-sized f (parts .1) order (w .ending) (demand3 f (parts .1) .orders order (w .ending) .0 (w .bytes, roomy .2)))
+    order-sized f (parts .1) order (w .ending) (demand3 f _ (parts .1) .orders order (w .ending) .0 (w .bytes, roomy .2)))
 
 pub ordered-sized : (f : File) (plan : Plan) (buffer : List ℕ)
     → Sized (planToOrderAnswer f plan buffer .store) (planToOrderAnswer f plan buffer .failed)
@@ -86,4 +86,4 @@ ordered-sized f plan buffer =
     (λ w h.
     let parts = bind-passed (accept f) _ h in
     let roomy = then-passed (require (leb orderRoom (length buffer)) 20 0) (planToOrder (parts .0) plan) (parts .2) in
-    plan-end-sized f (parts .1) plan (w .ending) (demand3 f (parts .1) .plans plan (w .ending) .0 (w .bytes, roomy .2)))
+    plan-end-sized f (parts .1) plan (w .ending) (demand3 f _ (parts .1) .plans plan (w .ending) .0 (w .bytes, roomy .2)))

@@ -11,7 +11,7 @@ use Rattle.matching.specs.Conversions
 use Rattle.bench.specs.Files
 
 unfoldable pub conversionsOpened : Unit {0}
-unfolding Conversions.noting Conversions.roundsFrom Conversions.jobBytes Conversions.planOf
+unfolding Conversions.jobBytes Conversions.endStores Conversions.planOf
     Conversions.orderToPlan Conversions.stepBytesIn Conversions.orderOf Conversions.planToOrder
     ConversionEntries.plannedOrder ConversionEntries.orderToPlanAnswer ConversionEntries.orderToPlanAfter
     ConversionEntries.orderedPlan ConversionEntries.planToOrderAnswer ConversionEntries.planToOrderAfter

@@ -15,8 +15,8 @@ use Rattle.order.specs.Replay.{replay}
 use Rattle.plan.specs.Plans.{legalRun, PlanEnds}
 use Rattle.plan.specs.Runs.{Plan}
 use Rattle.matching.specs.Conversions.{planOf, orderToPlan, orderOf, planToOrder}
-use Rattle.matching.specs.Laws.OrderPlanned.{runsOf, order-planned}
-use Rattle.matching.specs.Laws.PlanOrdered.{planned-order}
+use Rattle.matching.specs.Laws.FromOrder.OrderPlanned.{runsOf, order-planned}
+use Rattle.matching.specs.Laws.FromPlan.PlanOrdered.{planned-order}
 use Rattle.machine.specs.Buffers.{Written}
 
 -- what a conversion passes on: these bytes, with this end

@@ -22,7 +22,8 @@ use Rattle.plan.specs.Plans.{PlanEnds, legalRun, planEnd, checkPlan, checked, p
 use Rattle.plan.specs.Runs.{Plan}
 use Rattle.matching.specs.ConversionEntries.{plannedOrder, orderToPlanAnswer, orderedPlan, planToOrderAnswer, AnswersEnd, planLeft, orderLeft}
 use Rattle.matching.specs.Conversions.{orderToPlan, planToOrder}
-use Rattle.matching.specs.Demand3.{OrderGives, PlanGives, Demand3, demand3}
+use Rattle.matching.specs.Demand3.{OrderGives, PlanGives, Demand3}
+use Rattle.matching.specs.Laws.Demand3Laws.{demand3}
 use Rattle.notation.specs.Laws.NumberedLaws.{Numbered, by-number}
 use Rattle.matching.specs.Laws.RefusalLaws.{replay-numbered, order-numbered, plan-numbered}
 use Rattle.plan.specs.Laws.PlanRefusals.{check-numbered}
@@ -56,7 +57,7 @@ answers-ended (passed f) numbered x = λ i. passed (record { store = x .store i;
 
 module _ (f : File) {a : Accepted} (isAccepted : accept f ≡ passed a) where
   abbrev matches : Demand3 a
-  matches = demand3 f isAccepted
+  matches = demand3 f _ isAccepted
 
   -- ---- the replay and the plan check
 

@@ -30,7 +30,7 @@ use Rattle.plan.specs.Plans.{Legal}
 use Rattle.plan.specs.declared.Round.{Round}
 use Rattle.plan.specs.Runs as runs
 use Rattle.plan.specs.Runs.{Plan, Step, RunState, JobRun, JobRuns, jobTotal, firstRound, runJob, runJobs, runStart, runPlan}
-use Rattle.matching.specs.Laws.LegalLaws.{legal-run}
+use Rattle.matching.specs.Laws.FromPlan.LegalLaws.{legal-run}
 
 -- ---- how far a run reads
 

@@ -15,7 +15,8 @@ use Rattle.machine.specs.Ends.{End}
 use Rattle.plan.specs.Runs.{Plan}
 use Rattle.matching.specs.ConversionEntries.{plannedOrder, orderToPlanAnswer, orderToPlanAfter, orderedPlan, planToOrderAnswer, planToOrderAfter}
 use Rattle.matching.specs.Conversions.{orderToPlan, planToOrder}
-use Rattle.matching.specs.Demand3.{OrderGives, PlanGives, demand3}
+use Rattle.matching.specs.Demand3.{OrderGives, PlanGives}
+use Rattle.matching.specs.Laws.Demand3Laws.{demand3}
 use Rattle.matching.specs.Laws.FitsLaws.{fill-keeps}
 use Rattle.machine.specs.Buffers.{Written, runAnswer, bufferAfter, orderRoom, planRoom}
 
@@ -34,7 +35,7 @@ module _ (f : File) {a : Accepted} (isAccepted : accept f ≡ passed a) (buffer 
   plan-stands order plan e room made =
       buffer-holds planRoom (plannedOrder f order buffer) buffer
       (bind-goes _ isAccepted ∙ require-holds _ 20 0 (orderToPlan a order) (le-leb _ _ room) ∙ made)
-      (demand3 f isAccepted .plan-fits order plan e made)
+      (demand3 f _ isAccepted .plan-fits order plan e made)
 
   -- and the order of a legal plan in its own
   pub order-stands : (plan : Plan) (order : List ℕ) (e : End) → orderRoom ≤ length buffer → PlanGives a plan e order
@@ -43,4 +44,4 @@ module _ (f : File) {a : Accepted} (isAccepted : accept f ≡ passed a) (buffer 
   order-stands plan order e room made =
       buffer-holds orderRoom (orderedPlan f plan buffer) buffer
       (bind-goes _ isAccepted ∙ require-holds _ 20 0 (planToOrder a plan) (le-leb _ _ room) ∙ made)
-      (demand3 f isAccepted .order-fits plan order e made)
+      (demand3 f _ isAccepted .order-fits plan order e made)

@@ -20,12 +20,13 @@ use Rattle.timing.specs.Relations.{jobAt, jobNumbers}
 use Rattle.machine.specs.declared.Effect.{Effect}
 use Rattle.machine.specs.declared.Local.{Local}
 use Rattle.machine.specs.Instructions.{fresh, values}
-use Rattle.matching.specs.Laws.LegalLaws.{legal-run}
-use Rattle.matching.specs.Laws.OfferedLaws.{job-offered}
+use Rattle.matching.specs.Laws.FromPlan.LegalLaws.{legal-run}
+use Rattle.matching.specs.Laws.FromPlan.OfferedLaws.{job-offered}
 use Rattle.plan.specs.declared.Round.{Round}
 use Rattle.plan.specs.Plans.{Legal}
 use Rattle.plan.specs.Runs as runs
-use Rattle.plan.specs.Runs.{Plan, Step, RunState, JobRun, JobRuns, jobTotal, firstRound, roundAt, notLater, stepBytesFor, stepBytes, runJob, runJobs, runStart, runPlan}
+use Rattle.plan.specs.Runs.{Plan, Step, RunState, JobRun, JobRuns, jobTotal, firstRound, roundAt, notLater}
+use Rattle.plan.specs.Runs.{stepBytesFor, stepBytes, runJob, runJobs, runStart, runPlan}
 
 -- a step's value is below 16
 abbrev pub Small : Step → Type 0

@@ -24,17 +24,17 @@ use Rattle.plan.specs.Runs.{jobTotal}
 use Rattle.order_states.specs.Code.Shows.{Lends, Shows}
 use Rattle.order_states.specs.Code.StateBytes.{snapshotIn}
 use Rattle.matching.specs.Conversions.{planOf}
-use Rattle.matching.specs.Laws.EndedLaws.{ended-all}
+use Rattle.matching.specs.Laws.FromOrder.EndedLaws.{ended-all}
 use Rattle.matching.specs.Laws.FitsLaws.{plan-fits}
-use Rattle.matching.specs.Laws.Histories.{Marks, job}
-use Rattle.matching.specs.Laws.JobReadingLaws.{whole-short}
-use Rattle.matching.specs.Laws.OrderKept.{OrderKept, kept-initial}
-use Rattle.matching.specs.Laws.OrderPlanned.{order-planned}
-use Rattle.matching.specs.Laws.OrderRuns.{kept-complete}
-use Rattle.matching.specs.Laws.Parts.{Part, beginning}
-use Rattle.matching.specs.Laws.PlanReading.{Whole, marksBytes, written, markOf}
-use Rattle.matching.specs.Laws.TraceStepLaws.{first-guess, guesses-whole, marks-whole}
-use Rattle.matching.specs.Laws.TraceSteps.{Trace, startTrace, traceOf}
+use Rattle.matching.specs.Laws.History.Histories.{Marks, job}
+use Rattle.matching.specs.Laws.History.JobReadingLaws.{whole-short}
+use Rattle.matching.specs.Laws.FromOrder.OrderKept.{OrderKept, kept-initial}
+use Rattle.matching.specs.Laws.FromOrder.OrderPlanned.{order-planned}
+use Rattle.matching.specs.Laws.FromOrder.OrderRuns.{kept-complete}
+use Rattle.matching.specs.Laws.History.Parts.{Part, beginning}
+use Rattle.matching.specs.Laws.History.PlanReading.{Whole, marksBytes, written, markOf}
+use Rattle.matching.specs.Laws.FromOrder.TraceStepLaws.{first-guess, guesses-whole, marks-whole}
+use Rattle.matching.specs.Laws.FromOrder.TraceSteps.{Trace, startTrace, traceOf}
 use Rattle.plan_marks.specs.Code.Marks.{storeAt, storesIn, withStore, stepsMarked}
 use Rattle.plan_marks.specs.Laws.MarkLaws.{no-marks, no-marks-of}
 use Rattle.plan_marks.specs.Laws.StoreLaws.{put-length, put-here, stores-joined}

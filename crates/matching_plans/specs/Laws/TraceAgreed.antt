@@ -34,15 +34,15 @@ use Rattle.order_states.specs.Code.Snapshots.{Snapshot}
 use Rattle.order_states.specs.Code.SnapshotSteps.{instructionIn, turnIn, afterIn, madeIn}
 use Rattle.order_states.specs.Laws.SnapshotLaws.{instruction-lent, after-shown}
 use Rattle.order_states.specs.Laws.TurnAgreed.{Shown, turn-turned}
-use Rattle.matching.specs.Laws.Histories.{marked}
-use Rattle.matching.specs.Laws.MovedLaws.{round-open}
-use Rattle.matching.specs.Laws.OrderKept.{OrderKept}
-use Rattle.matching.specs.Laws.OrderSteps.{ended-is, kept-turn}
-use Rattle.matching.specs.Laws.TraceMore.{some-same, trace-run-first, roundAfter, trace-first}
-use Rattle.matching.specs.Laws.TraceStepLaws.{trace-follows}
-use Rattle.matching.specs.Laws.TraceSteps.{Trace, traced, traceFrom}
-use Rattle.matching.specs.Laws.TurnTraceLaws.{turn-kind}
-use Rattle.matching.specs.PlannedSteps.{endedCount}
+use Rattle.matching.specs.Laws.History.Histories.{marked}
+use Rattle.matching.specs.Laws.FromOrder.MovedLaws.{round-open}
+use Rattle.matching.specs.Laws.FromOrder.OrderKept.{OrderKept}
+use Rattle.matching.specs.Laws.FromOrder.KeptSteps.{ended-is, kept-turn}
+use Rattle.matching.specs.Laws.FromOrder.TraceMore.{some-same, trace-run-first, roundAfter, trace-first}
+use Rattle.matching.specs.Laws.FromOrder.TraceStepLaws.{trace-follows}
+use Rattle.matching.specs.Laws.FromOrder.TraceSteps.{Trace, traced, traceFrom}
+use Rattle.matching.specs.Laws.FromOrder.TurnTraceLaws.{turn-kind}
+use Rattle.order.specs.OrderSteps.{endedCount}
 use Rattle.matching_plans.specs.Code.Tracing.{TraceState, notedIn, dueNoted, stepNoted, orderNoted}
 use Rattle.matching_plans.specs.Laws.TraceHeld.{HeldTrace, afterStep, step-held}
 

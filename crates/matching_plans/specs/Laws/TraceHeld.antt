@@ -21,9 +21,9 @@ use Rattle.order.specs.States.{State}
 use Rattle.plan.specs.Runs.{jobTotal}
 use Rattle.order_states.specs.Code.Shows.{Shows}
 use Rattle.order_states.specs.Code.Snapshots.{Snapshot}
-use Rattle.matching.specs.Laws.Histories.{Mark, marked}
-use Rattle.matching.specs.Laws.PlanReading.{markOf}
-use Rattle.matching.specs.Laws.TraceSteps.{Trace, traced}
+use Rattle.matching.specs.Laws.History.Histories.{Mark, marked}
+use Rattle.matching.specs.Laws.History.PlanReading.{markOf}
+use Rattle.matching.specs.Laws.FromOrder.TraceSteps.{Trace, traced}
 use Rattle.plan_marks.specs.Code.Marks.{storeAt, withStore, stepCount, stepsMarked, IsMarks}
 use Rattle.plan_marks.specs.Laws.MarkLaws.{mark-added, mark-others}
 use Rattle.plan_marks.specs.Laws.StoreLaws.{put-here, put-other}

@@ -1,15 +1,17 @@
--- Computed examples of orders: complete orders with their ends, and each of 30 to 34 with its place.
+-- Computed examples of orders: complete orders with their ends, each of 30 to 34 with its place, and an order's steps.
 -- Assumes nothing.
 use mathlib.Core.Path.{_≡_, refl}
 use Prim.Native.Nat.{ℕ}
-use mathlib.Core.List.{List, [], _∷_, _++_}
+use mathlib.Core.List.{List, [], _∷_, _++_, map}
 use lib.ListN.{take, replicate}
 use Rattle.notation.specs.Checked.{Checked, refused, passed}
+use Rattle.notation.specs.Lists.{only}
 use Rattle.machine.specs.Ends.{Flags, End, noFlags, noStore}
 use Rattle.machine.specs.Instructions.{Store}
 use Rattle.examples.specs.Laws.Opened.{opened}
 use Rattle.examples.specs.Laws.Samples.{nest, pair, idle, twice, sensor, samplesOpened, twoSet, firstFailed}
 use Rattle.order.specs.Laws.Opened.{ordersOpened}
+use Rattle.order.specs.OrderSteps.{orderSteps, stepsMade, isEnd, endedCount}
 use Rattle.order.specs.Replay.{replay}
 
 -- ---- what the examples say, in short words
@@ -71,6 +73,13 @@ pub record OrderExamples : Type 0 where
   pub releasedTwice : replay twice (startsAfter 5 2) ≡ endsWith noStore noFlags
   pub heldAnew : replay twice (startsAfter 6 1) ≡ refused 30 6
   pub clearedByEnd : replay twice (startsAfter 7 0) ≡ endsWith noStore noFlags
+  -- the jobs and values of an order's steps, and how many jobs have ended before each; the Ends among them
+  pub stepJobs : map (λ step. step .job .0) (orderSteps nest nested) ≡ 0 ∷ 0 ∷ 1 ∷ 2 ∷ 2 ∷ 2 ∷ 1 ∷ 1 ∷ 0 ∷ 0 ∷ 0 ∷ []
+  pub stepValues : map (λ step. step .value) (orderSteps nest nested) ≡ 0 ∷ 0 ∷ 0 ∷ 2 ∷ replicate 7 0
+  pub endedBefore : map (λ step. endedCount nest (step .before)) (orderSteps nest nested)
+      ≡ 0 ∷ 0 ∷ 0 ∷ 0 ∷ 0 ∷ 0 ∷ 1 ∷ 1 ∷ 2 ∷ 2 ∷ 2 ∷ []
+  pub stepEnds : map (λ step. step .job .0) (only isEnd (orderSteps nest nested)) ≡ 2 ∷ 1 ∷ 0 ∷ []
+  pub stepCount : stepsMade nest nested (record { 0 = 0 }) ≡ 5
 
 pub order-examples : OrderExamples
 unfolding opened samplesOpened ordersOpened
@@ -103,4 +112,9 @@ order-examples =
       releasedTwice = refl;
       heldAnew = refl;
       clearedByEnd = refl;
+      stepJobs = refl;
+      stepValues = refl;
+      endedBefore = refl;
+      stepEnds = refl;
+      stepCount = refl;
     }

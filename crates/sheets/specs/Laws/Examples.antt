@@ -72,6 +72,6 @@ pub record SheetExamples : Type 0 where
   pub number : decimal 1_000_000 ≡ million
 
 pub sheet-examples : SheetExamples
-unfolding opened samplesOpened ordersOpened walksOpened plansOpened sheetsOpened conversions.noting
-    conversions.roundsFrom conversions.jobBytes conversions.planOf
+unfolding opened samplesOpened ordersOpened walksOpened plansOpened sheetsOpened
+    conversions.jobBytes conversions.endStores conversions.planOf
 sheet-examples = record { failing = refl; holding = refl; undecided = refl; overload = refl; number = refl }

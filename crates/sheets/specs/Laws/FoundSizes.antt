@@ -32,8 +32,8 @@ use Rattle.plan.specs.Legality.{stepsOf, roundsOf}
 use Rattle.plan.specs.Plans.{Legal}
 use Rattle.plan.specs.Runs as runs
 use Rattle.plan.specs.Runs.{Plan, Step, RunState, JobRun, JobRuns, jobTotal, firstRound, runJob, runJobs, runStart, runPlan}
-use Rattle.matching.specs.Laws.LegalLaws.{legal-run}
-use Rattle.matching.specs.Laws.RunLaws.{Climbs, job-climbs}
+use Rattle.matching.specs.Laws.FromPlan.LegalLaws.{legal-run}
+use Rattle.matching.specs.Laws.FromPlan.RunLaws.{Climbs, job-climbs}
 
 -- ---- the bytes of an order
 

@@ -28,7 +28,8 @@ use Rattle.plan.specs.Runs.{Step, JobRuns, jobTotal}
 use Rattle.plan.specs.declared.Round.{Round}
 use Rattle.matching.specs.ConversionEntries.{plannedOrder, orderToPlanAnswer, orderToPlanAfter}
 use Rattle.matching.specs.Conversions.{planOf, orderToPlan}
-use Rattle.matching.specs.Demand3.{Demand3, demand3}
+use Rattle.matching.specs.Demand3.{Demand3}
+use Rattle.matching.specs.Laws.Demand3Laws.{demand3}
 use Rattle.matching.specs.Laws.WrittenLaws.{plan-stands}
 use Rattle.plan_marks.specs.Code.Marks.{stepsMarked, roundsIn, stepsIn}
 use Rattle.plan_marks.specs.Code.TableParts.{PlanCheckedAs, PlanCheckedOf}
@@ -71,7 +72,7 @@ module _ {f : File} {t : Table} {list : JobList} {order : List ℕ} (p : OrderPa
   a = p .parts .found
 
   abbrev demand : Demand3 a
-  demand = demand3 f (p .parts .accepted)
+  demand = demand3 f a (p .parts .accepted)
 
   comes : plannedOrder f order buffer ≡ passed (record { ending = p .end; bytes = planOf a order })
   unfolding plannedOrder

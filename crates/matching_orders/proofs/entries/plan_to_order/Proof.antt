@@ -35,7 +35,9 @@ returns-2 : tie.Need-returns-2
 returns-2 c =
     let file = c .before .before .before .before in
     let few = c .before .if1 .taken in
-    let is = entry-no-room _ _ (file .before .before .before .before .args .out .now) _ (file .accept-file .ensures) (c .before .before .enum-told .given .1) (omega (arith, few)) in
+    let out = file .before .before .before .before .args .out .now in
+    let passes = c .before .before .enum-told .given .1 in
+    let is = entry-no-room _ _ out _ (file .accept-file .ensures) passes (omega (arith, few)) in
     (c .refused-run2 .ensures ∙ is .0, is .1)
 
 check-table-requires : tie.Need-check-table-requires

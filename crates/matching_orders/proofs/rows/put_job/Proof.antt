@@ -30,7 +30,9 @@ count-at-requires c κs = omega arith
 
 loop-holds : tie.Need-loop-holds Inv-loop μ-loop
 unfolding ownerIn
-loop-holds c = row-none _ _ _ _ _ _ refl (c .count-at .ensures) (c .before .before .before .before .pre .0 .few _ (c .before .before .before .before .pre .1))
+loop-holds c =
+    let start = c .before .before .before .before .pre in
+    row-none _ _ _ _ _ _ refl (c .count-at .ensures) (start .0 .few _ (start .1))
 
 round-at-requires : tie.Need-round-at-requires Inv-loop μ-loop
 round-at-requires c κs = (c .before .before .before .before .before .before .pre .1, omega arith)

@@ -25,7 +25,9 @@ element-copy-out-write-byte : tie.Need-element-copy-out-write-byte Inv-loop μ-l
 element-copy-out-write-byte c = omega arith
 
 write-byte-requires : tie.Need-write-byte-requires Inv-loop μ-loop
-write-byte-requires c κs = omega (arith, appends-length (c .before .before .before .loop .inv .1) (c .before .before .before .before .before .pre .2))
+write-byte-requires c κs =
+    let at = c .before .before .before in
+    omega (arith, appends-length (at .loop .inv .1) (at .before .before .pre .2))
 
 add-v : tie.Need-add-v Inv-loop μ-loop
 add-v c = omega arith

@@ -27,7 +27,9 @@ round-at-requires c κs =
     (start .1, omega (arith, c .before .before .before .count-at .ensures, start .0 .few _ (start .1)))
 
 write-byte-requires : tie.Need-write-byte-requires Inv-loop μ-loop
-write-byte-requires c κs = omega (arith, appends-length (c .before .before .before .loop .inv .1) (c .before .before .before .before .before .before .pre .2))
+write-byte-requires c κs =
+    let at = c .before .before .before in
+    omega (arith, appends-length (at .loop .inv .1) (at .before .before .before .pre .2))
 
 value-at-requires : tie.Need-value-at-requires Inv-loop μ-loop
 value-at-requires c κs =
@@ -54,8 +56,9 @@ loop-again c =
     let written = c .before .before .before .before .before .before .before in
     let at = written .before .before .before .before in (
       omega arith,
-      steps-more _ _ _ _ (at .before .before .before .pre .2) _ (written .before .round-at .ensures) (c .before .before .before .value-at .ensures) (at .loop .inv .1)
-          (written .write-byte .ensures) (c .before .before .write-byte2 .ensures),
+      steps-more _ _ _ _ (at .before .before .before .pre .2) _ (written .before .round-at .ensures)
+          (c .before .before .before .value-at .ensures) (at .loop .inv .1) (written .write-byte .ensures)
+          (c .before .before .write-byte2 .ensures),
     )
 
 same-length : tie.Need-same-length Inv-loop μ-loop

@@ -24,7 +24,8 @@ refused-run-requires c κs = search needs
 
 returns : tie.Need-returns
 returns c =
-    let answer = planning-refused _ _ _ _ (c .before .before .before .before .accept-file .ensures) (c .before .before .check .given .1) in
+    let checked = c .before .before in
+    let answer = planning-refused _ _ _ _ (checked .before .before .accept-file .ensures) (checked .check .given .1) in
     (c .refused-run .ensures ∙ answer .0, answer .1)
 
 enum-told : tie.Need-enum-told
@@ -35,7 +36,9 @@ refused-run-requires-2 c κs = search needs
 
 returns-2 : tie.Need-returns-2
 returns-2 c =
-    let answer = planning-no-room _ _ _ _ (c .before .before .before .before .accept-file .ensures) (c .before .before .enum-told .given .1) (c .before .if1 .taken) in
+    let told = c .before .before in
+    let says = told .before .before .accept-file .ensures in
+    let answer = planning-no-room _ _ _ _ says (told .enum-told .given .1) (c .before .if1 .taken) in
     (c .refused-run2 .ensures ∙ answer .0, answer .1)
 
 replay-table-requires : tie.Need-replay-table-requires
@@ -44,7 +47,9 @@ replay-table-requires c κs = parts-lent _ _ (c .before .before .before .accept-
 cast-refused-run-2 : tie.Need-cast-refused-run-2
 cast-refused-run-2 c =
     let run = c .before .before .before in
-    omega (arith, answers-place _ _ (run .before .before .before .before .accept-file .ensures) (run .before .before .enum-told .given .1) _ _ (run .replay-table .ensures) (c .before .if2 .taken))
+    let told = run .before .before in
+    let says = told .before .before .accept-file .ensures in
+    omega (arith, answers-place _ _ says (told .enum-told .given .1) _ _ (run .replay-table .ensures) (c .before .if2 .taken))
 
 refused-run-requires-3 : tie.Need-refused-run-requires-3
 refused-run-requires-3 c κs = search needs
@@ -52,14 +57,18 @@ refused-run-requires-3 c κs = search needs
 returns-3 : tie.Need-returns-3
 returns-3 c =
     let run = c .before .before .before .before in
-    let answer = planning-fault _ _ _ _ (run .before .before .before .before .accept-file .ensures) (run .before .before .enum-told .given .1)
-    (run .before .if1 .left) _ (run .replay-table .ensures) (c .before .before .if2 .taken) in
+    let told = run .before .before in
+    let says = told .before .before .accept-file .ensures in
+    let answer = planning-fault _ _ _ _ says (told .enum-told .given .1) (run .before .if1 .left) _ (run .replay-table .ensures)
+    (c .before .before .if2 .taken) in
     (c .refused-run3 .ensures ∙ answer .0, answer .1)
 
 write-plan-requires : tie.Need-write-plan-requires
 write-plan-requires c κs =
-    let parts = parts-lent _ _ (c .before .before .before .before .before .before .before .accept-file .ensures) (c .before .before .before .before .before .enum-told .given .1) in
-    (parts .0, parts .1, c .before .before .before .before .if1 .left)
+    let roomy = c .before .before .before .before in
+    let told = roomy .before in
+    let parts = parts-lent _ _ (told .before .before .accept-file .ensures) (told .enum-told .given .1) in
+    (parts .0, parts .1, roomy .if1 .left)
 
 cast-written-run : tie.Need-cast-written-run
 cast-written-run c = omega (arith, c .before .before .before .before .write-plan .ensures .fits)
@@ -72,9 +81,13 @@ same-length c = search needs
 
 returns-4 : tie.Need-returns-4
 returns-4 c =
-    let run = c .before .before .before .before .before .before .before .before .before in
-    planning-written _ _ _ _ (run .before .before .before .before .accept-file .ensures) (run .before .before .enum-told .given .1)
-    (run .before .if1 .left) _ (run .replay-table .ensures) (c .before .before .before .before .before .write-plan .ensures) (c .written-run .ensures) (c .before .before .before .before .before .before .before .if2 .left)
+    let written = c .before .before .before .before .before in
+    let sound = written .before .before in
+    let run = sound .before .before in
+    let told = run .before .before in
+    let says = told .before .before .accept-file .ensures in
+    planning-written _ _ _ _ says (told .enum-told .given .1) (run .before .if1 .left) _ (run .replay-table .ensures)
+    (written .write-plan .ensures) (c .written-run .ensures) (sound .if2 .left)
 
 pub order-to-plan-spec : {M : Type 1} → statement M
 order-to-plan-spec =

@@ -6,7 +6,8 @@ use borrow.Author.Needs.{needs}
 use borrow.Author.Tests.{not-false}
 use Rattle.order_states.specs.Laws.SnapshotWithinLaws.{due-within}
 use Rattle.order_steps.specs.Laws.StepCases.{task-small}
-use Rattle.matching_plans.specs.Laws.NotingLaws.{noting-idle, noting-beyond, noting-ends, noting-goes, noted-whole, guess-room, eight-bytes}
+use Rattle.matching_plans.specs.Laws.NotingLaws.{noting-idle, noting-beyond, noting-ends, noting-goes}
+use Rattle.matching_plans.specs.Laws.NotingLaws.{noted-whole, guess-room, eight-bytes}
 use Rattle.matching_plans.proofs.tracing.trace_step.Statement.{statement}
 use Rattle.matching_plans.proofs.tracing.trace_step.Tie as tie
 
@@ -22,9 +23,11 @@ returns c =
 
 returns-2 : tie.Need-returns-2
 returns-2 c =
+    let free = c .before .before .before in
+    let turned = free .before .before in
     record {
-      whole = c .before .before .before .before .before .before .before .pre .1;
-      is = noting-beyond _ _ _ _ _ _ _ _ (c .before .before .before .before .before .turn-of .ensures .0) (c .before .before .before .if1 .left) (c .if2 .taken);
+      whole = turned .before .before .pre .1;
+      is = noting-beyond _ _ _ _ _ _ _ _ (turned .turn-of .ensures .0) (free .if1 .left) (c .if2 .taken);
     }
 
 step-with-requires : tie.Need-step-with-requires
@@ -47,7 +50,12 @@ element-copy-out-if3 : tie.Need-element-copy-out-if3
 element-copy-out-if3 c = search needs
 
 next-round-requires : tie.Need-next-round-requires
-next-round-requires c κs = c .before .before .before .before .before .before .before .before .before .before .before .before .before .before .before .before .before .pre .1 .room
+next-round-requires c κs =
+    let noted = c .before .before .before .before .before in
+    let made = noted .before .before in
+    let free = made .before .before .before .before .before .before in
+    let turned = free .before .before in
+    turned .before .before .pre .1 .room
 
 returns-3 : tie.Need-returns-3
 returns-3 c =

@@ -1,0 +1,16 @@
+pub mod EndedLaws
+pub mod KeptSteps
+pub mod MovedLaws
+pub mod OrderKept
+pub mod OrderPlanned
+pub mod OrderRuns
+pub mod OrderStepLaws
+pub mod PlannedStepLaws
+pub mod TraceCases
+pub mod TraceEnds
+pub mod TraceLaws
+pub mod TraceMore
+pub mod TraceStepLaws
+pub mod TraceSteps
+pub mod Traces
+pub mod TurnTraceLaws

@@ -1,0 +1,16 @@
+pub mod CutColumns
+pub mod CutLaws
+pub mod CutRounds
+pub mod CutRuns
+pub mod Cuts
+pub mod LegalLaws
+pub mod OfferedLaws
+pub mod PlanColumns
+pub mod PlanEnds
+pub mod PlanKept
+pub mod PlanOrdered
+pub mod PlanRounds
+pub mod PlanSteps
+pub mod PlanTurn
+pub mod RunLaws
+pub mod SequenceLaws

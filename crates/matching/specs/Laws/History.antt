@@ -1,0 +1,11 @@
+pub mod ColumnLaws
+pub mod Histories
+pub mod JobHistoryLaws
+pub mod JobReadingLaws
+pub mod PartLaws
+pub mod Parts
+pub mod PlanHistoryLaws
+pub mod PlanReading
+pub mod PlanReadingLaws
+pub mod RoundLaws
+pub mod RowLaws
