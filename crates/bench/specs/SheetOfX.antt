@@ -2,35 +2,37 @@
 -- Assumes nothing.
 use mathlib.Core.Path.{_≡_, refl}
 use mathlib.Core.List.{[], _∷_}
+use Rattle.notation.specs.Letters.{space, newline, d0, d1, d2, d3, d6, a, b, c, d, e, f, i, j, k}
+use Rattle.notation.specs.Letters.{l, n, o, p, r, s, t, u, v}
+use Rattle.notation.specs.Texts.{Text}
 use Rattle.timing.specs.Response.{responseOf}
 use Rattle.sheets.specs.Laws.Opened.{sheetsOpened}
 use Rattle.sheets.specs.Sheets.{sheetOf}
-use Rattle.sheets.specs.Texts.{Text}
 use Rattle.bench.specs.Files.{tableX}
 use Rattle.bench.specs.Laws.Opened.{allOpened}
 
 abbrev pub sheetX : Text
 sheetX =
     -- "tasks 2 jobs 2"
-    116 ∷ 97 ∷ 115 ∷ 107 ∷ 115 ∷ 32 ∷ 50 ∷ 32 ∷ 106 ∷ 111 ∷ 98 ∷ 115 ∷ 32 ∷ 50 ∷ 10
+    t ∷ a ∷ s ∷ k ∷ s ∷ space ∷ d2 ∷ space ∷ j ∷ o ∷ b ∷ s ∷ space ∷ d2 ∷ newline
     -- "task 0 response 3 jobs 1"
-    ∷ 116 ∷ 97 ∷ 115 ∷ 107 ∷ 32 ∷ 48 ∷ 32 ∷ 114 ∷ 101 ∷ 115 ∷ 112 ∷ 111 ∷ 110 ∷ 115 ∷ 101 ∷ 32 ∷ 51 ∷ 32 ∷ 106 ∷ 111
-    ∷ 98 ∷ 115 ∷ 32 ∷ 49 ∷ 10
+    ∷ t ∷ a ∷ s ∷ k ∷ space ∷ d0 ∷ space ∷ r ∷ e ∷ s ∷ p ∷ o ∷ n ∷ s ∷ e ∷ space ∷ d3 ∷ space ∷ j ∷ o
+    ∷ b ∷ s ∷ space ∷ d1 ∷ newline
     -- "task 1 response 1 jobs 1"
-    ∷ 116 ∷ 97 ∷ 115 ∷ 107 ∷ 32 ∷ 49 ∷ 32 ∷ 114 ∷ 101 ∷ 115 ∷ 112 ∷ 111 ∷ 110 ∷ 115 ∷ 101 ∷ 32 ∷ 49 ∷ 32 ∷ 106 ∷ 111
-    ∷ 98 ∷ 115 ∷ 32 ∷ 49 ∷ 10
+    ∷ t ∷ a ∷ s ∷ k ∷ space ∷ d1 ∷ space ∷ r ∷ e ∷ s ∷ p ∷ o ∷ n ∷ s ∷ e ∷ space ∷ d1 ∷ space ∷ j ∷ o
+    ∷ b ∷ s ∷ space ∷ d1 ∷ newline
     -- "verdict fails 23"
-    ∷ 118 ∷ 101 ∷ 114 ∷ 100 ∷ 105 ∷ 99 ∷ 116 ∷ 32 ∷ 102 ∷ 97 ∷ 105 ∷ 108 ∷ 115 ∷ 32 ∷ 50 ∷ 51 ∷ 10
+    ∷ v ∷ e ∷ r ∷ d ∷ i ∷ c ∷ t ∷ space ∷ f ∷ a ∷ i ∷ l ∷ s ∷ space ∷ d2 ∷ d3 ∷ newline
     -- "order 0 16 16 16 0 0 0 0"
-    ∷ 111 ∷ 114 ∷ 100 ∷ 101 ∷ 114 ∷ 32 ∷ 48 ∷ 32 ∷ 49 ∷ 54 ∷ 32 ∷ 49 ∷ 54 ∷ 32 ∷ 49 ∷ 54 ∷ 32 ∷ 48 ∷ 32 ∷ 48 ∷ 32
-    ∷ 48 ∷ 32 ∷ 48 ∷ 10
+    ∷ o ∷ r ∷ d ∷ e ∷ r ∷ space ∷ d0 ∷ space ∷ d1 ∷ d6 ∷ space ∷ d1 ∷ d6 ∷ space ∷ d1 ∷ d6 ∷ space ∷ d0
+    ∷ space ∷ d0 ∷ space ∷ d0 ∷ space ∷ d0 ∷ newline
     -- "failed 0"
-    ∷ 102 ∷ 97 ∷ 105 ∷ 108 ∷ 101 ∷ 100 ∷ 32 ∷ 48 ∷ 10
+    ∷ f ∷ a ∷ i ∷ l ∷ e ∷ d ∷ space ∷ d0 ∷ newline
     -- "job 0 rounds 0 1 1 1 1"
-    ∷ 106 ∷ 111 ∷ 98 ∷ 32 ∷ 48 ∷ 32 ∷ 114 ∷ 111 ∷ 117 ∷ 110 ∷ 100 ∷ 115 ∷ 32 ∷ 48 ∷ 32 ∷ 49 ∷ 32 ∷ 49 ∷ 32 ∷ 49 ∷ 32
-    ∷ 49 ∷ 10
+    ∷ j ∷ o ∷ b ∷ space ∷ d0 ∷ space ∷ r ∷ o ∷ u ∷ n ∷ d ∷ s ∷ space ∷ d0 ∷ space ∷ d1 ∷ space ∷ d1 ∷ space
+    ∷ d1 ∷ space ∷ d1 ∷ newline
     -- "job 1 rounds 0 0 0"
-    ∷ 106 ∷ 111 ∷ 98 ∷ 32 ∷ 49 ∷ 32 ∷ 114 ∷ 111 ∷ 117 ∷ 110 ∷ 100 ∷ 115 ∷ 32 ∷ 48 ∷ 32 ∷ 48 ∷ 32 ∷ 48 ∷ 10 ∷ []
+    ∷ j ∷ o ∷ b ∷ space ∷ d1 ∷ space ∷ r ∷ o ∷ u ∷ n ∷ d ∷ s ∷ space ∷ d0 ∷ space ∷ d0 ∷ space ∷ d0 ∷ newline ∷ []
 
 pub sheet-of-x : sheetOf tableX ≡ sheetX
 unfolding allOpened responseOf sheetsOpened

@@ -1,6 +1,7 @@
 pub mod CheckedLaws
 pub mod ClearLaws
 pub mod CountLaws
+pub mod DecimalLaws
 pub mod ElementLaws
 pub mod LargestLaws
 pub mod ListLaws
@@ -15,3 +16,4 @@ pub mod SomeLaws
 pub mod SumLaws
 pub mod TabulateLaws
 pub mod TestLaws
+pub mod TextSizes

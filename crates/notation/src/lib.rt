@@ -1,2 +1,2 @@
-// The words that the definitions of every section use: lists and checks, with their laws. It names nothing of
+// The words that the definitions of every section use: lists, checks and texts, with their laws. It names nothing of
 // document 01.

@@ -1,3 +1,3 @@
 pub mod Laws
 pub mod Sheets
-pub mod Texts
+pub mod SheetWords

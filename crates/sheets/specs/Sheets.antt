@@ -12,6 +12,7 @@ use lib.ListN.{length, getD, drop}
 use lib.Dec.{leb}
 use Rattle.notation.specs.Checked.{Checked, refused, passed, require, _>>_}
 use Rattle.notation.specs.Lists.{only, each}
+use Rattle.notation.specs.Texts.{Text, decimal, line}
 use Rattle.taskfile.specs.declared.Task.{Task}
 use Rattle.taskfile.specs.Judgement.{taskNumbers}
 use Rattle.taskfile.specs.Records.{File}
@@ -27,8 +28,8 @@ use Rattle.matching.specs.Conversions.{planOf}
 use Rattle.walk.specs.WalkEntry.{decided}
 use Rattle.walk.specs.Walks.{EndedOrder, Walked, walk}
 use Rattle.sheets.specs.declared.SheetAnswer.{SheetAnswer}
-use Rattle.sheets.specs.Texts.{Text, decimal, line, tasksWord, taskWord, jobsWord, jobWord, responseWord, verdictWord}
-use Rattle.sheets.specs.Texts.{holdsWord, failsWord, orderWord, failedWord, roundsWord, refusedWord}
+use Rattle.sheets.specs.SheetWords.{tasksWord, taskWord, jobsWord, jobWord, responseWord, verdictWord}
+use Rattle.sheets.specs.SheetWords.{holdsWord, failsWord, orderWord, failedWord, roundsWord, refusedWord}
 
 -- "uses allowance 1,000,000"
 abbrev pub sheetAllowance : ℕ

@@ -12,18 +12,18 @@ use timing::Job;
 ghost use Prim.Native.Nat.{_≤_, _<_};
 ghost use mathlib.Core.Bool.{false};
 ghost use mathlib.Core.List.{map};
-ghost use lib.ListN.{length, getD};
+ghost use lib.ListN.{getD};
 ghost use Rattle.notation.specs.Lists.{upTo, only, each};
-ghost use Rattle.notation_buffers.specs.Code.Writing.{Appends};
+ghost use Rattle.notation.specs.Texts.{decimal, line};
 ghost use Rattle.plan_marks.specs.Code.Marks.{IsMarks};
-ghost use Rattle.sheets.specs.Texts.{decimal, line, failedWord};
+ghost use Rattle.sheets.specs.SheetWords.{failedWord};
 ghost use Rattle.sheets.specs.Sheets.{orderLine};
+ghost use Rattle.sheets_printing.specs.Code.Puts.{PutsText};
 ghost use Rattle.sheets_lines.specs.Code.LineParts.{failedPart, jobLine};
 
 // Writes a space and a job's number, if the job has failed.
 pub fn then_failed(flag: bool, x: u8, at: usize, out: &mut [u8]) -> usize
-    requires { ⌜ 4608 ≤ length (now out) ⌝ }
-    ensures { λ n. ⌜ Appends 4608 (now (out .entry)) at (failedPart flag x) (now (out .exit)) n ⌝ }
+    ensures { λ n. ⌜ PutsText (now (out .entry)) at (failedPart flag x) (now (out .exit)) n ⌝ }
 {
     if flag {
         return then_byte(x, at, out);
@@ -33,8 +33,7 @@ pub fn then_failed(flag: bool, x: u8, at: usize, out: &mut [u8]) -> usize
 
 // Writes the order's line: `order 0 16 16 ..`.
 pub fn put_order(order: &[u8], at: usize, out: &mut [u8]) -> usize
-    requires { ⌜ 4608 ≤ length (now out) ⌝ }
-    ensures { λ n. ⌜ Appends 4608 (now (out .entry)) at (orderLine (now (order .entry))) (now (out .exit)) n ⌝ }
+    ensures { λ n. ⌜ PutsText (now (out .entry)) at (orderLine (now (order .entry))) (now (out .exit)) n ⌝ }
 {
     let word = put_word(b"order", at, out);
     let next = then_bytes(order, word, out);
@@ -43,8 +42,8 @@ pub fn put_order(order: &[u8], at: usize, out: &mut [u8]) -> usize
 
 // Writes the line of failed jobs, of k jobs: `failed 0`.
 pub fn put_failed(failed: [bool; JOBS], k: u8, at: usize, out: &mut [u8]) -> usize
-    requires { ⌜ (k ≤ 32) × (4608 ≤ length (now out)) ⌝ }
-    ensures { λ n. ⌜ Appends 4608 (now (out .entry)) at
+    requires { ⌜ k ≤ 32 ⌝ }
+    ensures { λ n. ⌜ PutsText (now (out .entry)) at
         (line failedWord (map decimal (only (λ x. getD failed x false) (upTo k)))) (now (out .exit)) n ⌝ }
 {
     let mut next = put_word(b"failed", at, out);
@@ -58,8 +57,8 @@ pub fn put_failed(failed: [bool; JOBS], k: u8, at: usize, out: &mut [u8]) -> usi
 
 // Writes a job's line of rounds: `job 0 rounds 0 1 1 1 1`.
 pub fn put_job_rounds(marks: &[u8; MARKS], x: Job, at: usize, out: &mut [u8]) -> usize
-    requires { ⌜ IsMarks (now marks) × (x .0 < 32) × (4608 ≤ length (now out)) ⌝ }
-    ensures { λ n. ⌜ Appends 4608 (now (out .entry)) at (jobLine (now (marks .entry)) (x .0)) (now (out .exit)) n ⌝ }
+    requires { ⌜ IsMarks (now marks) × (x .0 < 32) ⌝ }
+    ensures { λ n. ⌜ PutsText (now (out .entry)) at (jobLine (now (marks .entry)) (x .0)) (now (out .exit)) n ⌝ }
 {
     let word = put_word(b"job", at, out);
     let first = then_byte(x.0, word, out);
@@ -75,8 +74,8 @@ pub fn put_job_rounds(marks: &[u8; MARKS], x: Job, at: usize, out: &mut [u8]) ->
 
 // Writes the lines of rounds of k jobs.
 pub fn put_jobs_rounds(marks: &[u8; MARKS], k: u8, at: usize, out: &mut [u8]) -> usize
-    requires { ⌜ IsMarks (now marks) × (k ≤ 32) × (4608 ≤ length (now out)) ⌝ }
-    ensures { λ n. ⌜ Appends 4608 (now (out .entry)) at
+    requires { ⌜ IsMarks (now marks) × (k ≤ 32) ⌝ }
+    ensures { λ n. ⌜ PutsText (now (out .entry)) at
         (each (upTo k) (jobLine (now (marks .entry)))) (now (out .exit)) n ⌝ }
 {
     let mut next = at;

@@ -2,7 +2,7 @@
 use crate::failing_lines::put_failed;
 use crate::failing_lines::put_jobs_rounds;
 use crate::failing_lines::put_order;
-use matching_plans::entries::order_to_plan;
+use matching_plans::entries::write_plan;
 use order_states::ORDER_ROOM;
 use plan_check::entries::check_table;
 use plan_marks::MARKS;
@@ -23,23 +23,22 @@ use timing_acceptance::entries::accept_file;
 use timing_jobs::jobs_within;
 use walk::Verdict;
 use walk::WalkAnswer;
-use walk_trials::entries::walk_file;
+use walk_trials::entries::walk_table;
+use walk_trials::outcome_answer;
 ghost use mathlib.Core.Path.{_≡_};
 ghost use Prim.Native.Nat.{_≤_};
-ghost use lib.ListN.{length};
 ghost use Rattle.notation.specs.Lists.{upTo, each};
 ghost use Rattle.taskfile.specs.Code.JudgingParts.{Shaped};
-ghost use Rattle.timing.specs.Accepted.{accept};
 ghost use Rattle.timing.specs.Code.ResponseParts.{Timeable};
-ghost use Rattle.notation_buffers.specs.Code.Writing.{Appends};
 ghost use Rattle.sheets.specs.Sheets.{sheetOf, sheetAnswer, sheetAfter};
-ghost use Rattle.sheets_lines.specs.Code.SheetParts.{taskText, findingsIn};
-ghost use Rattle.sheets_lines.specs.Code.SheetParts.{PartsOf, OrderParts, FailingParts, MarksOf};
+ghost use Rattle.sheets_printing.specs.Code.Puts.{PutsText};
+ghost use Rattle.sheets_lines.specs.Code.SheetParts.{taskText, Parts, MarksOf};
+ghost use Rattle.sheets_lines.specs.Code.SheetParts.{PutsFailure, PutsFindings};
 
 // Writes each task's line.
 pub fn put_tasks(t: Table, responses: [u64; TASKS], at: usize, out: &mut [u8]) -> usize
-    requires { ⌜ Timeable t × (4608 ≤ length (now out)) ⌝ }
-    ensures { λ n. ⌜ Appends 4608 (now (out .entry)) at (each (upTo (t .tasks)) (taskText t responses))
+    requires { ⌜ Timeable t ⌝ }
+    ensures { λ n. ⌜ PutsText (now (out .entry)) at (each (upTo (t .tasks)) (taskText t responses))
         (now (out .exit)) n ⌝ }
 {
     let mut next = at;
@@ -54,20 +53,18 @@ pub fn put_tasks(t: Table, responses: [u64; TASKS], at: usize, out: &mut [u8]) -
 }
 
 // The marks of the steps of a complete order's plan.
-pub fn plan_marks(file: &[u8], t: Table, list: JobList, order: &[u8]) -> [u8; MARKS]
-    requires { ⌜ Shaped t × (list .count ≤ 32) × OrderParts (now file) t list (now order) ⌝ }
-    ensures { λ m. ⌜ MarksOf (now (file .entry)) list (now (order .entry)) m ⌝ }
+pub fn plan_marks(t: Table, list: JobList, order: &[u8]) -> [u8; MARKS]
+    requires { ⌜ Shaped t × (list .count ≤ 32) ⌝ }
+    ensures { λ m. ⌜ MarksOf t list (now (order .entry)) m ⌝ }
 {
     let mut plan = [0u8; PLAN_ROOM];
-    let planned = order_to_plan(file, order, &mut plan);
-    let size = planned.length as usize;
+    let size = write_plan(t, list, order, &mut plan);
     let checked = check_table(t, list, &plan[..size]);
     checked.marks
 }
 
 // Writes the lines of a failing order: the verdict, the order, the failed jobs, and each job's rounds in its plan.
 pub fn put_failure(
-    file: &[u8],
     t: Table,
     list: JobList,
     w: WalkAnswer,
@@ -75,42 +72,39 @@ pub fn put_failure(
     at: usize,
     out: &mut [u8],
 ) -> usize
-    requires { ⌜ Shaped t × (list .count ≤ 32) × FailingParts (now file) t list w (now order)
-        × (4608 ≤ length (now out)) ⌝ }
-    ensures { λ n. ⌜ Appends 4608 (now (out .entry)) at (findingsIn (accept (now (file .entry))))
-        (now (out .exit)) n ⌝ }
+    requires { ⌜ Shaped t × (list .count ≤ 32) ⌝ }
+    ensures { λ n. ⌜ PutsFailure t list w (now (order .entry)) (now (out .entry)) at (now (out .exit)) n ⌝ }
 {
     let verdict = put_verdict(b"fails", w.count, at, out);
     let ordered = put_order(order, verdict, out);
     let flags = w.failed;
     let noted = put_failed(flags, list.count, ordered, out);
-    let marks = plan_marks(file, t, list, order);
+    let marks = plan_marks(t, list, order);
     put_jobs_rounds(&marks, list.count, noted, out)
 }
 
 // Writes what the walk found.
-pub fn put_findings(file: &[u8], t: Table, list: JobList, at: usize, out: &mut [u8]) -> usize
-    requires { ⌜ Shaped t × (list .count ≤ 32) × PartsOf (now file) t list × (4608 ≤ length (now out)) ⌝ }
-    ensures { λ n. ⌜ Appends 4608 (now (out .entry)) at (findingsIn (accept (now (file .entry))))
-        (now (out .exit)) n ⌝ }
+pub fn put_findings(t: Table, list: JobList, at: usize, out: &mut [u8]) -> usize
+    requires { ⌜ Shaped t × (list .count ≤ 32) × Parts t list ⌝ }
+    ensures { λ n. ⌜ PutsFindings t list (now (out .entry)) at (now (out .exit)) n ⌝ }
 {
     let mut order = [0u8; ORDER_ROOM];
-    let w = walk_file(file, ALLOWANCE, &mut order);
+    let r = walk_table(t, list, ALLOWANCE, &mut order);
+    let w = outcome_answer(r);
     if w.number != 0 {
         return put_refused(w.number as u64, w.place as u64, at, out);
     }
     let verdict = w.verdict;
     if let Verdict::Fails = verdict {
         let size = w.length as usize;
-        return put_failure(file, t, list, w, &order[..size], at, out);
+        return put_failure(t, list, w, &order[..size], at, out);
     }
     put_verdict(b"holds", w.count, at, out)
 }
 
 // Writes the sheet of a file at the front of the text.
 pub fn put_sheet(file: &[u8], out: &mut [u8]) -> usize
-    requires { ⌜ 4608 ≤ length (now out) ⌝ }
-    ensures { λ n. ⌜ Appends 4608 (now (out .entry)) 0 (sheetOf (now (file .entry))) (now (out .exit)) n ⌝ }
+    ensures { λ n. ⌜ PutsText (now (out .entry)) 0 (sheetOf (now (file .entry))) (now (out .exit)) n ⌝ }
 {
     let accepted = accept_file(file);
     let check = accepted.check;
@@ -122,7 +116,7 @@ pub fn put_sheet(file: &[u8], out: &mut [u8]) -> usize
     let responses = accepted.responses;
     let totals = put_totals(t.tasks as u64, list.count as u64, 0, out);
     let tasks = put_tasks(t, responses, totals, out);
-    put_findings(file, t, list, tasks, out)
+    put_findings(t, list, tasks, out)
 }
 
 // The sheet's entry: the sheet at the front of the text, or 20 if it might not fit.

@@ -12,7 +12,8 @@ use lib.ListN.{length, getD, replicate}
 use lib.Dec.{leb, ltb}
 use Rattle.notation.specs.Lists.{each}
 use Rattle.notation.specs.Ordered.{Every}
-use Rattle.sheets.specs.Texts.{Text, decimal, line, taskWord}
+use Rattle.notation.specs.Texts.{Text, decimal, line}
+use Rattle.sheets.specs.SheetWords.{taskWord}
 use Rattle.texts.specs.declared.Form.{Form}
 use Rattle.texts.specs.declared.Form.the-variants.{WindowLine, StartLine, TaskLine, InstructionLine, LockLine}
 use Rattle.texts.specs.Words.{windowWord, startWord, lockWord, endWord, loadWord, storeWord, setWord, addWord}

@@ -8,7 +8,7 @@ use lib.ListN.{length, drop}
 use lib.Dec.{leb, eqb}
 use Rattle.notation.specs.Checked.{Checked, passed, require, given, _>>=_, _>>_}
 use Rattle.notation.specs.Lists.{if_then_else_, upTo, all, firstWith, firstOr, same}
-use Rattle.sheets.specs.Texts.{Text}
+use Rattle.notation.specs.Texts.{Text}
 use mathlib.Core.Option.{Option}
 use Rattle.texts.specs.declared.Form.{Form}
 use Rattle.texts.specs.declared.Form.the-variants.{WindowLine, StartLine, TaskLine, InstructionLine, LockLine}

@@ -9,7 +9,7 @@ use Prim.Native.Nat.{ℕ, _≤_}
 use mathlib.Core.List.{List}
 use lib.ListN.{length, take}
 use Rattle.notation.specs.Checked.{passed}
-use Rattle.sheets.specs.Texts.{Text}
+use Rattle.notation.specs.Texts.{Text}
 use Rattle.taskfile.specs.declared.Table.{Table}
 use Rattle.taskfile.specs.Chains.{Chains, chainsOf}
 use Rattle.taskfile.specs.Records.{File}

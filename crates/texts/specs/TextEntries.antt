@@ -8,7 +8,7 @@ use mathlib.Core.List.{List}
 use lib.ListN.{length}
 use lib.Dec.{leb}
 use Rattle.notation.specs.Checked.{Checked, passed, require, placedBy, _>>=_, _>>_}
-use Rattle.sheets.specs.Texts.{Text}
+use Rattle.notation.specs.Texts.{Text}
 use Rattle.taskfile.specs.Records.{File}
 use Rattle.timing.specs.Accepted.{accept}
 use Rattle.writer.specs.declared.WriteAnswer.{WriteAnswer}

@@ -7,13 +7,14 @@ use mathlib.Core.List.{List}
 use lib.ListN.{take}
 use lib.Dec.{eqb}
 use Rattle.notation.specs.Lists.{if_then_else_, firstOr}
+use Rattle.notation.specs.Letters.{w}
 use Rattle.sheets.specs.Sheets.{refusedLine}
 use Rattle.writer.specs.declared.WriteAnswer.{WriteAnswer}
 use Rattle.texts.specs.TextEntries.{toFileAnswer, toFileAfter, toTextAnswer, toTextAfter}
 
 -- a text begins with the first letter of `window`; a file's first byte is 1
 unfoldable pub beginsText : List ℕ → Bool
-beginsText bytes = eqb (firstOr 0 bytes) 119
+beginsText bytes = eqb (firstOr 0 bytes) w
 
 -- a conversion's answer, and what its target then holds, as they are printed: the bytes up to the returned length, or
 -- `refused` with number and place, as on the sheet

@@ -1,65 +1,66 @@
--- The words that begin the lines of a text, in bytes. Document 02, E5: "by lower-case name (6 `less`, 7 `equal`)".
--- A task's line begins with the word that it has on the sheet, "task".
+-- The words that begin the lines of a text, letter by letter. Document 02, E5: "by lower-case name (6 `less`, 7
+-- `equal`)". A task's line begins with the word that it has on the sheet, "task".
 -- Assumes nothing.
 use mathlib.Core.List.{[], _∷_}
-use Rattle.sheets.specs.Texts.{Text}
+use Rattle.notation.specs.Letters.{a, b, c, d, e, i, k, l, n, o, p, q, r, s, t, u, w}
+use Rattle.notation.specs.Texts.{Text}
 
 -- "window"
 unfoldable pub windowWord : Text
-windowWord = 119 ∷ 105 ∷ 110 ∷ 100 ∷ 111 ∷ 119 ∷ []
+windowWord = w ∷ i ∷ n ∷ d ∷ o ∷ w ∷ []
 
 -- "start"
 unfoldable pub startWord : Text
-startWord = 115 ∷ 116 ∷ 97 ∷ 114 ∷ 116 ∷ []
+startWord = s ∷ t ∷ a ∷ r ∷ t ∷ []
 
 -- "lock"
 unfoldable pub lockWord : Text
-lockWord = 108 ∷ 111 ∷ 99 ∷ 107 ∷ []
+lockWord = l ∷ o ∷ c ∷ k ∷ []
 
 -- "end"
 unfoldable pub endWord : Text
-endWord = 101 ∷ 110 ∷ 100 ∷ []
+endWord = e ∷ n ∷ d ∷ []
 
 -- "load"
 unfoldable pub loadWord : Text
-loadWord = 108 ∷ 111 ∷ 97 ∷ 100 ∷ []
+loadWord = l ∷ o ∷ a ∷ d ∷ []
 
 -- "store"
 unfoldable pub storeWord : Text
-storeWord = 115 ∷ 116 ∷ 111 ∷ 114 ∷ 101 ∷ []
+storeWord = s ∷ t ∷ o ∷ r ∷ e ∷ []
 
 -- "set"
 unfoldable pub setWord : Text
-setWord = 115 ∷ 101 ∷ 116 ∷ []
+setWord = s ∷ e ∷ t ∷ []
 
 -- "add"
 unfoldable pub addWord : Text
-addWord = 97 ∷ 100 ∷ 100 ∷ []
+addWord = a ∷ d ∷ d ∷ []
 
 -- "subtract"
 unfoldable pub subtractWord : Text
-subtractWord = 115 ∷ 117 ∷ 98 ∷ 116 ∷ 114 ∷ 97 ∷ 99 ∷ 116 ∷ []
+subtractWord = s ∷ u ∷ b ∷ t ∷ r ∷ a ∷ c ∷ t ∷ []
 
 -- "less"
 unfoldable pub lessWord : Text
-lessWord = 108 ∷ 101 ∷ 115 ∷ 115 ∷ []
+lessWord = l ∷ e ∷ s ∷ s ∷ []
 
 -- "equal"
 unfoldable pub equalWord : Text
-equalWord = 101 ∷ 113 ∷ 117 ∷ 97 ∷ 108 ∷ []
+equalWord = e ∷ q ∷ u ∷ a ∷ l ∷ []
 
 -- "pick"
 unfoldable pub pickWord : Text
-pickWord = 112 ∷ 105 ∷ 99 ∷ 107 ∷ []
+pickWord = p ∷ i ∷ c ∷ k ∷ []
 
 -- "acquire"
 unfoldable pub acquireWord : Text
-acquireWord = 97 ∷ 99 ∷ 113 ∷ 117 ∷ 105 ∷ 114 ∷ 101 ∷ []
+acquireWord = a ∷ c ∷ q ∷ u ∷ i ∷ r ∷ e ∷ []
 
 -- "release"
 unfoldable pub releaseWord : Text
-releaseWord = 114 ∷ 101 ∷ 108 ∷ 101 ∷ 97 ∷ 115 ∷ 101 ∷ []
+releaseWord = r ∷ e ∷ l ∷ e ∷ a ∷ s ∷ e ∷ []
 
 -- "assert"
 unfoldable pub assertWord : Text
-assertWord = 97 ∷ 115 ∷ 115 ∷ 101 ∷ 114 ∷ 116 ∷ []
+assertWord = a ∷ s ∷ s ∷ e ∷ r ∷ t ∷ []

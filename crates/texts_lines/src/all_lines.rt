@@ -1,5 +1,4 @@
-// The lines of a table's text one after the other. Their room is that of a sheet, which no accepted table's text
-// reaches.
+// The lines of a table's text one after the other, written into a lent text.
 use crate::one_line::put_instruction_line;
 use crate::one_line::put_lock_line;
 use crate::one_line::put_start_line;
@@ -14,15 +13,15 @@ use writer_layout::claimed_parts::entry_of;
 use writer_layout::claimed_parts::instruction_of;
 use writer_layout::claimed_parts::lock_of;
 ghost use mathlib.Core.Path.{_≡_};
-ghost use Prim.Native.Nat.{_≤_, min};
+ghost use Prim.Native.Nat.{min};
 ghost use mathlib.Core.List.{map};
-ghost use lib.ListN.{length, take};
+ghost use lib.ListN.{take};
 ghost use Rattle.notation.specs.Lists.{each};
 ghost use Rattle.taskfile.specs.Tables.{tasksOf, bodyOf};
 ghost use Rattle.writer.specs.Claims.{lockArray};
-ghost use Rattle.notation_buffers.specs.Code.Writing.{Appends};
 ghost use Rattle.texts.specs.Grammar.{joined};
 ghost use Rattle.texts.specs.TextTables.{instructionLine, taskLines, lockLine, textOf};
+ghost use Rattle.sheets_printing.specs.Code.Puts.{PutsText};
 
 // As many as the count says, and never more than the array holds.
 pub fn held_count(count: u8, most: u8) -> u8
@@ -33,8 +32,7 @@ pub fn held_count(count: u8, most: u8) -> u8
 
 // Writes the lines of a task's body.
 pub fn put_body_lines(e: TaskEntry, at: usize, out: &mut [u8]) -> usize
-    requires { ⌜ 4608 ≤ length (now out) ⌝ }
-    ensures { λ n. ⌜ Appends 4608 (now (out .entry)) at (joined (map instructionLine (bodyOf e)))
+    ensures { λ n. ⌜ PutsText (now (out .entry)) at (joined (map instructionLine (bodyOf e)))
         (now (out .exit)) n ⌝ }
 {
     let count = held_count(e.length, MOST_INSTRUCTIONS);
@@ -49,8 +47,7 @@ pub fn put_body_lines(e: TaskEntry, at: usize, out: &mut [u8]) -> usize
 
 // Writes a task's line and the lines of its body.
 pub fn put_task_lines(e: TaskEntry, at: usize, out: &mut [u8]) -> usize
-    requires { ⌜ 4608 ≤ length (now out) ⌝ }
-    ensures { λ n. ⌜ Appends 4608 (now (out .entry)) at (joined (taskLines e)) (now (out .exit)) n ⌝ }
+    ensures { λ n. ⌜ PutsText (now (out .entry)) at (joined (taskLines e)) (now (out .exit)) n ⌝ }
 {
     let body = put_task_line(e, at, out);
     put_body_lines(e, body, out)
@@ -58,8 +55,7 @@ pub fn put_task_lines(e: TaskEntry, at: usize, out: &mut [u8]) -> usize
 
 // Writes the lines of a table's tasks, each followed by its body.
 pub fn put_tasks_lines(t: Table, at: usize, out: &mut [u8]) -> usize
-    requires { ⌜ 4608 ≤ length (now out) ⌝ }
-    ensures { λ n. ⌜ Appends 4608 (now (out .entry)) at (joined (each (tasksOf t) taskLines)) (now (out .exit)) n ⌝ }
+    ensures { λ n. ⌜ PutsText (now (out .entry)) at (joined (each (tasksOf t) taskLines)) (now (out .exit)) n ⌝ }
 {
     let count = held_count(t.tasks, MOST_TASKS);
     let mut next = at;
@@ -73,8 +69,7 @@ pub fn put_tasks_lines(t: Table, at: usize, out: &mut [u8]) -> usize
 
 // Writes the lines of a table's locks.
 pub fn put_lock_lines(t: Table, at: usize, out: &mut [u8]) -> usize
-    requires { ⌜ 4608 ≤ length (now out) ⌝ }
-    ensures { λ n. ⌜ Appends 4608 (now (out .entry)) at (joined (map lockLine (take (t .locks) (lockArray t))))
+    ensures { λ n. ⌜ PutsText (now (out .entry)) at (joined (map lockLine (take (t .locks) (lockArray t))))
         (now (out .exit)) n ⌝ }
 {
     let count = held_count(t.locks, MOST_LOCKS);
@@ -89,8 +84,7 @@ pub fn put_lock_lines(t: Table, at: usize, out: &mut [u8]) -> usize
 
 // Writes a table's text at the front of the buffer, and answers how many bytes it has.
 pub fn put_text(t: Table, out: &mut [u8]) -> usize
-    requires { ⌜ 4608 ≤ length (now out) ⌝ }
-    ensures { λ n. ⌜ Appends 4608 (now (out .entry)) 0 (textOf t) (now (out .exit)) n ⌝ }
+    ensures { λ n. ⌜ PutsText (now (out .entry)) 0 (textOf t) (now (out .exit)) n ⌝ }
 {
     let store = t.store;
     let window = put_window_line(t.window, 0, out);

@@ -21,18 +21,15 @@ use taskfile::operations::SUBTRACT;
 use texts::Form;
 use texts_reading::line_forms::field_count;
 use writer::Lock;
-ghost use Prim.Native.Nat.{_≤_};
 ghost use mathlib.Core.List.{[], _∷_};
-ghost use lib.ListN.{length};
-ghost use Rattle.notation_buffers.specs.Code.Writing.{Appends};
 ghost use Rattle.texts.specs.declared.Form.the-variants.{WindowLine, StartLine, TaskLine, InstructionLine};
 ghost use Rattle.texts.specs.Grammar.{lineWith, lineText, rowOf};
 ghost use Rattle.texts.specs.TextTables.{instructionLine, lockLine};
+ghost use Rattle.sheets_printing.specs.Code.Puts.{PutsText};
 
 // Writes the name of an operation. One above 11 is taken as End.
 pub fn put_name(operation: u8, at: usize, out: &mut [u8]) -> usize
-    requires { ⌜ 4608 ≤ length (now out) ⌝ }
-    ensures { λ n. ⌜ Appends 4608 (now (out .entry)) at (rowOf (InstructionLine operation) .word)
+    ensures { λ n. ⌜ PutsText (now (out .entry)) at (rowOf (InstructionLine operation) .word)
         (now (out .exit)) n ⌝ }
 {
     match operation {
@@ -53,8 +50,7 @@ pub fn put_name(operation: u8, at: usize, out: &mut [u8]) -> usize
 
 // Writes an instruction's line: `load 0 1`.
 pub fn put_instruction_line(i: Instruction, at: usize, out: &mut [u8]) -> usize
-    requires { ⌜ 4608 ≤ length (now out) ⌝ }
-    ensures { λ n. ⌜ Appends 4608 (now (out .entry)) at (lineText (instructionLine i)) (now (out .exit)) n ⌝ }
+    ensures { λ n. ⌜ PutsText (now (out .entry)) at (lineText (instructionLine i)) (now (out .exit)) n ⌝ }
 {
     let fields = [i.a, i.b, i.c];
     let used = field_count(Form::InstructionLine(i.operation));
@@ -65,8 +61,7 @@ pub fn put_instruction_line(i: Instruction, at: usize, out: &mut [u8]) -> usize
 
 // Writes the window's line: `window 20`.
 pub fn put_window_line(window: u32, at: usize, out: &mut [u8]) -> usize
-    requires { ⌜ 4608 ≤ length (now out) ⌝ }
-    ensures { λ n. ⌜ Appends 4608 (now (out .entry)) at (lineText (lineWith WindowLine (window ∷ [])))
+    ensures { λ n. ⌜ PutsText (now (out .entry)) at (lineText (lineWith WindowLine (window ∷ [])))
         (now (out .exit)) n ⌝ }
 {
     let word = put_word(b"window", at, out);
@@ -76,8 +71,7 @@ pub fn put_window_line(window: u32, at: usize, out: &mut [u8]) -> usize
 
 // Writes the line of the start values: `start 0 0 0 0 0 0 0 0`.
 pub fn put_start_line(store: [u8; VARIABLES], at: usize, out: &mut [u8]) -> usize
-    requires { ⌜ 4608 ≤ length (now out) ⌝ }
-    ensures { λ n. ⌜ Appends 4608 (now (out .entry)) at (lineText (lineWith StartLine store)) (now (out .exit)) n ⌝ }
+    ensures { λ n. ⌜ PutsText (now (out .entry)) at (lineText (lineWith StartLine store)) (now (out .exit)) n ⌝ }
 {
     let word = put_word(b"start", at, out);
     let next = then_bytes(&store, word, out);
@@ -86,8 +80,7 @@ pub fn put_start_line(store: [u8; VARIABLES], at: usize, out: &mut [u8]) -> usiz
 
 // Writes a task's line: `task 3 10 0`.
 pub fn put_task_line(e: TaskEntry, at: usize, out: &mut [u8]) -> usize
-    requires { ⌜ 4608 ≤ length (now out) ⌝ }
-    ensures { λ n. ⌜ Appends 4608 (now (out .entry)) at
+    ensures { λ n. ⌜ PutsText (now (out .entry)) at
         (lineText (lineWith TaskLine (e .execution ∷ e .period ∷ e .arrival ∷ []))) (now (out .exit)) n ⌝ }
 {
     let word = put_word(b"task", at, out);
@@ -99,8 +92,7 @@ pub fn put_task_line(e: TaskEntry, at: usize, out: &mut [u8]) -> usize
 
 // Writes a lock's line: `lock 1 3`.
 pub fn put_lock_line(lock: Lock, at: usize, out: &mut [u8]) -> usize
-    requires { ⌜ 4608 ≤ length (now out) ⌝ }
-    ensures { λ n. ⌜ Appends 4608 (now (out .entry)) at (lineText (lockLine lock)) (now (out .exit)) n ⌝ }
+    ensures { λ n. ⌜ PutsText (now (out .entry)) at (lineText (lockLine lock)) (now (out .exit)) n ⌝ }
 {
     let word = put_word(b"lock", at, out);
     let first = then_byte(lock.ceiling, word, out);

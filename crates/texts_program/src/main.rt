@@ -8,6 +8,7 @@ use writer::WriteAnswer;
 ghost use mathlib.Core.Path.{_≡_};
 ghost use Prim.Native.Nat.{_≤_};
 ghost use lib.ListN.{length, take};
+ghost use Rattle.texts.specs.TextEntries.{textRoom};
 ghost use Rattle.texts.specs.Turned.{beginsText, turned};
 ghost use Rattle.texts_program.specs.Code.Conversions.{ConvertedAs};
 
@@ -42,7 +43,7 @@ fn convert(bytes: &[u8], out: &mut [u8]) -> WriteAnswer
 
 // Puts what is to be printed at the front of the room, and answers how many bytes that is.
 fn turn(bytes: &[u8], out: &mut [u8]) -> usize
-    requires { ⌜ 4608 ≤ length (now out) ⌝ }
+    requires { ⌜ textRoom ≤ length (now out) ⌝ }
     ensures printed { λ n. ⌜ take n (now (out .exit)) ≡ turned (now (bytes .entry)) (now (out .entry)) ⌝ }
     ensures within { λ n. ⌜ n ≤ length (now (out .exit)) ⌝ }
 {

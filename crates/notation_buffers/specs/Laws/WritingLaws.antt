@@ -8,7 +8,7 @@ use native.Mathlib.Numerals.{add-one}
 use native.Mathlib.Omega.{arith}
 use mathlib.Core.List.{List, [], _∷_, _++_, append-assoc}
 use lib.ListN.{length, take, drop, set, replicate, length-append, length-take, length-drop, take-append-drop}
-use lib.Seq.{take-nil, take-at, drop-at, drop-drop, length-take-le, set-split}
+use lib.Seq.{take-nil, take-all, take-at, drop-at, drop-drop, length-take-le, set-split}
 use Rattle.notation.specs.Lists.{padded}
 use Rattle.notation_buffers.specs.Code.Writing.{Appends, clearedFrom}
 
@@ -189,6 +189,13 @@ appends-more {room} {before} {at} {xs} {mid} {m} {ys} {after} {n} enough first s
 pub appends-count : {room : ℕ} {before bytes after : List ℕ} {n : ℕ} → Appends room before 0 bytes after n
     → length bytes ≤ room → n ≡ length bytes
 appends-count does fits = omega (arith, appends-next does (omega arith))
+
+-- bytes that were written at the front, as many as there are
+pub appends-front : {room : ℕ} {before bytes after : List ℕ} {n : ℕ} → Appends room before 0 bytes after n
+    → length bytes ≤ room → after ≡ bytes ++ drop (length bytes) before
+appends-front {room} {before} {bytes} {after} {n} does fits =
+    let all : take (room - 0) bytes ≡ bytes = take-all (room - 0) bytes (omega arith) in
+    does .is ∙ (λ j. all j ++ drop (appends-count does fits j) before)
 
 -- the bytes from the front of the room on, and zeros after them up to its end
 pub appends-filled : {room : ℕ} {before bytes mid : List ℕ} {n : ℕ} → room ≤ length before

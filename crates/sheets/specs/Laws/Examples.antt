@@ -3,6 +3,9 @@
 use mathlib.Core.Path.{_≡_, refl}
 use mathlib.Core.List.{[], _∷_}
 use Rattle.notation.specs.Checked.{refused}
+use Rattle.notation.specs.Letters.{space, newline, d0, d1, d2, d7, a, b, c, d, e, f, h, i, j, k}
+use Rattle.notation.specs.Letters.{l, n, o, p, r, s, t, u, v}
+use Rattle.notation.specs.Texts.{Text, decimal}
 use Rattle.matching.specs.Conversions as conversions
 use Rattle.order.specs.Laws.Opened.{ordersOpened}
 use Rattle.plan.specs.Laws.Opened.{plansOpened}
@@ -13,56 +16,56 @@ use Rattle.walk.specs.WalkEntry.{decided}
 use Rattle.walk.specs.Walks.{walk}
 use Rattle.sheets.specs.Laws.Opened.{sheetsOpened}
 use Rattle.sheets.specs.Sheets.{findings, tableSheet, sheetFrom}
-use Rattle.sheets.specs.Texts.{Text, decimal}
 
 -- a table that fails: "then each job's rounds in that order's plan"
 abbrev pub failingSheet : Text
 failingSheet =
     -- "tasks 1 jobs 1"
-    116 ∷ 97 ∷ 115 ∷ 107 ∷ 115 ∷ 32 ∷ 49 ∷ 32 ∷ 106 ∷ 111 ∷ 98 ∷ 115 ∷ 32 ∷ 49 ∷ 10
+    t ∷ a ∷ s ∷ k ∷ s ∷ space ∷ d1 ∷ space ∷ j ∷ o ∷ b ∷ s ∷ space ∷ d1 ∷ newline
     -- "task 0 response 1 jobs 1"
-    ∷ 116 ∷ 97 ∷ 115 ∷ 107 ∷ 32 ∷ 48 ∷ 32 ∷ 114 ∷ 101 ∷ 115 ∷ 112 ∷ 111 ∷ 110 ∷ 115 ∷ 101 ∷ 32 ∷ 49 ∷ 32 ∷ 106 ∷ 111
-    ∷ 98 ∷ 115 ∷ 32 ∷ 49 ∷ 10
+    ∷ t ∷ a ∷ s ∷ k ∷ space ∷ d0 ∷ space ∷ r ∷ e ∷ s ∷ p ∷ o ∷ n ∷ s ∷ e ∷ space ∷ d1 ∷ space ∷ j ∷ o
+    ∷ b ∷ s ∷ space ∷ d1 ∷ newline
     -- "verdict fails 7"
-    ∷ 118 ∷ 101 ∷ 114 ∷ 100 ∷ 105 ∷ 99 ∷ 116 ∷ 32 ∷ 102 ∷ 97 ∷ 105 ∷ 108 ∷ 115 ∷ 32 ∷ 55 ∷ 10
+    ∷ v ∷ e ∷ r ∷ d ∷ i ∷ c ∷ t ∷ space ∷ f ∷ a ∷ i ∷ l ∷ s ∷ space ∷ d7 ∷ newline
     -- "order 1 0 0 0"
-    ∷ 111 ∷ 114 ∷ 100 ∷ 101 ∷ 114 ∷ 32 ∷ 49 ∷ 32 ∷ 48 ∷ 32 ∷ 48 ∷ 32 ∷ 48 ∷ 10
+    ∷ o ∷ r ∷ d ∷ e ∷ r ∷ space ∷ d1 ∷ space ∷ d0 ∷ space ∷ d0 ∷ space ∷ d0 ∷ newline
     -- "failed 0"
-    ∷ 102 ∷ 97 ∷ 105 ∷ 108 ∷ 101 ∷ 100 ∷ 32 ∷ 48 ∷ 10
+    ∷ f ∷ a ∷ i ∷ l ∷ e ∷ d ∷ space ∷ d0 ∷ newline
     -- "job 0 rounds 0 0 0 0"
-    ∷ 106 ∷ 111 ∷ 98 ∷ 32 ∷ 48 ∷ 32 ∷ 114 ∷ 111 ∷ 117 ∷ 110 ∷ 100 ∷ 115 ∷ 32 ∷ 48 ∷ 32 ∷ 48 ∷ 32 ∷ 48 ∷ 32 ∷ 48 ∷ 10 ∷ []
+    ∷ j ∷ o ∷ b ∷ space ∷ d0 ∷ space ∷ r ∷ o ∷ u ∷ n ∷ d ∷ s ∷ space ∷ d0 ∷ space ∷ d0 ∷ space ∷ d0 ∷ space
+    ∷ d0 ∷ newline ∷ []
 
 -- "With no failure the sheet ends at `verdict holds N`."
 abbrev pub holdingSheet : Text
 holdingSheet =
     -- "tasks 2 jobs 2"
-    116 ∷ 97 ∷ 115 ∷ 107 ∷ 115 ∷ 32 ∷ 50 ∷ 32 ∷ 106 ∷ 111 ∷ 98 ∷ 115 ∷ 32 ∷ 50 ∷ 10
+    t ∷ a ∷ s ∷ k ∷ s ∷ space ∷ d2 ∷ space ∷ j ∷ o ∷ b ∷ s ∷ space ∷ d2 ∷ newline
     -- "task 0 response 2 jobs 1"
-    ∷ 116 ∷ 97 ∷ 115 ∷ 107 ∷ 32 ∷ 48 ∷ 32 ∷ 114 ∷ 101 ∷ 115 ∷ 112 ∷ 111 ∷ 110 ∷ 115 ∷ 101 ∷ 32 ∷ 50 ∷ 32 ∷ 106 ∷ 111
-    ∷ 98 ∷ 115 ∷ 32 ∷ 49 ∷ 10
+    ∷ t ∷ a ∷ s ∷ k ∷ space ∷ d0 ∷ space ∷ r ∷ e ∷ s ∷ p ∷ o ∷ n ∷ s ∷ e ∷ space ∷ d2 ∷ space ∷ j ∷ o
+    ∷ b ∷ s ∷ space ∷ d1 ∷ newline
     -- "task 1 response 1 jobs 1"
-    ∷ 116 ∷ 97 ∷ 115 ∷ 107 ∷ 32 ∷ 49 ∷ 32 ∷ 114 ∷ 101 ∷ 115 ∷ 112 ∷ 111 ∷ 110 ∷ 115 ∷ 101 ∷ 32 ∷ 49 ∷ 32 ∷ 106 ∷ 111
-    ∷ 98 ∷ 115 ∷ 32 ∷ 49 ∷ 10
+    ∷ t ∷ a ∷ s ∷ k ∷ space ∷ d1 ∷ space ∷ r ∷ e ∷ s ∷ p ∷ o ∷ n ∷ s ∷ e ∷ space ∷ d1 ∷ space ∷ j ∷ o
+    ∷ b ∷ s ∷ space ∷ d1 ∷ newline
     -- "verdict holds 2"
-    ∷ 118 ∷ 101 ∷ 114 ∷ 100 ∷ 105 ∷ 99 ∷ 116 ∷ 32 ∷ 104 ∷ 111 ∷ 108 ∷ 100 ∷ 115 ∷ 32 ∷ 50 ∷ 10 ∷ []
+    ∷ v ∷ e ∷ r ∷ d ∷ i ∷ c ∷ t ∷ space ∷ h ∷ o ∷ l ∷ d ∷ s ∷ space ∷ d2 ∷ newline ∷ []
 
 -- "With 21 it ends at `refused 21 0` instead"
 abbrev pub undecidedLine : Text
 undecidedLine =
     -- "refused 21 0"
-    114 ∷ 101 ∷ 102 ∷ 117 ∷ 115 ∷ 101 ∷ 100 ∷ 32 ∷ 50 ∷ 49 ∷ 32 ∷ 48 ∷ 10 ∷ []
+    r ∷ e ∷ f ∷ u ∷ s ∷ e ∷ d ∷ space ∷ d2 ∷ d1 ∷ space ∷ d0 ∷ newline ∷ []
 
 -- "with a file refusal that form (number, place) is the only line"
 abbrev pub overloadSheet : Text
 overloadSheet =
     -- "refused 10 1"
-    114 ∷ 101 ∷ 102 ∷ 117 ∷ 115 ∷ 101 ∷ 100 ∷ 32 ∷ 49 ∷ 48 ∷ 32 ∷ 49 ∷ 10 ∷ []
+    r ∷ e ∷ f ∷ u ∷ s ∷ e ∷ d ∷ space ∷ d1 ∷ d0 ∷ space ∷ d1 ∷ newline ∷ []
 
 -- a number of several digits
 abbrev pub million : Text
 million =
     -- "1000000"
-    49 ∷ 48 ∷ 48 ∷ 48 ∷ 48 ∷ 48 ∷ 48 ∷ []
+    d1 ∷ d0 ∷ d0 ∷ d0 ∷ d0 ∷ d0 ∷ d0 ∷ []
 
 pub record SheetExamples : Type 0 where
   pub failing : tableSheet pickUpTo ≡ failingSheet

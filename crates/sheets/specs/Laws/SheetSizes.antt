@@ -14,6 +14,9 @@ use Rattle.notation.specs.Laws.PairLaws.{every-imp, every-map, from-within}
 use Rattle.notation.specs.Laws.QuantifierLaws.{map-length}
 use Rattle.notation.specs.Lists.{from, upTo, only, each}
 use Rattle.notation.specs.Ordered.{Every}
+use Rattle.notation.specs.Laws.DecimalLaws.{decimal-few}
+use Rattle.notation.specs.Laws.TextSizes.{each-most, only-most, sum-part, decimal-most, spaced-most, line-most}
+use Rattle.notation.specs.Texts.{Text, decimal, spaced, line}
 use Rattle.taskfile.specs.declared.Task.{Task}
 use Rattle.taskfile.specs.Judgement.{taskNumbers}
 use Rattle.taskfile.specs.Laws.JudgingLaws.{tasks-length}
@@ -37,12 +40,12 @@ use Rattle.matching.specs.Conversions.{planOf}
 use Rattle.walk.specs.Laws.FailingLaws.{walk-first, walk-short}
 use Rattle.walk.specs.WalkEntry.{decided}
 use Rattle.walk.specs.Walks.{EndedOrder, Walked, walk}
-use Rattle.sheets.specs.Laws.DecimalLaws.{decimal-few}
 use Rattle.sheets.specs.Laws.FoundSizes.{run-small, rounds-few, rounds-below}
-use Rattle.sheets.specs.Laws.TextSizes.{each-most, only-most, sum-part, decimal-most, spaced-most, line-most}
-use Rattle.sheets.specs.Sheets.{sheetAllowance, refusedLine, totalsLine, taskLine, orderLine, failedLine, roundsLine, roundsLines, verdictLines, findings, tableSheet, sheetFrom, sheetOf, sheetRoom}
-use Rattle.sheets.specs.Texts.{Text, decimal, spaced, line, tasksWord, taskWord, jobsWord, jobWord, responseWord, verdictWord}
-use Rattle.sheets.specs.Texts.{holdsWord, failsWord, orderWord, failedWord, roundsWord, refusedWord}
+use Rattle.sheets.specs.Sheets.{sheetAllowance, refusedLine, totalsLine, taskLine, orderLine, failedLine}
+use Rattle.sheets.specs.Sheets.{roundsLine, roundsLines, verdictLines, findings, tableSheet, sheetFrom}
+use Rattle.sheets.specs.Sheets.{sheetOf, sheetRoom}
+use Rattle.sheets.specs.SheetWords.{tasksWord, taskWord, jobsWord, jobWord, responseWord, verdictWord}
+use Rattle.sheets.specs.SheetWords.{holdsWord, failsWord, orderWord, failedWord, roundsWord, refusedWord}
 
 -- ---- lines of fixed form
 

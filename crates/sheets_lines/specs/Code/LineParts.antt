@@ -3,12 +3,14 @@
 use Prim.Native.Nat.{ℕ}
 use mathlib.Core.Bool.{Bool, true, false}
 use mathlib.Core.List.{List, [], _∷_, map}
+use Rattle.notation.specs.Letters.{space}
+use Rattle.notation.specs.Texts.{Text, decimal, line}
 use Rattle.plan_marks.specs.Code.Marks.{roundsIn}
-use Rattle.sheets.specs.Texts.{Text, decimal, line, jobWord, roundsWord}
+use Rattle.sheets.specs.SheetWords.{jobWord, roundsWord}
 
 -- a space and the job's number, if its flag is set
 unfoldable pub failedPart : Bool → ℕ → Text
-failedPart true x = 32 ∷ decimal x
+failedPart true x = space ∷ decimal x
 failedPart false x = []
 
 -- the line of the rounds of job x

@@ -6,43 +6,45 @@ use native.Mathlib.Numerals.{add-one}
 use native.Mathlib.Omega.{arith}
 use mathlib.Core.Bool.{Bool, true, false}
 use mathlib.Core.List.{List, [], _∷_, _++_, map, map-map, append-assoc, append-nil}
-use lib.ListN.{length, getD}
+use lib.ListN.{getD}
 use Rattle.notation.specs.Laws.ElementLaws.{each-snoc, only-append, only-in, only-drops}
 use Rattle.notation.specs.Laws.ListLaws.{from-snoc}
 use Rattle.notation.specs.Laws.TabulateLaws.{values-snoc}
 use Rattle.notation.specs.Lists.{from, upTo, only, each}
+use Rattle.notation.specs.Letters.{space, newline}
+use Rattle.notation.specs.Texts.{Text, decimal, line}
 use Rattle.plan.specs.Runs.{Step}
 use Rattle.plan.specs.declared.Round.{Round}
 use Rattle.plan_marks.specs.Code.Marks.{stepMarked, stepCount, stepsMarked, roundsIn}
-use Rattle.notation_buffers.specs.Laws.WritingLaws.{appends-none, appends-more}
 use Rattle.sheets.specs.Sheets.{orderLine}
-use Rattle.sheets.specs.Texts.{Text, decimal, line, jobWord, orderWord, failedWord, roundsWord}
+use Rattle.sheets.specs.SheetWords.{jobWord, orderWord, failedWord, roundsWord}
+use Rattle.sheets_printing.specs.Code.Puts.{PutsText}
 use Rattle.sheets_printing.specs.Code.Spaced.{spacedNumbers}
-use Rattle.sheets_printing.specs.Laws.LineLaws.{PutsText, puts-same, spaced-each}
+use Rattle.sheets_printing.specs.Laws.LineLaws.{puts-same, puts-none, puts-more, spaced-each}
 use Rattle.sheets_printing.specs.Laws.SpacedLaws.{spaced-none, numbers-are, numbers-snoc, numbers-more, numbers-put}
 use Rattle.sheets_lines.specs.Code.LineParts.{failedPart, jobLine}
 
 -- ---- the order
 
 pub order-put : {before : List ℕ} {at : ℕ} (order : List ℕ) {one : List ℕ} {l : ℕ} {two : List ℕ} {m : ℕ}
-    {after : List ℕ} {n : ℕ} → 4608 ≤ length before → PutsText before at orderWord one l
-    → PutsText one l (spacedNumbers order) two m → PutsText two m (10 ∷ []) after n
+    {after : List ℕ} {n : ℕ} → PutsText before at orderWord one l
+    → PutsText one l (spacedNumbers order) two m → PutsText two m (newline ∷ []) after n
     → PutsText before at (orderLine order) after n
 unfolding orderLine
-order-put order enough first second third = numbers-put orderWord order enough first second third
+order-put order first second third = numbers-put orderWord order first second third
 
 -- ---- the failed jobs
 
 -- a job's part is written where its flag is set, and nothing where it is not
 pub failed-set : {flag : Bool} (x : ℕ) {before : List ℕ} {at : ℕ} {after : List ℕ} {n : ℕ} → flag ≡ true
-    → PutsText before at (32 ∷ decimal x) after n → PutsText before at (failedPart flag x) after n
+    → PutsText before at (space ∷ decimal x) after n → PutsText before at (failedPart flag x) after n
 unfolding failedPart
 failed-set x set puts = rw set puts
 
 pub failed-clear : {flag : Bool} (x : ℕ) {before : List ℕ} {at : ℕ} → flag ≡ false
     → PutsText before at (failedPart flag x) before at
 unfolding failedPart
-failed-clear x {before} {at} clear = rw clear (appends-none 4608 before at)
+failed-clear x {before} {at} clear = rw clear (puts-none before at)
 
 -- the first x + 1 numbers
 upTo-snoc : (x : ℕ) → upTo (x + 1) ≡ upTo x ++ (x ∷ [])
@@ -77,20 +79,20 @@ module _ (failed : List Bool) where
   failed-none before at = spaced-none before at
 
   pub failed-more : {before : List ℕ} {at : ℕ} (x : ℕ) {mid : List ℕ} {m : ℕ} {after : List ℕ} {n : ℕ}
-      → 4608 ≤ length before → PutsText before at (spacedNumbers (failedTo failed x)) mid m
+      → PutsText before at (spacedNumbers (failedTo failed x)) mid m
       → PutsText mid m (failedPart (getD failed x false) x) after n
       → PutsText before at (spacedNumbers (failedTo failed (x + 1))) after n
-  failed-more x enough first second =
-      puts-same (failed-next x (getD failed x false) refl) (appends-more enough first second)
+  failed-more x first second =
+      puts-same (failed-next x (getD failed x false) refl) (puts-more first second)
 
   pub failed-put : {before : List ℕ} {at : ℕ} (k x : ℕ) {one : List ℕ} {l : ℕ} {two : List ℕ} {m : ℕ}
-      {after : List ℕ} {n : ℕ} → 4608 ≤ length before → x ≤ k → k ≤ x → PutsText before at failedWord one l
-      → PutsText one l (spacedNumbers (failedTo failed x)) two m → PutsText two m (10 ∷ []) after n
+      {after : List ℕ} {n : ℕ} → x ≤ k → k ≤ x → PutsText before at failedWord one l
+      → PutsText one l (spacedNumbers (failedTo failed x)) two m → PutsText two m (newline ∷ []) after n
       → PutsText before at (line failedWord (map decimal (only (λ j. getD failed j false) (upTo k)))) after n
   unfolding failedTo
-  failed-put k x enough le ge first second third =
+  failed-put k x le ge first second third =
       let same : x ≡ k = omega arith in
-      numbers-put failedWord (failedTo failed k) enough first
+      numbers-put failedWord (failedTo failed k) first
       (puts-same (ap (λ (j : ℕ). spacedNumbers (failedTo failed j)) same) second) third
 
 -- ---- the rounds of a job
@@ -105,13 +107,13 @@ module _ (marks : List ℕ) (x : ℕ) where
   job-rounds-none before at = spaced-none before at
 
   pub job-rounds-more : {before : List ℕ} {at : ℕ} (n : ℕ) {mid : List ℕ} {m : ℕ} {after : List ℕ} {k : ℕ} {r : Round}
-      → 4608 ≤ length before → r ≡ stepMarked marks x n .round → PutsText before at (spacedNumbers (roundsTo marks x n)) mid m
-      → PutsText mid m (32 ∷ decimal (r .0)) after k → PutsText before at (spacedNumbers (roundsTo marks x (n + 1))) after k
+      → r ≡ stepMarked marks x n .round → PutsText before at (spacedNumbers (roundsTo marks x n)) mid m
+      → PutsText mid m (space ∷ decimal (r .0)) after k → PutsText before at (spacedNumbers (roundsTo marks x (n + 1))) after k
   unfolding roundsTo
-  job-rounds-more n {mid} {m} {after} {k} enough round first second =
+  job-rounds-more n {mid} {m} {after} {k} round first second =
       puts-same (ap spacedNumbers (sym (values-snoc (λ j. stepMarked marks x j .round .0) n)))
-      (numbers-more (roundsTo marks x n) (stepMarked marks x n .round .0) enough first
-      (subst (λ (q : Round). PutsText mid m (32 ∷ decimal (q .0)) after k) round second))
+      (numbers-more (roundsTo marks x n) (stepMarked marks x n .round .0) first
+      (subst (λ (q : Round). PutsText mid m (space ∷ decimal (q .0)) after k) round second))
 
   words-are : map (λ r. decimal (r .0)) (roundsIn marks x) ≡ map decimal (roundsTo marks x (stepCount marks x))
   unfolding roundsIn stepsMarked roundsTo
@@ -120,31 +122,30 @@ module _ (marks : List ℕ) (x : ℕ) where
       ∙ map-map (λ (step : Step). decimal (step .round .0)) (stepMarked marks x) (upTo (stepCount marks x))
       ∙ sym (map-map decimal (λ (j : ℕ). stepMarked marks x j .round .0) (upTo (stepCount marks x)))
 
-  job-line-is : (((jobWord ++ (32 ∷ decimal x)) ++ (32 ∷ roundsWord)) ++ spacedNumbers (roundsTo marks x (stepCount marks x)))
-      ++ (10 ∷ []) ≡ jobLine marks x
+  job-line-is : (((jobWord ++ (space ∷ decimal x)) ++ (space ∷ roundsWord)) ++ spacedNumbers (roundsTo marks x (stepCount marks x)))
+      ++ (newline ∷ []) ≡ jobLine marks x
   unfolding line each
   job-line-is =
       let words = map (λ (r : Round). decimal (r .0)) (roundsIn marks x) in
       let last = spacedNumbers (roundsTo marks x (stepCount marks x)) in
-      let spread : each words (λ w. 32 ∷ w) ≡ last =
-      ap (λ (l : List Text). each l (λ w. 32 ∷ w)) words-are ∙ numbers-are (roundsTo marks x (stepCount marks x)) in
-      ap (λ (l : Text). l ++ (10 ∷ []))
-      (append-assoc (jobWord ++ (32 ∷ decimal x)) (32 ∷ roundsWord) last
-      ∙ append-assoc jobWord (32 ∷ decimal x) ((32 ∷ roundsWord) ++ last)
-      ∙ ap (λ (l : Text). jobWord ++ ((32 ∷ decimal x) ++ ((32 ∷ roundsWord) ++ l))) (sym spread)
+      let spread : each words (λ w. space ∷ w) ≡ last =
+      ap (λ (l : List Text). each l (λ w. space ∷ w)) words-are ∙ numbers-are (roundsTo marks x (stepCount marks x)) in
+      ap (λ (l : Text). l ++ (newline ∷ []))
+      (append-assoc (jobWord ++ (space ∷ decimal x)) (space ∷ roundsWord) last
+      ∙ append-assoc jobWord (space ∷ decimal x) ((space ∷ roundsWord) ++ last)
+      ∙ ap (λ (l : Text). jobWord ++ ((space ∷ decimal x) ++ ((space ∷ roundsWord) ++ l))) (sym spread)
       ∙ sym (spaced-each jobWord (decimal x ∷ roundsWord ∷ words)))
 
   pub job-rounds-put : {before : List ℕ} {at : ℕ} (count n : ℕ) {one : List ℕ} {l : ℕ} {two : List ℕ} {m : ℕ}
-      {three : List ℕ} {p : ℕ} {four : List ℕ} {q : ℕ} {after : List ℕ} {k : ℕ} → 4608 ≤ length before
-      → count ≡ stepCount marks x → n ≤ count → count ≤ n → PutsText before at jobWord one l
-      → PutsText one l (32 ∷ decimal x) two m → PutsText two m (32 ∷ roundsWord) three p
-      → PutsText three p (spacedNumbers (roundsTo marks x n)) four q → PutsText four q (10 ∷ []) after k
+      {three : List ℕ} {p : ℕ} {four : List ℕ} {q : ℕ} {after : List ℕ} {k : ℕ} → count ≡ stepCount marks x → n ≤ count → count ≤ n → PutsText before at jobWord one l
+      → PutsText one l (space ∷ decimal x) two m → PutsText two m (space ∷ roundsWord) three p
+      → PutsText three p (spacedNumbers (roundsTo marks x n)) four q → PutsText four q (newline ∷ []) after k
       → PutsText before at (jobLine marks x) after k
-  job-rounds-put count n enough counted le ge first second third fourth fifth =
+  job-rounds-put count n counted le ge first second third fourth fifth =
       let same : n ≡ stepCount marks x = omega (arith, counted) in
       puts-same job-line-is
-      (appends-more enough
-      (appends-more enough (appends-more enough (appends-more enough first second) third)
+      (puts-more
+      (puts-more (puts-more (puts-more first second) third)
       (puts-same (ap (λ (j : ℕ). spacedNumbers (roundsTo marks x j)) same) fourth)) fifth)
 
 -- ---- part after part
@@ -152,14 +153,14 @@ module _ (marks : List ℕ) (x : ℕ) where
 module _ (part : ℕ → Text) where
   pub texts-none : (before : List ℕ) (at : ℕ) → PutsText before at (each (upTo 0) part) before at
   unfolding upTo from each
-  texts-none before at = appends-none 4608 before at
+  texts-none before at = puts-none before at
 
   pub texts-more : {before : List ℕ} {at : ℕ} (x : ℕ) {mid : List ℕ} {m : ℕ} {after : List ℕ} {n : ℕ}
-      → 4608 ≤ length before → PutsText before at (each (upTo x) part) mid m → PutsText mid m (part x) after n
+      → PutsText before at (each (upTo x) part) mid m → PutsText mid m (part x) after n
       → PutsText before at (each (upTo (x + 1)) part) after n
-  texts-more x enough first second =
+  texts-more x first second =
       puts-same (sym (each-snoc x part) ∙ ap (λ (k : ℕ). each (upTo k) part) (sym (add-one x)))
-      (appends-more enough first second)
+      (puts-more first second)
 
   pub texts-put : {before : List ℕ} {at : ℕ} (k x : ℕ) {after : List ℕ} {n : ℕ} → x ≤ k → k ≤ x
       → PutsText before at (each (upTo x) part) after n → PutsText before at (each (upTo k) part) after n

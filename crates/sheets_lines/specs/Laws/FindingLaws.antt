@@ -1,47 +1,44 @@
--- Laws of what the walk found, by the answer of the walk's entry: undecided, no failing order, or one.
+-- Laws of what the walk found, by the answer of the walk's outcome: undecided, no failing order, or one.
 -- Assumes nothing.
 use mathlib.Core.Path.{_≡_, refl, sym, ap, ap₂, subst, _∙_}
 use mathlib.Core.Logic.{_⊎_, inl, inr}
-use Prim.Native.Nat.{ℕ, _≤_}
+use Prim.Native.Nat.{ℕ, _^_, _≤_, _<_}
 use native.Mathlib.Omega.{arith}
 use mathlib.Core.Bool.{Bool, true, false}
 use mathlib.Core.List.{List, [], _∷_, _++_, map, map-map}
 use mathlib.Core.Option.{Option, none, some}
 use lib.Dec.{leb}
-use lib.ListN.{length, getD, take, replicate, length-take, length-replicate}
-use borrow.Author.Tests.{le-leb}
-use Rattle.notation.specs.Checked.{Checked, refused, passed}
-use Rattle.notation.specs.Laws.CheckedLaws.{bind-goes, require-holds, require-fails}
+use lib.ListN.{length, getD, take, length-take}
+use Rattle.notation.specs.Checked.{refused, passed}
+use Rattle.notation.specs.Laws.CheckedLaws.{require-holds, require-fails}
 use Rattle.notation.specs.Laws.TestLaws.{test-decided}
 use Rattle.notation.specs.Lists.{if_then_else_, upTo, only, each}
-use Rattle.taskfile.specs.Records.{File}
+use Rattle.notation.specs.Texts.{Text, decimal, line}
 use Rattle.taskfile.specs.declared.Table.{Table}
-use Rattle.timing.specs.Accepted.{Accepted, accept}
-use Rattle.timing.specs.Code.IsAccepted.{IsAccepted}
+use Rattle.timing.specs.Accepted.{Accepted}
 use Rattle.timing.specs.Code.JobParts.{jobListOf}
-use Rattle.timing.specs.Laws.AcceptedLaws.{file-accepted}
 use Rattle.timing.specs.Relations.{jobNumbers}
 use Rattle.timing.specs.declared.Job.{Job}
 use Rattle.timing.specs.declared.JobList.{JobList}
-use Rattle.machine.specs.Buffers.{orderRoom, filled}
-use Rattle.matching.specs.Laws.ConversionLaws.{order-turns}
-use Rattle.matching.specs.Laws.FitsLaws.{fill-keeps}
-use Rattle.walk.specs.Laws.FailingLaws.{walk-first, walk-short}
-use Rattle.walk.specs.WalkEntry.{admitted, decided, refusal, verdictOf, decidedAnswer, shown}
-use Rattle.walk.specs.WalkEntry.{decidedBytes, walkAnswerOf, walkAfterOf, walkAnswer, walkAfter}
+use Rattle.order.specs.Orders.{OrderEnds}
+use Rattle.plan.specs.Plans.{legalRun}
+use Rattle.matching.specs.Conversions.{planOf}
+use Rattle.walk.specs.Laws.FailingLaws.{walk-first}
+use Rattle.walk.specs.WalkEntry.{decided, refusal, verdictOf, decidedAnswer, shown, decidedBytes}
 use Rattle.walk.specs.Walks.{EndedOrder, Walked, walk}
 use Rattle.walk.specs.declared.Verdict.the-variants.{None, Holds, Fails}
 use Rattle.walk.specs.declared.WalkAnswer.{WalkAnswer}
-use Rattle.notation_buffers.specs.Laws.WritingLaws.{appends-more}
-use Rattle.sheets.specs.Sheets.{sheetAllowance, refusedLine, orderLine, failedLine, verdictLines, findings}
-use Rattle.sheets.specs.Texts.{Text, decimal, line, failedWord, verdictWord, holdsWord, failsWord}
-use Rattle.sheets_printing.specs.Laws.LineLaws.{PutsText, puts-same}
+use Rattle.walk_trials.specs.Code.Outcomes.{answerOf, shownLength}
+use Rattle.walk_trials.specs.Laws.OutcomeLaws.{length-found}
+use Rattle.walk_trials.specs.declared.Outcome.{Outcome}
+use Rattle.walk_trials.specs.Code.WalkParts.{WalkOf}
+use Rattle.walk_trials.specs.Laws.WalkEntryLaws.{EntryOf, entry}
+use Rattle.sheets.specs.Sheets.{sheetAllowance, refusedLine, orderLine, failedLine, roundsLines, verdictLines, findings}
+use Rattle.sheets.specs.SheetWords.{failedWord, verdictWord, holdsWord, failsWord}
+use Rattle.sheets_printing.specs.Code.Puts.{PutsText}
+use Rattle.sheets_printing.specs.Laws.LineLaws.{puts-same, puts-more}
 use Rattle.sheets_lines.specs.Code.LineParts.{jobLine}
-use Rattle.sheets_lines.specs.Code.SheetParts.{findingsIn, roundsText, PartsOf, OrderParts, FailingParts, MarksOf}
-
--- the array that an order is written into
-pub order-room : 512 ≤ length (replicate {A = ℕ} 512 0)
-order-room = omega (arith, length-replicate {A = ℕ} 512 0)
+use Rattle.sheets_lines.specs.Code.SheetParts.{PartsOf, findingsOf, PutsFailure, FailingParts, MarksOf}
 
 -- the tag of a verdict that fails is none of the others'
 pub other-verdict : {tag : ℕ} → tag ≡ 2 → (tag ≡ 0) ⊎ (tag ≡ 1) → ⊥
@@ -50,15 +47,12 @@ other-verdict is (inr holds') = omega arith
 
 -- ---- the cases of a walk
 
--- what the walk came to, for its answer and the buffer that it leaves
-data Shows (a : Accepted) (w : WalkAnswer) (after buffer : List ℕ) : Type 0 where
-  undecided : w ≡ refusal 21 0 → findings a (decided sheetAllowance (walk a)) ≡ refusedLine 21 0
-      → Shows a w after buffer
-  holds : w ≡ verdictOf (walk a .count) none
-      → findings a (decided sheetAllowance (walk a)) ≡ verdictLines a (walk a .count) none → Shows a w after buffer
+-- what the walk came to, for its answer and the bytes that it leaves
+data Shows (a : Accepted) (w : WalkAnswer) (path : List ℕ) : Type 0 where
+  undecided : w ≡ refusal 21 0 → findingsOf a ≡ refusedLine 21 0 → Shows a w path
+  holds : w ≡ verdictOf (walk a .count) none → findingsOf a ≡ verdictLines a (walk a .count) none → Shows a w path
   fails : (found : EndedOrder) → walk a .failing ≡ some found → decided sheetAllowance (walk a) ≡ passed (walk a)
-      → w ≡ verdictOf (walk a .count) (some found) → after ≡ filled orderRoom (found .bytes) buffer
-      → Shows a w after buffer
+      → w ≡ verdictOf (walk a .count) (some found) → take (w .length) path ≡ found .bytes → Shows a w path
 
 -- a walk is undecided, or decided
 decided-cases : (allowance : ℕ) (walked : Walked)
@@ -70,46 +64,35 @@ decided-cases allowance walked =
       | inr beyond ↦ inl (require-fails (leb (walked .count) allowance) 21 0 (passed walked) beyond)
     ]
 
-module _ {f : File} {t : Table} {list : JobList} (p : PartsOf f t list) where
-  abbrev a : Accepted
-  a = p .found
+module _ {a : Accepted} {t : Table} {list : JobList} (p : PartsOf a t list) {before path : List ℕ} {r : Outcome}
+    (walked : WalkOf t list sheetAllowance before path r) where
+  -- the outcome's answer and the front of the path are the walk's
+  fit : EntryOf (decided sheetAllowance (walk a)) path r
+  fit = entry (p .accepted) (walked a (p .accepted) (p .table) (p .listed))
 
-  ok : IsAccepted a
-  ok = file-accepted f (p .accepted)
+  -- an order found is short
+  pub found-short : r .found ≡ true → r .length < 2 ^ 32
+  found-short found = omega (arith, length-found r found, fit .counted, fit .short)
 
-  -- the findings of the file are those of its table
-  found-in : findingsIn (accept f) ≡ findings a (decided sheetAllowance (walk a))
-  unfolding findingsIn
-  found-in = ap findingsIn (p .accepted)
-
-  module _ (buffer : List ℕ) (room : 512 ≤ length buffer) {w : WalkAnswer}
-      (answers : w ≡ walkAnswer f 1000000 buffer) {after : List ℕ} (leaves : after ≡ walkAfter f 1000000 buffer) where
-    admits : admitted f buffer ≡ passed a
-    unfolding admitted
-    admits = bind-goes _ (p .accepted) ∙ require-holds _ 20 0 (passed a) (le-leb 512 (length buffer) room)
-
+  module _ {w : WalkAnswer} (answers : w ≡ answerOf r) where
     answer-is : w ≡ decidedAnswer (decided sheetAllowance (walk a))
-    unfolding walkAnswer walkAnswerOf
-    answer-is = answers ∙ ap (walkAnswerOf 1000000) admits
-
-    after-is : after ≡ filled orderRoom (decidedBytes (decided sheetAllowance (walk a))) buffer
-    unfolding walkAfter walkAfterOf
-    after-is = leaves ∙ ap (λ (c : Checked ℕ Accepted). walkAfterOf 1000000 c buffer) admits
+    answer-is = answers ∙ fit .answer
 
     decided-shows : decided sheetAllowance (walk a) ≡ passed (walk a) → (o : Option EndedOrder) → walk a .failing ≡ o
-        → Shows a w after buffer
-    unfolding decidedAnswer decidedBytes shown findings
+        → Shows a w path
+    unfolding decidedAnswer decidedBytes shown findings findingsOf verdictOf
     decided-shows e none is =
         holds (answer-is ∙ ap decidedAnswer e ∙ ap (verdictOf (walk a .count)) is)
         (ap (findings a) e ∙ ap (verdictLines a (walk a .count)) is)
     decided-shows e (some found) is =
-        fails found is e (answer-is ∙ ap decidedAnswer e ∙ ap (verdictOf (walk a .count)) is)
-        (after-is
-        ∙ ap (λ (c : Checked ℕ Walked). filled orderRoom (decidedBytes c) buffer) e
-        ∙ ap (λ (o : Option EndedOrder). filled orderRoom (shown o) buffer) is)
+        let answer = answer-is ∙ ap decidedAnswer e ∙ ap (verdictOf (walk a .count)) is in
+        let bytes : decidedBytes (decided sheetAllowance (walk a)) ≡ found .bytes = ap decidedBytes e ∙ ap shown is in
+        let size : w .length ≡ shownLength r =
+        ap (λ (x : WalkAnswer). x .length) answer ∙ sym (fit .counted ∙ ap (λ (l : List ℕ). length l) bytes) in
+        fails found is e answer (ap (λ (k : ℕ). take k path) size ∙ fit .front ∙ bytes)
 
-    shows : Shows a w after buffer
-    unfolding decidedAnswer findings
+    shows : Shows a w path
+    unfolding decidedAnswer findings findingsOf
     shows =
         elim (decided-cases sheetAllowance (walk a)) [
           | inl e ↦ undecided (answer-is ∙ ap decidedAnswer e) (ap (findings a) e)
@@ -118,36 +101,35 @@ module _ {f : File} {t : Table} {list : JobList} (p : PartsOf f t list) where
 
     -- ---- by the answer
 
-    refused-case : Shows a w after buffer → (w .number ≡ 0 → ⊥) → findingsIn (accept f) ≡ refusedLine (w .number) (w .place)
+    refused-case : Shows a w path → (w .number ≡ 0 → ⊥) → findingsOf a ≡ refusedLine (w .number) (w .place)
     unfolding refusal verdictOf
     refused-case (undecided is found) some-number =
-        found-in ∙ found ∙ sym (ap (λ (x : WalkAnswer). refusedLine (x .number) (x .place)) is)
+        found ∙ sym (ap (λ (x : WalkAnswer). refusedLine (x .number) (x .place)) is)
     refused-case (holds is found) some-number = absurd (some-number (ap (λ (x : WalkAnswer). x .number) is))
     refused-case (fails found e d is held) some-number = absurd (some-number (ap (λ (x : WalkAnswer). x .number) is))
 
     -- a number: its line
-    pub findings-refused : (w .number ≡ 0 → ⊥) → {before : List ℕ} {at : ℕ} {text : List ℕ} {n : ℕ}
-        → PutsText before at (refusedLine (w .number) (w .place)) text n → PutsText before at (findingsIn (accept f)) text n
+    pub findings-refused : (w .number ≡ 0 → ⊥) → {text : List ℕ} {at : ℕ} {after : List ℕ} {n : ℕ}
+        → PutsText text at (refusedLine (w .number) (w .place)) after n → PutsText text at (findingsOf a) after n
     findings-refused some-number puts = puts-same (sym (refused-case shows some-number)) puts
 
-    holds-case : Shows a w after buffer → w .number ≡ 0 → (w .verdict ≡ Fails → ⊥)
-        → findingsIn (accept f) ≡ line verdictWord (holdsWord ∷ decimal (w .count) ∷ [])
+    holds-case : Shows a w path → w .number ≡ 0 → (w .verdict ≡ Fails → ⊥)
+        → findingsOf a ≡ line verdictWord (holdsWord ∷ decimal (w .count) ∷ [])
     unfolding refusal verdictOf verdictLines
     holds-case (undecided is found) clean no-failure =
         absurd (let number : w .number ≡ 21 = ap (λ (x : WalkAnswer). x .number) is in omega arith)
     holds-case (holds is found) clean no-failure =
-        found-in ∙ found
-        ∙ sym (ap (λ (x : WalkAnswer). line verdictWord (holdsWord ∷ decimal (x .count) ∷ [])) is)
+        found ∙ sym (ap (λ (x : WalkAnswer). line verdictWord (holdsWord ∷ decimal (x .count) ∷ [])) is)
     holds-case (fails found e d is held) clean no-failure = absurd (no-failure (ap (λ (x : WalkAnswer). x .verdict) is))
 
     -- no number and no failure: the verdict that it holds
-    pub findings-holds : w .number ≡ 0 → (w .verdict ≡ Fails → ⊥) → {before : List ℕ} {at : ℕ} {text : List ℕ} {n : ℕ}
-        → PutsText before at (line verdictWord (holdsWord ∷ decimal (w .count) ∷ [])) text n
-        → PutsText before at (findingsIn (accept f)) text n
+    pub findings-holds : w .number ≡ 0 → (w .verdict ≡ Fails → ⊥) → {text : List ℕ} {at : ℕ} {after : List ℕ} {n : ℕ}
+        → PutsText text at (line verdictWord (holdsWord ∷ decimal (w .count) ∷ [])) after n
+        → PutsText text at (findingsOf a) after n
     findings-holds clean no-failure puts = puts-same (sym (holds-case shows clean no-failure)) puts
 
-    fails-case : Shows a w after buffer → w .verdict ≡ Fails
-        → (w .length ≤ length after) × FailingParts f t list w (take (w .length) after)
+    fails-case : Shows a w path → w .verdict ≡ Fails
+        → (w .length ≤ length path) × FailingParts a t list w (take (w .length) path)
     unfolding refusal verdictOf
     fails-case (undecided is found) failure =
         let clash : None ≡ Fails = sym (ap (λ (x : WalkAnswer). x .verdict) is) ∙ failure in
@@ -156,11 +138,8 @@ module _ {f : File} {t : Table} {list : JobList} (p : PartsOf f t list) where
         let clash : Holds ≡ Fails = sym (ap (λ (x : WalkAnswer). x .verdict) is) ∙ failure in
         absurd (let z : _≡_ {A = ℕ} 0 1 = cc in omega arith)
     fails-case (fails found e d is held) failure =
-        let short = walk-short ok found e in
-        let size : w .length ≡ length (found .bytes) = ap (λ (x : WalkAnswer). x .length) is in
-        let bytes : take (w .length) after ≡ found .bytes =
-        ap₂ (λ (n : ℕ) (l : List ℕ). take n l) size held ∙ fill-keeps orderRoom (found .bytes) buffer short in (
-          omega (arith, ap (λ (l : List ℕ). length l) bytes, length-take (w .length) after),
+        let size : w .length ≡ length (found .bytes) = ap (λ (x : WalkAnswer). x .length) is in (
+          omega (arith, size, ap (λ (l : List ℕ). length l) held, length-take (w .length) path),
           record {
             parts = p;
             shown = found;
@@ -168,12 +147,13 @@ module _ {f : File} {t : Table} {list : JobList} (p : PartsOf f t list) where
             decides = d;
             count = ap (λ (x : WalkAnswer). x .count) is;
             failed = ap (λ (x : WalkAnswer). x .failed) is;
-            bytes = bytes;
+            bytes = held;
           },
         )
 
-    -- a failure: the order that the buffer shows
-    pub findings-fail : w .verdict ≡ Fails → (w .length ≤ length after) × FailingParts f t list w (take (w .length) after)
+    -- a failure: the order at the front of the path
+    pub findings-fail : w .verdict ≡ Fails
+        → (w .length ≤ length path) × FailingParts a t list w (take (w .length) path)
     findings-fail failure = fails-case shows failure
 
 -- ---- the lines of a failing order
@@ -202,54 +182,45 @@ failed-numbers a flags =
     (only-of-map job (λ (x : Job). getD flags (x .0) false) (upTo (length (a .jobs))))
     ∙ map-map (λ (x : Job). decimal (x .0)) job kept)
 
-module _ {f : File} {t : Table} {list : JobList} {w : WalkAnswer} {order : List ℕ} (p : FailingParts f t list w order) where
-  -- its order turns into its plan
-  pub failing-order : OrderParts f t list order
-  failing-order =
-      let a = p .parts .found in
-      let ok = file-accepted f (p .parts .accepted) in
-      let ends = walk-first ok (p .shown) (p .fails) .failing .complete in
-      subst (OrderParts f t list) (sym (p .bytes))
-      (record { parts = p .parts; end = p .shown .ending; gives = order-turns ok ends })
+module _ {a : Accepted} {t : Table} {list : JobList} {w : WalkAnswer} {order : List ℕ} (p : FailingParts a t list w order) where
+  -- it is complete
+  failing-ends : OrderEnds a order (p .shown .ending)
+  failing-ends =
+      subst (λ (l : List ℕ). OrderEnds a l (p .shown .ending)) (sym (p .bytes))
+      (walk-first (p .parts .accepted) (p .shown) (p .fails) .failing .complete)
 
   failed-are : line failedWord (map decimal (only (λ x. getD (w .failed) x false) (upTo (list .count))))
-      ≡ failedLine (p .parts .found) (p .shown)
+      ≡ failedLine a (p .shown)
   unfolding failedLine jobListOf
   failed-are =
-      let a = p .parts .found in
       let count : list .count ≡ length (a .jobs) = ap (λ (l : JobList). l .count) (p .parts .listed) in
       ap₂ (λ (flags : List Bool) (k : ℕ). line failedWord (map decimal (only (λ x. getD flags x false) (upTo k))))
       (p .failed) count
       ∙ ap (line failedWord) (failed-numbers a (p .shown .ending .failed))
 
-  failure-is : {marks : List ℕ} → MarksOf f list order marks
+  failure-is : {marks : List ℕ} → MarksOf t list order marks
       → ((line verdictWord (failsWord ∷ decimal (w .count) ∷ []) ++ orderLine order)
       ++ line failedWord (map decimal (only (λ x. getD (w .failed) x false) (upTo (list .count)))))
       ++ each (upTo (list .count)) (jobLine marks)
-      ≡ findingsIn (accept f)
-  unfolding findings verdictLines roundsText
+      ≡ findingsOf a
+  unfolding findings findingsOf verdictLines
   failure-is {marks} marked =
-      let a = p .parts .found in
       let verdict : ℕ → Text = λ n. line verdictWord (failsWord ∷ decimal n ∷ []) in
       let flags = line failedWord (map decimal (only (λ x. getD (w .failed) x false) (upTo (list .count)))) in
-      ap (λ (l : Text). ((verdict (w .count) ++ orderLine order) ++ flags) ++ l)
-      (sym (marked .rounds)
-      ∙ ap (λ (c : Checked ℕ Accepted). roundsText c order) (p .parts .accepted))
-      ∙ ap (λ (l : Text). ((verdict (w .count) ++ orderLine order) ++ l) ++ roundsText (passed a) order) failed-are
-      ∙ ap₂
-      (λ (n : ℕ) (l : List ℕ). ((verdict n ++ orderLine l) ++ failedLine a (p .shown)) ++ roundsText (passed a) l)
+      let rounds : List ℕ → Text = λ l. roundsLines a (legalRun a (planOf a l)) in
+      ap (λ (l : Text). ((verdict (w .count) ++ orderLine order) ++ flags) ++ l) (sym (marked .rounds a (p .parts) failing-ends))
+      ∙ ap (λ (l : Text). ((verdict (w .count) ++ orderLine order) ++ l) ++ rounds order) failed-are
+      ∙ ap₂ (λ (n : ℕ) (l : List ℕ). ((verdict n ++ orderLine l) ++ failedLine a (p .shown)) ++ rounds l)
       (p .count) (p .bytes)
-      ∙ sym (found-in (p .parts)
-      ∙ ap (findings a) (p .decides)
-      ∙ ap (verdictLines a (walk a .count)) (p .fails))
+      ∙ sym (ap (findings a) (p .decides) ∙ ap (verdictLines a (walk a .count)) (p .fails))
 
-  pub failure-put : {marks : List ℕ} → MarksOf f list order marks → {before : List ℕ} {at : ℕ} {one : List ℕ} {l : ℕ}
-      {two : List ℕ} {m : ℕ} {three : List ℕ} {k : ℕ} {after : List ℕ} {n : ℕ} → 4608 ≤ length before
-      → PutsText before at (line verdictWord (failsWord ∷ decimal (w .count) ∷ [])) one l
-      → PutsText one l (orderLine order) two m
-      → PutsText two m (line failedWord (map decimal (only (λ x. getD (w .failed) x false) (upTo (list .count))))) three k
-      → PutsText three k (each (upTo (list .count)) (jobLine marks)) after n
-      → PutsText before at (findingsIn (accept f)) after n
-  failure-put marked enough first second third fourth =
-      puts-same (failure-is marked)
-      (appends-more enough (appends-more enough (appends-more enough first second) third) fourth)
+-- the four lines one after the other
+pub failure-put : {t : Table} {list : JobList} {w : WalkAnswer} {order marks : List ℕ} → MarksOf t list order marks
+    → {before : List ℕ} {at : ℕ} {one : List ℕ} {l : ℕ} {two : List ℕ} {m : ℕ} {three : List ℕ} {k : ℕ}
+    {after : List ℕ} {n : ℕ} → PutsText before at (line verdictWord (failsWord ∷ decimal (w .count) ∷ [])) one l
+    → PutsText one l (orderLine order) two m
+    → PutsText two m (line failedWord (map decimal (only (λ x. getD (w .failed) x false) (upTo (list .count))))) three k
+    → PutsText three k (each (upTo (list .count)) (jobLine marks)) after n
+    → PutsFailure t list w order before at after n
+failure-put marked first second third fourth a p =
+    puts-same (failure-is p marked) (puts-more (puts-more (puts-more first second) third) fourth)

@@ -1,43 +1,40 @@
--- Laws of the marks of an order's plan: the plan stands whole in its buffer, its check passes, and the marks that the
+-- Laws of the marks of an order's plan: the plan stands whole in its array, its check passes, and the marks that the
 -- check leaves hold the rounds of its run.
 -- Assumes nothing.
-use mathlib.Core.Path.{_≡_, sym, ap, ap₂, subst, _∙_}
+use mathlib.Core.Path.{_≡_, sym, ap, subst, _∙_}
 use Prim.Native.Nat.{ℕ, _≤_, _<_}
 use native.Mathlib.Omega.{arith}
 use mathlib.Core.List.{List, [], _∷_, map}
-use lib.ListN.{length, getD, take, replicate, length-take, length-replicate}
-use borrow.Author.Tests.{le-leb}
-use Rattle.notation.specs.Checked.{Checked, passed}
-use Rattle.notation.specs.Laws.CheckedLaws.{bind-goes, require-holds}
+use lib.ListN.{length, getD, take, replicate, length-replicate}
+use Rattle.notation.specs.Checked.{passed}
 use Rattle.notation.specs.Laws.ElementLaws.{each-same}
 use Rattle.notation.specs.Laws.ListLaws.{each-map}
 use Rattle.notation.specs.Laws.TabulateLaws.{values-at}
 use Rattle.notation.specs.Lists.{upTo, each}
-use Rattle.taskfile.specs.Records.{File}
+use Rattle.notation.specs.Texts.{decimal, line}
 use Rattle.taskfile.specs.declared.Table.{Table}
 use Rattle.timing.specs.Accepted.{Accepted}
 use Rattle.timing.specs.Code.JobParts.{jobListOf}
-use Rattle.timing.specs.Laws.AcceptedLaws.{file-accepted}
 use Rattle.timing.specs.Relations.{jobNumbers}
 use Rattle.timing.specs.declared.JobList.{JobList}
-use Rattle.machine.specs.Buffers.{runAnswer}
-use Rattle.machine.specs.declared.RunAnswer.{RunAnswer}
+use Rattle.machine.specs.Buffers.{planRoom}
+use Rattle.machine.specs.Ends.{End}
+use Rattle.order.specs.Orders.{OrderEnds}
 use Rattle.plan.specs.Legality.{stepsOf, roundsOf}
-use Rattle.plan.specs.Plans.{legalRun, PlanEnds}
+use Rattle.plan.specs.Plans.{legalRun}
 use Rattle.plan.specs.Runs.{Step, JobRuns, jobTotal}
 use Rattle.plan.specs.declared.Round.{Round}
-use Rattle.matching.specs.ConversionEntries.{plannedOrder, orderToPlanAnswer, orderToPlanAfter}
-use Rattle.matching.specs.Conversions.{planOf, orderToPlan}
-use Rattle.matching.specs.Demand3.{Demand3}
-use Rattle.matching.specs.Laws.Demand3Laws.{demand3}
-use Rattle.matching.specs.Laws.WrittenLaws.{plan-stands}
+use Rattle.matching.specs.Conversions.{planOf}
+use Rattle.matching.specs.Laws.ConversionLaws.{order-legal}
+use Rattle.matching.specs.Laws.FitsLaws.{fill-keeps}
 use Rattle.plan_marks.specs.Code.Marks.{stepsMarked, roundsIn, stepsIn}
 use Rattle.plan_marks.specs.Code.TableParts.{PlanCheckedAs, PlanCheckedOf}
 use Rattle.plan_marks.specs.declared.PlanChecked.{PlanChecked}
+use Rattle.matching_plans.specs.Code.PlanWritten.{PlanWritten}
 use Rattle.sheets.specs.Sheets.{roundsLine, roundsLines}
-use Rattle.sheets.specs.Texts.{decimal, line, jobWord, roundsWord}
+use Rattle.sheets.specs.SheetWords.{jobWord, roundsWord}
 use Rattle.sheets_lines.specs.Code.LineParts.{jobLine}
-use Rattle.sheets_lines.specs.Code.SheetParts.{roundsText, OrderParts, MarksOf}
+use Rattle.sheets_lines.specs.Code.SheetParts.{PartsOf, MarksOf}
 
 -- ---- the lines of a run
 
@@ -60,62 +57,30 @@ module _ (a : Accepted) (runs : JobRuns) (marks : List ℕ) (held : runs .steps 
       each-map (λ n. record { 0 = n }) (upTo (jobTotal a)) (roundsLine runs)
       ∙ each-same (jobTotal a) (λ x. roundsLine runs (record { 0 = x })) (jobLine marks) line-marked
 
--- ---- the plan in its buffer
+-- ---- the plan in its array
 
 -- the array that a plan is written into
-pub plan-room : 1281 ≤ length (replicate {A = ℕ} 1281 0)
-plan-room = omega (arith, length-replicate {A = ℕ} 1281 0)
+pub plan-room : planRoom ≤ length (replicate {A = ℕ} planRoom 0)
+plan-room = omega (arith, length-replicate {A = ℕ} planRoom 0)
 
-module _ {f : File} {t : Table} {list : JobList} {order : List ℕ} (p : OrderParts f t list order) (buffer : List ℕ)
-    (room : 1281 ≤ length buffer) {planned : RunAnswer} (answers : planned ≡ orderToPlanAnswer f order buffer) where
-  abbrev a : Accepted
-  a = p .parts .found
+module _ {t : Table} {list : JobList} {order before after : List ℕ} {n : ℕ} (written : PlanWritten t list order before after n) where
+  -- a complete order's plan stands whole in it
+  plan-held : {a : Accepted} → PartsOf a t list → {e : End} → OrderEnds a order e → take n after ≡ planOf a order
+  plan-held {a} p ends =
+      let made = written .written a (p .accepted) (p .table) (p .listed) (ends .after) (ends .complete) in
+      let short : length (planOf a order) ≤ planRoom = omega (arith, made .0, written .fits) in
+      (λ j. take (made .0 j) (made .1 j)) ∙ fill-keeps planRoom (planOf a order) before short
 
-  abbrev demand : Demand3 a
-  demand = demand3 f a (p .parts .accepted)
-
-  comes : plannedOrder f order buffer ≡ passed (record { ending = p .end; bytes = planOf a order })
-  unfolding plannedOrder
-  comes =
-      bind-goes _ (p .parts .accepted)
-      ∙ require-holds _ 20 0 (orderToPlan a order) (le-leb 1281 (length buffer) room)
-      ∙ p .gives
-
-  size : planned .length ≡ length (planOf a order)
-  unfolding orderToPlanAnswer runAnswer
-  size = ap (λ (x : RunAnswer). x .length) (answers ∙ ap runAnswer comes)
-
-  module _ {after : List ℕ} (leaves : after ≡ orderToPlanAfter f order buffer) where
-    -- and stands whole in it
-    plan-held : take (planned .length) after ≡ planOf a order
-    plan-held =
-        ap₂ (λ (x : RunAnswer) (l : List ℕ). take (x .length) l) answers leaves
-        ∙ plan-stands f (p .parts .accepted) buffer order (planOf a order) (p .end) room (p .gives)
-
-    pub planned-inside : planned .length ≤ length after
-    planned-inside =
-        let held : length (take (planned .length) after) ≡ length (planOf a order) = ap length plan-held in
-        omega (arith, size, held, length-take (planned .length) after)
-
-    legal : PlanEnds a (planOf a order) (p .end)
-    legal =
-        demand .plans (planOf a order) (p .end) .0
-        (order, demand .order-back order (planOf a order) (p .end) (p .gives))
-
-    pub plan-marked : {r : PlanChecked} → PlanCheckedOf t list (take (planned .length) after) r
-        → MarksOf f list order (r .marks)
-    unfolding roundsText jobListOf jobTotal
-    plan-marked {r} checked =
-        let checks = checked .checks a (file-accepted f (p .parts .accepted)) (p .parts .table) (p .parts .listed) in
-        let same : legalRun a (take (planned .length) after) ≡ passed (legal .runs) =
-        ap (legalRun a) plan-held ∙ legal .legal in
-        let held = subst (PlanCheckedAs a r) same checks in
-        let count : jobTotal a ≡ list .count = sym (ap (λ (l : JobList). l .count) (p .parts .listed)) in
-        record {
-          isMarks = checked .isMarks;
-          rounds =
-              ap (λ (c : Checked ℕ Accepted). roundsText c order) (p .parts .accepted)
-              ∙ ap (roundsLines a) (legal .legal)
-              ∙ lines-marked a (legal .runs) (r .marks) (held .2)
-              ∙ ap (λ (n : ℕ). each (upTo n) (jobLine (r .marks))) count;
-        }
+  pub plan-marked : {r : PlanChecked} → PlanCheckedOf t list (take n after) r → MarksOf t list order (r .marks)
+  unfolding jobListOf jobTotal
+  plan-marked {r} checked = record {
+    isMarks = checked .isMarks;
+    rounds = λ a p {e} ends.
+        (let legal = order-legal (p .accepted) ends in
+        let same : legalRun a (take n after) ≡ passed (legal .runs) = ap (legalRun a) (plan-held p ends) ∙ legal .legal in
+        let held = subst (PlanCheckedAs a r) same (checked .checks a (p .accepted) (p .table) (p .listed)) in
+        let count : jobTotal a ≡ list .count = sym (ap (λ (l : JobList). l .count) (p .listed)) in
+        ap (roundsLines a) (legal .legal)
+        ∙ lines-marked a (legal .runs) (r .marks) (held .2)
+        ∙ ap (λ (k : ℕ). each (upTo k) (jobLine (r .marks))) count);
+  }

@@ -5,12 +5,12 @@ use Prim.Native.Nat.{ℕ, _≤_, _<_}
 use native.Mathlib.Omega.{arith}
 use mathlib.Core.List.{List, [], _∷_, _++_}
 use lib.Dec.{leb}
-use lib.ListN.{length, drop}
-use lib.Seq.{take-all}
+use lib.ListN.{length}
 use borrow.Author.Tests.{le-leb, lt-leb}
 use Rattle.notation.specs.Checked.{Checked, refused, passed}
 use Rattle.notation.specs.Laws.CheckedLaws.{require-holds, require-fails}
 use Rattle.notation.specs.Lists.{upTo, each}
+use Rattle.notation.specs.Texts.{Text, decimal, line}
 use Rattle.taskfile.specs.Code.JudgingParts.{Shaped}
 use Rattle.taskfile.specs.Judgement.{taskNumbers}
 use Rattle.taskfile.specs.Laws.JudgingLaws.{tasks-length}
@@ -29,13 +29,14 @@ use Rattle.timing.specs.Laws.JobFacts.{jobs-few}
 use Rattle.timing.specs.declared.AcceptAnswer.{AcceptAnswer}
 use Rattle.timing.specs.declared.JobList.{JobList}
 use Rattle.plan.specs.Runs.{jobTotal}
-use Rattle.notation_buffers.specs.Laws.WritingLaws.{appends-more, appends-count, appends-within}
+use Rattle.notation_buffers.specs.Laws.WritingLaws.{appends-count, appends-front}
 use Rattle.sheets.specs.Laws.SheetSizes.{sheet-fits}
 use Rattle.sheets.specs.Sheets.{refusedLine, totalsLine, taskLine, findings, tableSheet, sheetFrom, sheetOf}
-use Rattle.sheets.specs.Sheets.{printed, sheetAnswerOf, sheetAfterOf, sheetAnswer, sheetAfter}
-use Rattle.sheets.specs.Texts.{Text, decimal, line, tasksWord, jobsWord}
-use Rattle.sheets_printing.specs.Laws.LineLaws.{PutsText, puts-same}
-use Rattle.sheets_lines.specs.Code.SheetParts.{taskText, findingsIn, PartsOf}
+use Rattle.sheets.specs.Sheets.{sheetRoom, printed, sheetAnswerOf, sheetAfterOf, sheetAnswer, sheetAfter}
+use Rattle.sheets.specs.SheetWords.{tasksWord, jobsWord}
+use Rattle.sheets_printing.specs.Code.Puts.{PutsText}
+use Rattle.sheets_printing.specs.Laws.LineLaws.{puts-same, puts-more}
+use Rattle.sheets_lines.specs.Code.SheetParts.{taskText, PartsOf, Parts, findingsOf, PutsFindings}
 use Rattle.sheets_lines.specs.Laws.TaskLines.{accepted-timeable, task-lines-held}
 
 -- ---- the sheet
@@ -73,8 +74,11 @@ module _ (f : File) (x : AcceptAnswer) (says : AcceptedAs x (accept f)) where
     unfolding jobTotal
     jobs-within-room = omega (arith, count, jobs-few (ok .isTimed))
 
-    pub parts-of : PartsOf f (x .table) (x .list)
-    parts-of = record { found = a; accepted = found .1; table = found .2 .table; listed = found .2 .list }
+    parts-of : PartsOf a (x .table) (x .list)
+    parts-of = record { accepted = ok; table = found .2 .table; listed = found .2 .list }
+
+    pub some-parts : Parts (x .table) (x .list)
+    some-parts = (a, parts-of)
 
     totals-are : line tasksWord (decimal (x .table .tasks) ∷ jobsWord ∷ decimal (x .list .count) ∷ []) ≡ totalsLine a
     unfolding totalsLine
@@ -84,53 +88,48 @@ module _ (f : File) (x : AcceptAnswer) (says : AcceptedAs x (accept f)) where
         ap₂ (λ (n k : ℕ). line tasksWord (decimal n ∷ jobsWord ∷ decimal k ∷ [])) tasks count
 
     sheet-is : (line tasksWord (decimal (x .table .tasks) ∷ jobsWord ∷ decimal (x .list .count) ∷ [])
-        ++ each (upTo (x .table .tasks)) (taskText (x .table) (x .responses))) ++ findingsIn (accept f)
+        ++ each (upTo (x .table .tasks)) (taskText (x .table) (x .responses))) ++ findingsOf a
         ≡ sheetOf f
-    unfolding sheetOf sheetFrom tableSheet findingsIn
+    unfolding sheetOf sheetFrom tableSheet findingsOf
     sheet-is =
-        ap₂ (λ (k l : Text). (k ++ l) ++ findingsIn (accept f)) totals-are (task-lines-held (found .2) timeable)
-        ∙ ap (λ (l : Text). (totalsLine a ++ each (taskNumbers (a .table)) (taskLine a)) ++ l)
-        (ap findingsIn (found .1))
+        ap₂ (λ (k l : Text). (k ++ l) ++ findingsOf a) totals-are (task-lines-held (found .2) timeable)
         ∙ sym (ap sheetFrom (found .1))
 
     -- an accepted file's sheet: totals, tasks, findings
     pub sheet-put : {before : List ℕ} {one : List ℕ} {l : ℕ} {two : List ℕ} {m : ℕ} {after : List ℕ} {n : ℕ}
-        → 4608 ≤ length before
         → PutsText before 0 (line tasksWord (decimal (x .table .tasks) ∷ jobsWord ∷ decimal (x .list .count) ∷ [])) one l
         → PutsText one l (each (upTo (x .table .tasks)) (taskText (x .table) (x .responses))) two m
-        → PutsText two m (findingsIn (accept f)) after n → PutsText before 0 (sheetOf f) after n
-    sheet-put enough first second third =
-        puts-same sheet-is (appends-more enough (appends-more enough first second) third)
+        → PutsFindings (x .table) (x .list) two m after n → PutsText before 0 (sheetOf f) after n
+    sheet-put first second third = puts-same sheet-is (puts-more (puts-more first second) (third a parts-of))
 
 -- ---- the entry
 
 module _ (f : File) (text : List ℕ) where
   -- a text that may be too short stays as it was
-  pub sheet-no-room : length text < 4608
+  pub sheet-no-room : length text < sheetRoom
       → (record { number = 20; place = 0; length = 0 } ≡ sheetAnswer f text) × (text ≡ sheetAfter f text)
   unfolding sheetAnswer sheetAnswerOf sheetAfter sheetAfterOf printed
   sheet-no-room short =
-      let is = require-fails {P = ℕ} (leb 4608 (length text)) 20 0 (passed (sheetOf f)) (lt-leb 4608 (length text) short) in
+      let is =
+      require-fails {P = ℕ} (leb sheetRoom (length text)) 20 0 (passed (sheetOf f)) (lt-leb sheetRoom (length text) short) in
       (sym (ap sheetAnswerOf is), sym (ap (λ (c : Checked ℕ Text). sheetAfterOf c text) is))
 
-  module _ (enough : 4608 ≤ length text) {after : List ℕ} {n : ℕ} (puts : PutsText text 0 (sheetOf f) after n) where
-    -- the sheet's length fits the answer
-    pub sheet-within : n ≤ 4608
-    sheet-within = appends-within puts (omega arith)
+  module _ (enough : sheetRoom ≤ length text) {after : List ℕ} {n : ℕ} (puts : PutsText text 0 (sheetOf f) after n) where
+    -- the sheet is within its room, and so within the text
+    fits : length (sheetOf f) ≤ length text
+    fits = omega (arith, sheet-fits f)
 
     counted : n ≡ length (sheetOf f)
-    counted = appends-count puts (sheet-fits f)
+    counted = appends-count puts fits
 
-    stands : after ≡ sheetOf f ++ drop (length (sheetOf f)) text
-    stands =
-        puts .is
-        ∙ ap (λ (l : List ℕ). l ++ drop n text) (take-all 4608 (sheetOf f) (sheet-fits f))
-        ∙ ap (λ (k : ℕ). sheetOf f ++ drop k text) counted
+    pub sheet-within : n ≤ sheetRoom
+    sheet-within = omega (arith, counted, sheet-fits f)
 
     pub sheet-answers : (record { number = 0; place = 0; length = n } ≡ sheetAnswer f text) × (after ≡ sheetAfter f text)
     unfolding sheetAnswer sheetAnswerOf sheetAfter sheetAfterOf printed
     sheet-answers =
-        let is = require-holds {P = ℕ} (leb 4608 (length text)) 20 0 (passed (sheetOf f)) (le-leb 4608 (length text) enough) in (
+        let is =
+        require-holds {P = ℕ} (leb sheetRoom (length text)) 20 0 (passed (sheetOf f)) (le-leb sheetRoom (length text) enough) in (
           ap (λ (k : ℕ). record { number = 0; place = 0; length = k }) counted ∙ sym (ap sheetAnswerOf is),
-          stands ∙ sym (ap (λ (c : Checked ℕ Text). sheetAfterOf c text) is),
+          appends-front puts fits ∙ sym (ap (λ (c : Checked ℕ Text). sheetAfterOf c text) is),
         )

@@ -11,6 +11,7 @@ use Rattle.notation.specs.Laws.ElementLaws.{each-same}
 use Rattle.notation.specs.Laws.ListLaws.{each-map}
 use Rattle.notation.specs.Laws.PaddedLaws.{padded-at}
 use Rattle.notation.specs.Lists.{upTo, each, padded}
+use Rattle.notation.specs.Texts.{Text, decimal, line}
 use Rattle.taskfile.specs.Code.JudgingParts.{Shaped}
 use Rattle.taskfile.specs.File.{load, recordAt}
 use Rattle.taskfile.specs.Judgement.{numbered, taskNumbers}
@@ -28,8 +29,8 @@ use Rattle.timing.specs.Laws.JobLaws.{timed-passed}
 use Rattle.timing.specs.Laws.TimeableLaws.{task-read}
 use Rattle.timing.specs.declared.AcceptAnswer.{AcceptAnswer}
 use Rattle.sheets.specs.Sheets.{taskLine}
-use Rattle.sheets.specs.Texts.{Text, decimal, line, taskWord, responseWord, jobsWord}
-use Rattle.sheets_printing.specs.Laws.LineLaws.{PutsText}
+use Rattle.sheets.specs.SheetWords.{taskWord, responseWord, jobsWord}
+use Rattle.sheets_printing.specs.Code.Puts.{PutsText}
 use Rattle.sheets_lines.specs.Code.SheetParts.{taskText}
 
 -- ---- one line

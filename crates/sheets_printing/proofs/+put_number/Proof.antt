@@ -7,12 +7,11 @@ use native.Mathlib.Omega.{arith}
 use borrow.Author.Needs.{needs}
 use borrow.Fn.Kinds.{In}
 use borrow.Fn.PlainCycle.{Measures, is, falls, and}
-use Rattle.notation_buffers.specs.Laws.WritingLaws.{appends-length, appends-more}
-use Rattle.sheets_printing.specs.Laws.LineLaws.{puts-enough, number-one, number-more}
+use Rattle.sheets_printing.specs.Laws.LineLaws.{puts-length, puts-more, number-one, number-more}
 use Rattle.sheets_printing.proofs.put_number.Reads as put-number
 use Rattle.sheets_printing.proofs.put_number.Kinds as put-number-kinds
 use Rattle.sheets_printing.proofs.+put_number.Lts-put_number as put-number-lts
-use Rattle.notation_buffers.proofs.write_byte.Reads as write-byte-reads
+use Rattle.sheets_printing.proofs.put_byte.Reads as put-byte-reads
 use Rattle.sheets_printing.proofs.+put_number.{statement}
 use Rattle.sheets_printing.proofs.+put_number.Tie.{close}
 
@@ -29,7 +28,7 @@ put-number-below t =
 
 -- what the functions called ask and give, a call of `put_number` below the measure t
 abbrev claims : ℕ → put-number-lts.Claims
-claims t = (write-byte-reads.Asked, write-byte-reads.Learnt, put-number-below t, put-number.Post)
+claims t = (put-byte-reads.Asked, put-byte-reads.Learnt, put-number-below t, put-number.Post)
 
 put-number-cast-last : (t : ℕ) → put-number-lts.Need-cast-last (claims t) (put-number-at t) put-number.Post
 put-number-cast-last t c = search needs
@@ -37,36 +36,32 @@ put-number-cast-last t c = search needs
 put-number-add-last : (t : ℕ) → put-number-lts.Need-add-last (claims t) (put-number-at t) put-number.Post
 put-number-add-last t c = search needs
 
-put-number-write-byte-requires : (t : ℕ) → put-number-lts.Need-write-byte-requires (claims t) (put-number-at t) put-number.Post
-put-number-write-byte-requires t c κs = c .before .before .before .pre .1
+put-number-put-byte-requires : (t : ℕ) → put-number-lts.Need-put-byte-requires (claims t) (put-number-at t) put-number.Post
+put-number-put-byte-requires t c κs = search needs
 
 put-number-same-length : (t : ℕ) → put-number-lts.Need-same-length (claims t) (put-number-at t) put-number.Post
 put-number-same-length t c =
-    appends-length (c .before .before .write-byte .ensures)
-    (c .before .before .before .before .before .before .pre .1)
+    puts-length (c .before .before .put-byte .ensures)
 
 put-number-returns : (t : ℕ) → put-number-lts.Need-returns (claims t) (put-number-at t) put-number.Post
-put-number-returns t c = number-one (omega arith) refl (c .before .before .write-byte .ensures)
+put-number-returns t c = number-one (omega arith) refl (c .before .before .put-byte .ensures)
 
 put-number-put-number-requires : (t : ℕ) → put-number-lts.Need-put-number-requires (claims t) (put-number-at t) put-number.Post
 put-number-put-number-requires t c κs = (omega arith, c .before .before .before .pre .1)
 
-put-number-write-byte-requires-2 : (t : ℕ) → put-number-lts.Need-write-byte-requires-2 (claims t) (put-number-at t) put-number.Post
-put-number-write-byte-requires-2 t c κs =
-    puts-enough (c .before .before .before .before .before .before .before .pre .1)
-    (c .before .before .before .put-number .ensures)
+put-number-put-byte-requires-2 : (t : ℕ) → put-number-lts.Need-put-byte-requires-2 (claims t) (put-number-at t) put-number.Post
+put-number-put-byte-requires-2 t c κs = search needs
 
 put-number-same-length-2 : (t : ℕ) → put-number-lts.Need-same-length-2 (claims t) (put-number-at t) put-number.Post
 put-number-same-length-2 t c =
     let first = c .before .before .before .before .before .before in
-    let enough = first .before .before .before .before .pre .1 in
-    appends-length (appends-more enough (first .put-number .ensures) (c .before .before .write-byte2 .ensures)) enough
+    puts-length (puts-more (first .put-number .ensures) (c .before .before .put-byte2 .ensures))
 
 put-number-returns-2 : (t : ℕ) → put-number-lts.Need-returns-2 (claims t) (put-number-at t) put-number.Post
 put-number-returns-2 t c =
     let first = c .before .before .before .before .before .before in
-    number-more (first .before .before .before .before .pre .1) (omega arith) (omega arith) refl
-    (first .put-number .ensures) (c .before .before .write-byte2 .ensures)
+    number-more (omega arith) (omega arith) refl
+    (first .put-number .ensures) (c .before .before .put-byte2 .ensures)
 
 pub +put-number-spec : {M : Type 1} → statement M
 +put-number-spec = close μ-put-number λ t. put-number-lts.spec (claims t)
@@ -74,10 +69,10 @@ pub +put-number-spec : {M : Type 1} → statement M
     put-number.Post
     (put-number-cast-last t)
     (put-number-add-last t)
-    (put-number-write-byte-requires t)
+    (put-number-put-byte-requires t)
     (put-number-same-length t)
     (put-number-returns t)
     (put-number-put-number-requires t)
-    (put-number-write-byte-requires-2 t)
+    (put-number-put-byte-requires-2 t)
     (put-number-same-length-2 t)
     (put-number-returns-2 t)

@@ -2,7 +2,7 @@
 -- Assumes nothing.
 use borrow.Author.Needs.{needs}
 use Rattle.sheets.specs.Sheets.{refusedLine}
-use Rattle.sheets.specs.Texts.{refusedWord}
+use Rattle.sheets.specs.SheetWords.{refusedWord}
 use Rattle.sheets_printing.specs.Laws.LineLaws.{line-begun, line-more, line-ended}
 use Rattle.sheets_printing.proofs.put_refused.Statement.{statement}
 use Rattle.sheets_printing.proofs.put_refused.Tie as tie
@@ -35,7 +35,7 @@ returns c =
     line-ended
     (line-more
     (line-more
-    (line-begun (word .before .before .before .before .pre) (word .put-word .ensures))
+    (line-begun (word .put-word .ensures))
     (first .then-number .ensures))
     (second .then-number2 .ensures))
     (ended .end-line .ensures)

@@ -1,7 +1,7 @@
 -- `sheets_printing::put_task` meets its contract. The words of the line stand one after the other.
 -- Assumes nothing.
 use borrow.Author.Needs.{needs}
-use Rattle.sheets.specs.Texts.{taskWord, responseWord, jobsWord}
+use Rattle.sheets.specs.SheetWords.{taskWord, responseWord, jobsWord}
 use Rattle.sheets_printing.specs.Laws.LineLaws.{line-begun, line-more, line-ended}
 use Rattle.sheets_printing.proofs.put_task.Statement.{statement}
 use Rattle.sheets_printing.proofs.put_task.Tie as tie
@@ -55,7 +55,7 @@ returns c =
     (line-more
     (line-more
     (line-more
-    (line-begun (word .before .before .before .before .pre) (word .put-word .ensures))
+    (line-begun (word .put-word .ensures))
     (first .then-number .ensures))
     (second .then-word .ensures))
     (third .then-number2 .ensures))

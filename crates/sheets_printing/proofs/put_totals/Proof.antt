@@ -1,7 +1,7 @@
 -- `sheets_printing::put_totals` meets its contract. The words of the line stand one after the other.
 -- Assumes nothing.
 use borrow.Author.Needs.{needs}
-use Rattle.sheets.specs.Texts.{tasksWord, jobsWord}
+use Rattle.sheets.specs.SheetWords.{tasksWord, jobsWord}
 use Rattle.sheets_printing.specs.Laws.LineLaws.{line-begun, line-more, line-ended}
 use Rattle.sheets_printing.proofs.put_totals.Statement.{statement}
 use Rattle.sheets_printing.proofs.put_totals.Tie as tie
@@ -42,7 +42,7 @@ returns c =
     (line-more
     (line-more
     (line-more
-    (line-begun (word .before .before .before .before .pre) (word .put-word .ensures))
+    (line-begun (word .put-word .ensures))
     (first .then-number .ensures))
     (second .then-word .ensures))
     (third .then-number2 .ensures))

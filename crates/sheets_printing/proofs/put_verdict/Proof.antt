@@ -1,7 +1,7 @@
 -- `sheets_printing::put_verdict` meets its contract. The words of the line stand one after the other.
 -- Assumes nothing.
 use borrow.Author.Needs.{needs}
-use Rattle.sheets.specs.Texts.{verdictWord}
+use Rattle.sheets.specs.SheetWords.{verdictWord}
 use Rattle.sheets_printing.specs.Laws.LineLaws.{line-begun, line-more, line-ended}
 use Rattle.sheets_printing.proofs.put_verdict.Statement.{statement}
 use Rattle.sheets_printing.proofs.put_verdict.Tie as tie
@@ -34,7 +34,7 @@ returns c =
     line-ended
     (line-more
     (line-more
-    (line-begun (word .before .before .before .before .before .pre) (word .put-word .ensures))
+    (line-begun (word .put-word .ensures))
     (first .then-word .ensures))
     (second .then-number .ensures))
     (ended .end-line .ensures)

@@ -6,10 +6,10 @@ use native.Mathlib.Omega.{arith}
 use mathlib.Core.List.{List}
 use lib.ListN.{length, drop, length-append}
 use Rattle.notation.specs.Checked.{Checked, refused, passed}
+use Rattle.notation.specs.Texts.{Text}
 use Rattle.taskfile.specs.Records.{File}
 use Rattle.sheets.specs.declared.SheetAnswer.{SheetAnswer}
 use Rattle.sheets.specs.Sheets.{printed, sheetAnswerOf, sheetAfterOf, sheetAnswer, sheetAfter}
-use Rattle.sheets.specs.Texts.{Text}
 
 within : (c : Checked ℕ Text) (text : List ℕ) → sheetAnswerOf c .length ≤ length (sheetAfterOf c text)
 unfolding sheetAnswerOf sheetAfterOf

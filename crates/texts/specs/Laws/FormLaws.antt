@@ -17,7 +17,8 @@ use Rattle.notation.specs.Laws.ListLaws.{upTo-member}
 use Rattle.notation.specs.Laws.PairLaws.{every-member}
 use Rattle.notation.specs.Laws.QuantifierLaws.{all-at, first-at, all-getD}
 use Rattle.notation.specs.Laws.TestLaws.{and-both}
-use Rattle.sheets.specs.Texts.{Text, taskWord}
+use Rattle.notation.specs.Texts.{Text}
+use Rattle.sheets.specs.SheetWords.{taskWord}
 use Rattle.texts.specs.declared.Form.{Form}
 use Rattle.texts.specs.declared.Form.the-variants.{WindowLine, StartLine, TaskLine, InstructionLine, LockLine}
 use Rattle.texts.specs.Grammar.{Row, rowOf, operationRows, known, wideField}

@@ -12,7 +12,7 @@ use Rattle.notation.specs.Ordered.{Every}
 use Rattle.notation.specs.Laws.CheckedLaws.{passed-same, require-passed, require-holds}
 use Rattle.notation.specs.Laws.CheckedLaws.{then-passed, bind-passed, bind-goes}
 use Rattle.notation.specs.Laws.TestLaws.{and-both, and-holds, test-holds}
-use Rattle.sheets.specs.Texts.{Text}
+use Rattle.notation.specs.Texts.{Text}
 use Rattle.texts.specs.Grammar.{Line, IsLine, IsText, Spells, rowOf, inOrder, joined, mayCome}
 use Rattle.texts.specs.Grammar.{atTasks, atWindow}
 use Rattle.texts.specs.Reading.{isEmpty, parts, lineRead, linesRead, textRead}

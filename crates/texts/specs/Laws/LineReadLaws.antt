@@ -17,7 +17,7 @@ use Rattle.notation.specs.Ordered.{Every}
 use Rattle.notation.specs.Laws.CheckedLaws.{refused-passed, passed-same, require-holds, then-passed, require-passed}
 use Rattle.notation.specs.Laws.QuantifierLaws.{map-length}
 use Rattle.notation.specs.Laws.TestLaws.{and-both, test-holds}
-use Rattle.sheets.specs.Texts.{Text, decimal, spaced, line}
+use Rattle.notation.specs.Texts.{Text, decimal, spaced, line}
 use Rattle.texts.specs.declared.Form.{Form}
 use Rattle.texts.specs.Grammar.{Line, lineWith, lineText, rowOf, known, fits, mayCome, wideField, IsLine}
 use Rattle.texts.specs.Reading.{isNumeral, valueOf, parts, formNamed, lineRead}

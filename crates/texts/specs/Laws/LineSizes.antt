@@ -12,6 +12,8 @@ use borrow.Author.Tests.{leb-true, ltb-true, eqb-true}
 use Rattle.notation.specs.Laws.ListLaws.{each-append}
 use Rattle.notation.specs.Lists.{if_then_else_, from, upTo, all, each, sum}
 use Rattle.notation.specs.Ordered.{Every}
+use Rattle.notation.specs.Laws.DecimalLaws.{decimal-few}
+use Rattle.notation.specs.Texts.{Text, decimal, spaced, line}
 use Rattle.taskfile.specs.declared.Instruction.{Instruction}
 use Rattle.taskfile.specs.declared.TaskEntry.{TaskEntry}
 use Rattle.taskfile.specs.Judgement.{isEnd}
@@ -19,8 +21,7 @@ use Rattle.taskfile.specs.Laws.RecordLaws.{instruction-ranged}
 use Rattle.taskfile.specs.Records.{Use, unused, most, lockNumber, operationUses, usesOf, fieldInRange}
 use Rattle.taskfile.specs.Records.{instructionInRange}
 use Rattle.taskfile.specs.Tables.{bodyOf, endInstruction}
-use Rattle.sheets.specs.Laws.DecimalLaws.{decimal-few}
-use Rattle.sheets.specs.Texts.{Text, decimal, spaced, line, taskWord}
+use Rattle.sheets.specs.SheetWords.{taskWord}
 use Rattle.writer.specs.declared.Lock.{Lock}
 use Rattle.writer.specs.Values.{Bytes, FitsEntry, ByteFields}
 use Rattle.texts.specs.declared.Form.the-variants.{WindowLine, StartLine, TaskLine, InstructionLine}

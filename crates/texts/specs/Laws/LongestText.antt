@@ -17,6 +17,9 @@ use Rattle.notation.specs.Laws.PairLaws.{every-at, every-imp, every-map}
 use Rattle.notation.specs.Laws.QuantifierLaws.{map-length}
 use Rattle.notation.specs.Lists.{each, sum}
 use Rattle.notation.specs.Ordered.{Every}
+use Rattle.notation.specs.Laws.DecimalLaws.{decimal-few}
+use Rattle.notation.specs.Laws.TextSizes.{each-most}
+use Rattle.notation.specs.Texts.{decimal}
 use Rattle.taskfile.specs.declared.Instruction.{Instruction}
 use Rattle.taskfile.specs.declared.Table.{Table}
 use Rattle.taskfile.specs.declared.Task.{Task}
@@ -36,9 +39,6 @@ use Rattle.timing.specs.Laws.AcceptedLaws.{file-accepted}
 use Rattle.timing.specs.Laws.JobLaws.{timed-passed, responses-found}
 use Rattle.timing.specs.Laws.ResponseLaws.{roundedUp-positive, response-found}
 use Rattle.timing.specs.Response.{IsResponse, roundedUp, tasksAbove, interference, need, demand}
-use Rattle.sheets.specs.Laws.DecimalLaws.{decimal-few}
-use Rattle.sheets.specs.Laws.TextSizes.{each-most}
-use Rattle.sheets.specs.Texts.{decimal}
 use Rattle.writer.specs.declared.Lock.{Lock}
 use Rattle.writer.specs.Claims.{lockArray}
 use Rattle.writer.specs.Values.{Bytes, ByteFields, FitsEntry, Fits}

@@ -12,8 +12,8 @@ use Rattle.notation.specs.Lists.{all}
 use Rattle.notation.specs.Ordered.{Every}
 use Rattle.notation.specs.Laws.QuantifierLaws.{all-append}
 use Rattle.notation.specs.Laws.TestLaws.{and-both, and-holds, or-left, or-nothing}
-use Rattle.sheets.specs.Texts.{Text, digit, decimal}
-use Rattle.sheets.specs.Laws.DecimalLaws.{decimal-digit, decimal-more}
+use Rattle.notation.specs.Texts.{Text, digit, decimal}
+use Rattle.notation.specs.Laws.DecimalLaws.{decimal-digit, decimal-more}
 use Rattle.texts.specs.Grammar.{wideField}
 use Rattle.texts.specs.Reading.{isDigit, isEmpty, isNumeral, valueAfter, valueOf}
 

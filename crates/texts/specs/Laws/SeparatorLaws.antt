@@ -12,7 +12,7 @@ use Rattle.notation.specs.Lists.{if_then_else_, all, member}
 use Rattle.notation.specs.Ordered.{Every}
 use Rattle.notation.specs.Laws.MemberLaws.{member-append, member-later}
 use Rattle.notation.specs.Laws.TestLaws.{and-both, or-neither}
-use Rattle.sheets.specs.Texts.{Text, spaced}
+use Rattle.notation.specs.Texts.{Text, spaced}
 use Rattle.texts.specs.Reading.{begins, parts}
 
 -- parts with a separator between two of them

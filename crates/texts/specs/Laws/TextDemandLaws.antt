@@ -13,7 +13,7 @@ use Rattle.notation.specs.Laws.CheckedLaws.{passed-same, bind-passed, bind-goes
 use Rattle.notation.specs.Laws.CheckedLaws.{require-holds, placed-passed}
 use Rattle.notation.specs.Laws.NumberedLaws.{Numbered, bind-numbered, then-numbered, require-numbered, placed-numbered}
 use Rattle.notation.specs.Laws.PairLaws.{every-at}
-use Rattle.sheets.specs.Texts.{Text}
+use Rattle.notation.specs.Texts.{Text}
 use Rattle.taskfile.specs.declared.Table.{Table}
 use Rattle.taskfile.specs.declared.TaskEntry.{TaskEntry}
 use Rattle.taskfile.specs.Chains.{Chains, chainsOf}

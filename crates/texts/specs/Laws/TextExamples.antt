@@ -4,8 +4,12 @@ use mathlib.Core.Path.{_≡_, refl}
 use mathlib.Core.List.{[], _∷_}
 use Rattle.notation.specs.Checked.{refused, passed, require, given, placedBy, _>>=_, _>>_}
 use Rattle.notation.specs.Lists.{if_then_else_, upTo, from, all, firstWith, firstOr, same, each, bytesAt, padded}
-use Rattle.sheets.specs.Texts.{digit, digits, decimal, spaced, line, taskWord}
-use Rattle.taskfile.specs.Records.{tidyInstruction, fieldsInRange, choiceInRange, instructionInRange, usesOf, operationUses}
+use Rattle.notation.specs.Letters.{space, newline, d0, d1, d2, d3, d4, d5, d6, d7, d9, a, c, d, e, i}
+use Rattle.notation.specs.Letters.{k, l, n, o, p, r, s, t, w}
+use Rattle.notation.specs.Texts.{digit, digits, decimal, spaced, line}
+use Rattle.sheets.specs.SheetWords.{taskWord}
+use Rattle.taskfile.specs.Records.{tidyInstruction, fieldsInRange, choiceInRange, instructionInRange}
+use Rattle.taskfile.specs.Records.{usesOf, operationUses}
 use Rattle.taskfile.specs.Records.{tidyField, fieldInRange}
 use Rattle.taskfile.specs.Tables.{tasksOf, bodyOf, noTask, emptyTable}
 use Rattle.writer.specs.Claims.{claimed, claimedTasks, claimedBody, lockByLock, claimedLocks}
@@ -36,14 +40,15 @@ unfolding textRead linesRead lineRead formNamed forms valueOf valueAfter isNumer
 opened = tt
 
 -- the lines of a table with two tasks and a lock
-pub small-text : textOf (small 5 2 1) ≡ (119 ∷ 105 ∷ 110 ∷ 100 ∷ 111 ∷ 119 ∷ 32 ∷ 53 ∷ 10
-    ∷ 115 ∷ 116 ∷ 97 ∷ 114 ∷ 116 ∷ 32 ∷ 57 ∷ 32 ∷ 48 ∷ 32 ∷ 48 ∷ 32 ∷ 48 ∷ 32 ∷ 48 ∷ 32 ∷ 48 ∷ 32 ∷ 48 ∷ 32 ∷ 48 ∷ 10
-    ∷ 116 ∷ 97 ∷ 115 ∷ 107 ∷ 32 ∷ 50 ∷ 32 ∷ 50 ∷ 54 ∷ 48 ∷ 32 ∷ 48 ∷ 10
-    ∷ 115 ∷ 101 ∷ 116 ∷ 32 ∷ 48 ∷ 32 ∷ 49 ∷ 10
-    ∷ 101 ∷ 110 ∷ 100 ∷ 10
-    ∷ 116 ∷ 97 ∷ 115 ∷ 107 ∷ 32 ∷ 49 ∷ 32 ∷ 52 ∷ 32 ∷ 49 ∷ 10
-    ∷ 101 ∷ 110 ∷ 100 ∷ 10
-    ∷ 108 ∷ 111 ∷ 99 ∷ 107 ∷ 32 ∷ 49 ∷ 32 ∷ 54 ∷ 54 ∷ 48 ∷ 53 ∷ 49 ∷ 10 ∷ [])
+pub small-text : textOf (small 5 2 1) ≡ (w ∷ i ∷ n ∷ d ∷ o ∷ w ∷ space ∷ d5 ∷ newline
+    ∷ s ∷ t ∷ a ∷ r ∷ t ∷ space ∷ d9 ∷ space ∷ d0 ∷ space ∷ d0 ∷ space ∷ d0 ∷ space ∷ d0 ∷ space ∷ d0 ∷ space
+    ∷ d0 ∷ space ∷ d0 ∷ newline
+    ∷ t ∷ a ∷ s ∷ k ∷ space ∷ d2 ∷ space ∷ d2 ∷ d6 ∷ d0 ∷ space ∷ d0 ∷ newline
+    ∷ s ∷ e ∷ t ∷ space ∷ d0 ∷ space ∷ d1 ∷ newline
+    ∷ e ∷ n ∷ d ∷ newline
+    ∷ t ∷ a ∷ s ∷ k ∷ space ∷ d1 ∷ space ∷ d4 ∷ space ∷ d1 ∷ newline
+    ∷ e ∷ n ∷ d ∷ newline
+    ∷ l ∷ o ∷ c ∷ k ∷ space ∷ d1 ∷ space ∷ d6 ∷ d6 ∷ d0 ∷ d5 ∷ d1 ∷ newline ∷ [])
 unfolding opened
 small-text = refl
 
@@ -58,39 +63,39 @@ unfolding opened
 text-none = refl
 
 -- the start values are missing
-pub text-start-missing : textRead (119 ∷ 105 ∷ 110 ∷ 100 ∷ 111 ∷ 119 ∷ 32 ∷ 49 ∷ 10 ∷ []) ≡ refused 60 1
+pub text-start-missing : textRead (w ∷ i ∷ n ∷ d ∷ o ∷ w ∷ space ∷ d1 ∷ newline ∷ []) ≡ refused 60 1
 unfolding opened
 text-start-missing = refl
 
 -- a leading zero
-pub text-zero-led : textRead (119 ∷ 105 ∷ 110 ∷ 100 ∷ 111 ∷ 119 ∷ 32 ∷ 48 ∷ 49 ∷ 10 ∷ []) ≡ refused 60 0
+pub text-zero-led : textRead (w ∷ i ∷ n ∷ d ∷ o ∷ w ∷ space ∷ d0 ∷ d1 ∷ newline ∷ []) ≡ refused 60 0
 unfolding opened
 text-zero-led = refl
 
 -- no newline at the end
-pub text-newline-missing : textRead (119 ∷ 105 ∷ 110 ∷ 100 ∷ 111 ∷ 119 ∷ 32 ∷ 49 ∷ []) ≡ refused 60 0
+pub text-newline-missing : textRead (w ∷ i ∷ n ∷ d ∷ o ∷ w ∷ space ∷ d1 ∷ []) ≡ refused 60 0
 unfolding opened
 text-newline-missing = refl
 
 -- a number too large, and nothing after it
-pub text-large-first : textRead (119 ∷ 105 ∷ 110 ∷ 100 ∷ 111 ∷ 119 ∷ 32
-    ∷ 52 ∷ 50 ∷ 57 ∷ 52 ∷ 57 ∷ 54 ∷ 55 ∷ 50 ∷ 57 ∷ 54 ∷ 10 ∷ []) ≡ refused 61 0
+pub text-large-first : textRead (w ∷ i ∷ n ∷ d ∷ o ∷ w ∷ space
+    ∷ d4 ∷ d2 ∷ d9 ∷ d4 ∷ d9 ∷ d6 ∷ d7 ∷ d2 ∷ d9 ∷ d6 ∷ newline ∷ []) ≡ refused 61 0
 unfolding opened
 text-large-first = refl
 
 -- 60 before 61 on a line
-pub text-large-words : textRead (119 ∷ 105 ∷ 110 ∷ 100 ∷ 111 ∷ 119 ∷ 32
-    ∷ 52 ∷ 50 ∷ 57 ∷ 52 ∷ 57 ∷ 54 ∷ 55 ∷ 50 ∷ 57 ∷ 54 ∷ 32 ∷ 49 ∷ 10 ∷ []) ≡ refused 60 0
+pub text-large-words : textRead (w ∷ i ∷ n ∷ d ∷ o ∷ w ∷ space
+    ∷ d4 ∷ d2 ∷ d9 ∷ d4 ∷ d9 ∷ d6 ∷ d7 ∷ d2 ∷ d9 ∷ d6 ∷ space ∷ d1 ∷ newline ∷ []) ≡ refused 60 0
 unfolding opened
 text-large-words = refl
 
 -- document 02, E7: a Pick's line has c too, "so an old text's `pick` line with two numbers earns 60"
-pub pick-three : lineRead 4 inBody (112 ∷ 105 ∷ 99 ∷ 107 ∷ 32 ∷ 48 ∷ 32 ∷ 54 ∷ 32 ∷ 51 ∷ [])
+pub pick-three : lineRead 4 inBody (p ∷ i ∷ c ∷ k ∷ space ∷ d0 ∷ space ∷ d6 ∷ space ∷ d3 ∷ [])
     ≡ passed (lineWith (InstructionLine 8) (0 ∷ 6 ∷ 3 ∷ []))
 unfolding opened
 pick-three = refl
 
-pub pick-two : lineRead 4 inBody (112 ∷ 105 ∷ 99 ∷ 107 ∷ 32 ∷ 48 ∷ 32 ∷ 54 ∷ []) ≡ refused 60 4
+pub pick-two : lineRead 4 inBody (p ∷ i ∷ c ∷ k ∷ space ∷ d0 ∷ space ∷ d6 ∷ []) ≡ refused 60 4
 unfolding opened
 pick-two = refl
 

@@ -14,7 +14,7 @@ use Rattle.notation.specs.Lists.{each}
 use Rattle.notation.specs.Ordered.{Every}
 use Rattle.notation.specs.Laws.CheckedLaws.{refused-passed, require-fails, bind-refused, bind-goes, bind-passes}
 use Rattle.notation.specs.Laws.NumberedLaws.{Numbered, by-number, none-asked}
-use Rattle.sheets.specs.Texts.{Text}
+use Rattle.notation.specs.Texts.{Text}
 use Rattle.texts.specs.Grammar.{Line, IsLine, rowOf, fits, joined, mayCome, atTasks, atWindow}
 use Rattle.texts.specs.Reading.{isEmpty, valueOf, parts, lineRead, linesRead, textRead}
 use Rattle.texts.specs.Laws.GrammarLaws.{joined-more, lines-more}

@@ -66,7 +66,8 @@ put-text-requires c κs = search needs
 cast-t13 : tie.Need-cast-t13
 cast-t13 c =
     let put = c .before .before in
-    record { fits = omega (arith, appends-count (put .put-text .ensures) (omega (arith, fits put)), fits put) }
+    let room = put .before .before .before .if1 .left in
+    record { fits = omega (arith, appends-count (put .put-text .ensures) (omega (arith, fits put, room)), fits put) }
 
 same-length : tie.Need-same-length
 same-length c = search needs
@@ -78,7 +79,8 @@ returns-3 c =
     let told = put .before .before .before .before in
     let called = told .before .before in
     made-done textRoom textOf _ _ _ (called .accept-file .ensures) (told .enum-told .given .1)
-    (put .before .before .before .if1 .left) (put .put-text .ensures) (omega (arith, fits put))
+    (put .before .before .before .if1 .left) (put .put-text .ensures)
+    (omega (arith, fits put, put .before .before .before .if1 .left))
 
 pub file-to-text-spec : {M : Type 1} → statement M
 file-to-text-spec =

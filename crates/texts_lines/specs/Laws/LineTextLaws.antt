@@ -1,17 +1,19 @@
 -- Laws of a text's lines as they are written: an operation's name, and an instruction's line from its parts.
 -- Assumes nothing.
 use mathlib.Core.Path.{_≡_, sym, ap, subst}
-use Prim.Native.Nat.{ℕ, _≤_}
+use Prim.Native.Nat.{ℕ}
 use mathlib.Core.List.{List, [], _∷_}
 use lib.ListN.{length, take}
+use Rattle.notation.specs.Letters.{newline}
+use Rattle.notation.specs.Texts.{Text}
 use Rattle.taskfile.specs.declared.Instruction.{Instruction}
 use Rattle.machine.specs.Laws.InstructionLaws.{NoneTo}
-use Rattle.sheets.specs.Texts.{Text}
 use Rattle.texts.specs.declared.Form.the-variants.{InstructionLine}
 use Rattle.texts.specs.Grammar.{Row, lineText, rowOf}
 use Rattle.texts.specs.TextTables.{instructionLine}
+use Rattle.sheets_printing.specs.Code.Puts.{PutsText}
 use Rattle.sheets_printing.specs.Code.Spaced.{spacedNumbers}
-use Rattle.sheets_printing.specs.Laws.LineLaws.{PutsText, puts-same}
+use Rattle.sheets_printing.specs.Laws.LineLaws.{puts-same}
 use Rattle.sheets_printing.specs.Laws.SpacedLaws.{numbers-put}
 use Rattle.texts_reading.specs.Laws.RowOfLaws.{operation-else}
 
@@ -32,14 +34,14 @@ name-else {operation} {before} {at} {after} {n} none puts =
 -- ---- an instruction's line, from its three parts
 
 pub instruction-line-put : (i : Instruction) {used : ℕ} {before : Text} {at : ℕ} {one : Text} {l : ℕ} {two : Text}
-    {m : ℕ} {after : Text} {n : ℕ} → 4608 ≤ length before
+    {m : ℕ} {after : Text} {n : ℕ}
     → used ≡ length (rowOf (InstructionLine (i .operation)) .fields)
     → PutsText before at (rowOf (InstructionLine (i .operation)) .word) one l
-    → PutsText one l (spacedNumbers (take used (i .a ∷ i .b ∷ i .c ∷ []))) two m → PutsText two m (10 ∷ []) after n
+    → PutsText one l (spacedNumbers (take used (i .a ∷ i .b ∷ i .c ∷ []))) two m → PutsText two m (newline ∷ []) after n
     → PutsText before at (lineText (instructionLine i)) after n
 unfolding lineText instructionLine
-instruction-line-put i {used} enough is name fields end =
+instruction-line-put i {used} is name fields end =
     let numbers : List ℕ = i .a ∷ i .b ∷ i .c ∷ [] in
     let row = rowOf (InstructionLine (i .operation)) in
-    numbers-put (row .word) (take (length (row .fields)) numbers) enough name
+    numbers-put (row .word) (take (length (row .fields)) numbers) name
     (puts-same (ap (λ (k : ℕ). spacedNumbers (take k numbers)) is) fields) end

@@ -1,27 +1,27 @@
 -- Laws of a table's lines as they are written one after the other: a body, the tasks, the locks, the whole text.
 -- Assumes nothing.
 use mathlib.Core.Path.{_≡_, refl, sym, ap, _∙_}
-use Prim.Native.Nat.{ℕ, min, _≤_, _<_}
+use Prim.Native.Nat.{ℕ, min, _<_}
 use native.Mathlib.Omega.{arith}
 use mathlib.Core.List.{List, [], _∷_, _++_, map, append-assoc}
 use lib.ListN.{length, getD, take, length-take}
 use lib.Seq.{getD-take}
 use Rattle.notation.specs.Laws.ListLaws.{each-append, each-map}
 use Rattle.notation.specs.Lists.{each}
+use Rattle.notation.specs.Texts.{Text}
 use Rattle.taskfile.specs.declared.Instruction.{Instruction}
 use Rattle.taskfile.specs.declared.Table.{Table}
 use Rattle.taskfile.specs.declared.TaskEntry.{TaskEntry}
 use Rattle.taskfile.specs.Tables.{tasksOf, bodyOf, endInstruction, noTask}
-use Rattle.sheets.specs.Texts.{Text}
 use Rattle.writer.specs.declared.Lock.{Lock}
 use Rattle.writer.specs.Claims.{lockArray, noLock}
 use Rattle.writer.specs.Values.{FitsEntry, Fits}
 use Rattle.writer.specs.Laws.LockLaws.{locks-full}
-use Rattle.notation_buffers.specs.Laws.WritingLaws.{appends-more}
 use Rattle.texts.specs.declared.Form.the-variants.{WindowLine, StartLine, TaskLine}
 use Rattle.texts.specs.Grammar.{Line, lineWith, lineText, joined}
 use Rattle.texts.specs.TextTables.{instructionLine, taskLines, lockLine, tableLines, textOf}
-use Rattle.sheets_printing.specs.Laws.LineLaws.{PutsText, puts-same}
+use Rattle.sheets_printing.specs.Code.Puts.{PutsText}
+use Rattle.sheets_printing.specs.Laws.LineLaws.{puts-same, puts-more}
 
 -- ---- the lines of a list
 
@@ -91,22 +91,21 @@ module _ (t : Table) where
 -- ---- a task's lines, and a whole text
 
 pub task-lines-put : (e : TaskEntry) {before : Text} {at : ℕ} {mid : Text} {m : ℕ} {after : Text} {n : ℕ}
-    → 4608 ≤ length before
     → PutsText before at (lineText (lineWith TaskLine (e .execution ∷ e .period ∷ e .arrival ∷ []))) mid m
     → PutsText mid m (joined (map instructionLine (bodyOf e))) after n
     → PutsText before at (joined (taskLines e)) after n
 unfolding taskLines joined each
-task-lines-put e enough first second = appends-more enough first second
+task-lines-put e first second = puts-more first second
 
 pub text-put : (t : Table) {before : Text} {at : ℕ} {one : Text} {k : ℕ} {two : Text} {l : ℕ} {three : Text} {m : ℕ}
-    {after : Text} {n : ℕ} → 4608 ≤ length before
+    {after : Text} {n : ℕ}
     → PutsText before at (lineText (lineWith WindowLine (t .window ∷ []))) one k
     → PutsText one k (lineText (lineWith StartLine (t .store))) two l
     → PutsText two l (joined (each (tasksOf t) taskLines)) three m
     → PutsText three m (joined (map lockLine (take (t .locks) (lockArray t)))) after n
     → PutsText before at (textOf t) after n
 unfolding textOf tableLines joined each
-text-put t enough window start tasks locks =
+text-put t window start tasks locks =
     let first = lineText (lineWith WindowLine (t .window ∷ [])) in
     let second = lineText (lineWith StartLine (t .store)) in
     let bodies = each (tasksOf t) taskLines in
@@ -115,4 +114,4 @@ text-put t enough window start tasks locks =
     (append-assoc (first ++ second) (joined bodies) (joined last)
     ∙ ap (λ (l : Text). (first ++ second) ++ l) (sym (each-append lineText bodies last))
     ∙ append-assoc first second (each (bodies ++ last) lineText))
-    (appends-more enough (appends-more enough (appends-more enough window start) tasks) locks)
+    (puts-more (puts-more (puts-more window start) tasks) locks)

@@ -27,8 +27,8 @@ returns c =
     let test = put .before .before .before .before in
     let made = test .before .before .before .before in
     let puts = put .put-refused .ensures in (
-      shows-refusal _ _ (test .if1 .taken) puts ∙ made .convert .ensures .showing,
-      refusal-within (search needs) puts,
+      shows-refusal _ _ (search needs) (test .if1 .taken) puts ∙ made .convert .ensures .showing,
+      refusal-within puts,
     )
 
 cast-result : tie.Need-cast-result

@@ -6,20 +6,22 @@ use native.Mathlib.Omega.{arith}
 use mathlib.Core.Bool.{true, false}
 use mathlib.Core.List.{List, [], _∷_, _++_}
 use lib.ListN.{length, getD, take, drop, length-append}
-use lib.Seq.{take-all, take-append-seam}
+use lib.Seq.{take-append-seam}
 use lib.Dec.{eqb}
 use borrow.Author.Tests.{eq-eqb, ne-eqb}
 use Rattle.notation.specs.Checked.{Checked, refused, passed}
 use Rattle.notation.specs.Lists.{if_then_else_, firstOr}
+use Rattle.notation.specs.Texts.{decimal}
+use Rattle.notation.specs.Laws.TextSizes.{decimal-most, line-most}
 use Rattle.sheets.specs.Sheets.{refusedLine}
-use Rattle.sheets.specs.Texts.{refusedWord, decimal}
-use Rattle.sheets.specs.Laws.TextSizes.{decimal-most, line-most}
-use Rattle.notation_buffers.specs.Code.Writing.{Appends}
-use Rattle.notation_buffers.specs.Laws.WritingLaws.{appends-count, appends-within, appends-length}
+use Rattle.sheets.specs.SheetWords.{refusedWord}
+use Rattle.notation_buffers.specs.Laws.WritingLaws.{appends-count, appends-front, appends-within}
 use Rattle.writer.specs.declared.WriteAnswer.{WriteAnswer}
 use Rattle.writer.specs.WriteEntries.{answerOf, afterOf}
-use Rattle.texts.specs.TextEntries.{toFileAnswer, toFileAfter, toTextAnswer, toTextAfter, filed, texted}
+use Rattle.texts.specs.TextEntries.{textRoom, toFileAnswer, toFileAfter, toTextAnswer, toTextAfter, filed, texted}
 use Rattle.texts.specs.Turned.{beginsText, shown, turned}
+use Rattle.sheets_printing.specs.Code.Puts.{PutsText}
+use Rattle.sheets_printing.specs.Laws.LineLaws.{puts-length}
 use Rattle.texts_program.specs.Code.Conversions.{ConvertedAs}
 
 -- ---- what begins a text
@@ -79,7 +81,7 @@ unfolding shown if_then_else_
 shows-bytes x after zero = rw (eq-eqb (x .number) 0 zero) refl
 
 -- the line of a refusal is short
-refused-short : (number place : ℕ) → length (refusedLine number place) ≤ 4608
+refused-short : (number place : ℕ) → length (refusedLine number place) ≤ textRoom
 unfolding refusedLine refusedWord
 refused-short number place =
     omega (
@@ -88,18 +90,16 @@ refused-short number place =
           (omega (arith, decimal-most number), (omega (arith, decimal-most place), tt)),
     )
 
-pub shows-refusal : (x : WriteAnswer) (after : List ℕ) {before printed : List ℕ} {n : ℕ} → (x .number ≡ 0 → ⊥)
-    → Appends 4608 before 0 (refusedLine (x .number) (x .place)) printed n → take n printed ≡ shown x after
+pub shows-refusal : (x : WriteAnswer) (after : List ℕ) {before printed : List ℕ} {n : ℕ} → textRoom ≤ length before
+    → (x .number ≡ 0 → ⊥) → PutsText before 0 (refusedLine (x .number) (x .place)) printed n → take n printed ≡ shown x after
 unfolding shown if_then_else_
-shows-refusal x after {before} {printed} {n} some puts =
+shows-refusal x after {before} {printed} {n} enough some puts =
     let bytes = refusedLine (x .number) (x .place) in
-    let short = refused-short (x .number) (x .place) in
-    let all : take 4608 bytes ≡ bytes = take-all 4608 bytes short in
+    let short : length bytes ≤ length before = omega (arith, enough, refused-short (x .number) (x .place)) in
     let count : n ≡ length bytes = appends-count puts short in
-    let is : printed ≡ bytes ++ drop n before = puts .is ∙ ap (λ (l : List ℕ). l ++ drop n before) all in
+    let is : printed ≡ bytes ++ drop (length bytes) before = appends-front puts short in
     rw (ne-eqb (x .number) 0 some)
-    ((λ j. take (count j) (is j)) ∙ take-append-seam bytes (drop n before))
+    ((λ j. take (count j) (is j)) ∙ take-append-seam bytes (drop (length bytes) before))
 
-pub refusal-within : {before bytes printed : List ℕ} {n : ℕ} → 4608 ≤ length before
-    → Appends 4608 before 0 bytes printed n → n ≤ length printed
-refusal-within enough puts = omega (arith, enough, appends-within puts (omega arith), appends-length puts enough)
+pub refusal-within : {before bytes printed : List ℕ} {n : ℕ} → PutsText before 0 bytes printed n → n ≤ length printed
+refusal-within puts = omega (arith, appends-within puts (omega arith), puts-length puts)

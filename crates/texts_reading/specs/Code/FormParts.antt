@@ -4,7 +4,7 @@ use mathlib.Core.List.{map}
 use mathlib.Core.Option.{Option}
 use lib.ListN.{length}
 use Rattle.notation.specs.Lists.{upTo, firstWith, same}
-use Rattle.sheets.specs.Texts.{Text}
+use Rattle.notation.specs.Texts.{Text}
 use Rattle.texts.specs.declared.Form.{Form}
 use Rattle.texts.specs.declared.Form.the-variants.{InstructionLine}
 use Rattle.texts.specs.Grammar.{rowOf, operationRows}

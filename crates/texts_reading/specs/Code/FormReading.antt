@@ -7,7 +7,7 @@ use lib.ListN.{length}
 use lib.Dec.{eqb}
 use Rattle.notation.specs.Checked.{Checked, passed, require, _>>_}
 use Rattle.notation.specs.Lists.{all}
-use Rattle.sheets.specs.Texts.{Text}
+use Rattle.notation.specs.Texts.{Text}
 use Rattle.texts.specs.declared.Form.{Form}
 use Rattle.texts.specs.Grammar.{Line, lineWith, rowOf, fits, mayCome}
 use Rattle.texts.specs.Reading.{isNumeral, valueOf}

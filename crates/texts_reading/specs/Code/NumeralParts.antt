@@ -4,7 +4,7 @@ use mathlib.Core.Path.{_≡_}
 use Prim.Native.Nat.{ℕ, _+_, _≤_, _<_}
 use mathlib.Core.Bool.{_&&_}
 use lib.ListN.{length, getD, set}
-use Rattle.sheets.specs.Texts.{Text}
+use Rattle.notation.specs.Texts.{Text}
 use Rattle.texts.specs.declared.Numerals.{Numerals}
 use Rattle.texts.specs.Reading.{isNumeral}
 use Rattle.texts.specs.Code.LineParts.{cappedValue}

@@ -12,7 +12,7 @@ use borrow.Author.Tests.{leb-true, ltb-true, lt-ltb, le-ltb}
 use Rattle.notation.specs.Lists.{all, padded}
 use Rattle.notation.specs.Laws.PaddedLaws.{padded-held}
 use Rattle.notation.specs.Laws.TestLaws.{and-both}
-use Rattle.sheets.specs.Texts.{Text}
+use Rattle.notation.specs.Texts.{Text}
 use Rattle.texts.specs.declared.Form.{Form}
 use Rattle.texts.specs.Grammar.{rowOf, fits, wideField}
 use Rattle.texts.specs.Reading.{isNumeral, valueOf}

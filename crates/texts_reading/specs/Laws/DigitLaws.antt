@@ -14,7 +14,7 @@ use lib.Seq.{drop-cons}
 use borrow.Author.Tests.{le-leb, lt-leb, eq-eqb, ne-eqb}
 use Rattle.notation.specs.Lists.{if_then_else_, all}
 use Rattle.notation.specs.Laws.TestLaws.{and-first, and-second}
-use Rattle.sheets.specs.Texts.{Text}
+use Rattle.notation.specs.Texts.{Text}
 use Rattle.texts.specs.Grammar.{wideField}
 use Rattle.texts.specs.Reading.{isDigit, isEmpty, isNumeral, valueAfter, valueOf}
 use Rattle.texts.specs.Code.LineParts.{cappedValue}

@@ -7,7 +7,7 @@ use mathlib.Core.List.{List, [], _∷_, map}
 use mathlib.Core.Option.{Option, none, some}
 use Rattle.notation.specs.Lists.{if_then_else_, upTo, firstWith, same}
 use Rattle.notation.specs.Laws.SearchLaws.{Searched, search-starts, search-goes-on, search-finds, search-ends}
-use Rattle.sheets.specs.Texts.{Text}
+use Rattle.notation.specs.Texts.{Text}
 use Rattle.texts.specs.declared.Form.{Form}
 use Rattle.texts.specs.declared.Form.the-variants.{WindowLine, StartLine, TaskLine, InstructionLine, LockLine}
 use Rattle.texts.specs.declared.Named.{Named}

@@ -11,7 +11,7 @@ use Rattle.notation.specs.Checked.{Checked, refused, passed, require, _>>_}
 use Rattle.notation.specs.Lists.{all, padded}
 use Rattle.notation.specs.Laws.CheckedLaws.{require-holds, require-fails}
 use Rattle.notation.specs.Laws.TestLaws.{and-both, and-first, and-second}
-use Rattle.sheets.specs.Texts.{Text}
+use Rattle.notation.specs.Texts.{Text}
 use Rattle.texts.specs.declared.Form.{Form}
 use Rattle.texts.specs.declared.Numerals.{Numerals}
 use Rattle.texts.specs.Grammar.{Line, lineWith, rowOf, fits, mayCome}

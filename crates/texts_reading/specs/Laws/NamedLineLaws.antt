@@ -9,7 +9,7 @@ use mathlib.Core.Option.{Option, none, some}
 use lib.ListN.{take, drop}
 use Rattle.notation.specs.Checked.{Checked, refused, require, given, _>>=_, _>>_}
 use Rattle.notation.specs.Lists.{firstOr}
-use Rattle.sheets.specs.Texts.{Text}
+use Rattle.notation.specs.Texts.{Text}
 use Rattle.texts.specs.declared.Form.{Form}
 use Rattle.texts.specs.declared.Named.the-variants.{As, Unknown}
 use Rattle.texts.specs.Grammar.{Line}

@@ -13,7 +13,7 @@ use Rattle.notation.specs.Laws.ListLaws.{map-snoc}
 use Rattle.notation.specs.Laws.PaddedLaws.{padded-length, padded-snoc}
 use Rattle.notation.specs.Laws.QuantifierLaws.{all-append}
 use Rattle.notation.specs.Laws.TestLaws.{and-first, and-second}
-use Rattle.sheets.specs.Texts.{Text}
+use Rattle.notation.specs.Texts.{Text}
 use Rattle.texts.specs.declared.Numerals.{Numerals}
 use Rattle.texts.specs.Reading.{isNumeral}
 use Rattle.texts.specs.Code.LineParts.{partEnd, wordsPast, cappedValue, numeralsOf}

@@ -9,7 +9,7 @@ use mathlib.Core.List.{List, [], _∷_}
 use lib.ListN.{length, getD, take, drop, length-drop, drop-of-length-le}
 use lib.Seq.{drop-cons, drop-drop, getD-drop}
 use Rattle.notation.specs.Lists.{firstOr}
-use Rattle.sheets.specs.Texts.{Text}
+use Rattle.notation.specs.Texts.{Text}
 use Rattle.texts.specs.Reading.{begins, parts}
 use Rattle.texts.specs.Code.LineParts.{partEnd, wordsPast}
 use Rattle.texts.specs.Laws.SeparatorLaws.{parts-some, parts-ended, parts-begun}

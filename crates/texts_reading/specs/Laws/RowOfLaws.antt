@@ -12,8 +12,8 @@ use borrow.Author.Tests.{eqb-true, le-leb, lt-leb}
 use Rattle.notation.specs.Lists.{all, same}
 use Rattle.notation.specs.Laws.QuantifierLaws.{all-at}
 use Rattle.notation.specs.Laws.TestLaws.{and-first, and-second}
+use Rattle.notation.specs.Texts.{Text}
 use Rattle.machine.specs.Laws.InstructionLaws.{NoneTo}
-use Rattle.sheets.specs.Texts.{Text}
 use Rattle.texts.specs.declared.Form.{Form}
 use Rattle.texts.specs.declared.Form.the-variants.{WindowLine, StartLine, TaskLine, InstructionLine, LockLine}
 use Rattle.texts.specs.Grammar.{Row, rowOf, mayCome, operationRows, byteField, wideField}

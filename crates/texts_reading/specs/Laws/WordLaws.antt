@@ -12,7 +12,7 @@ use borrow.Author.Tests.{eq-eqb, ne-eqb}
 use Rattle.notation.specs.Lists.{same}
 use Rattle.notation.specs.Laws.ElementLaws.{same-equal}
 use Rattle.notation.specs.Laws.TestLaws.{and-first, and-second, not-true-false}
-use Rattle.sheets.specs.Texts.{Text}
+use Rattle.notation.specs.Texts.{Text}
 
 -- words of two lengths are not the same
 pub same-sized : (x y : Text) → (length x ≡ length y → ⊥) → same x y ≡ false

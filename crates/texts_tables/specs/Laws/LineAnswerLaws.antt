@@ -7,7 +7,7 @@ use mathlib.Core.Bool.{Bool, true, false}
 use mathlib.Core.Option.{Option, none, some}
 use Rattle.notation.specs.Checked.{Checked, refused, passed, require, given, _>>=_, _>>_}
 use Rattle.notation.specs.Lists.{padded}
-use Rattle.sheets.specs.Texts.{Text}
+use Rattle.notation.specs.Texts.{Text}
 use Rattle.texts.specs.declared.LineRead.{LineRead}
 use Rattle.texts.specs.Grammar.{Line, rowOf, fits}
 use Rattle.texts.specs.Reading.{lineRead}

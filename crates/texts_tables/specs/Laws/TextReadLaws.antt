@@ -13,9 +13,9 @@ use lib.Seq.{take-all}
 use Rattle.notation.specs.Checked.{Checked, refused, passed, require, _>>=_, _>>_}
 use Rattle.notation.specs.Laws.CheckedLaws.{require-holds, require-fails, bind-refused, bind-goes}
 use Rattle.notation.specs.Laws.TestLaws.{and-first}
+use Rattle.notation.specs.Texts.{Text}
 use Rattle.texts_reading.specs.Laws.PartEndLaws.{firstPart, laterParts, parts-split, partEnd-ends, part-taken, later-past}
 use Rattle.texts_reading.specs.Laws.PartEndLaws.{past-separator, partEnd-within}
-use Rattle.sheets.specs.Texts.{Text}
 use Rattle.taskfile.specs.declared.Table.{Table}
 use Rattle.taskfile.specs.Tables.{emptyTable}
 use Rattle.texts.specs.declared.Form.{Form}

@@ -1,12 +1,12 @@
 -- The desk's entries: what they answer and what the lent memory then holds, by what the reader finds.
 -- Assumes nothing.
 use mathlib.Core.Path.{_≡_, sym, ap, _∙_}
-use Prim.Native.Nat.{ℕ, _-_, _≤_, _<_}
+use Prim.Native.Nat.{ℕ, _≤_, _<_}
 use native.Mathlib.Omega.{arith}
 use mathlib.Core.List.{List, _++_}
 use lib.Dec.{leb}
 use lib.ListN.{length, take, drop, replicate, length-replicate}
-use lib.Seq.{take-all, take-append-seam}
+use lib.Seq.{take-append-seam}
 use borrow.Author.Tests.{le-leb, lt-leb}
 use Rattle.notation.specs.Checked.{Checked, refused, passed, require, _>>=_, _>>_}
 use Rattle.notation.specs.Laws.CheckedLaws.{require-holds, require-fails, bind-refused, bind-goes, then-refused, then-goes}
@@ -18,7 +18,7 @@ use Rattle.timing.specs.Accepted.{Accepted, accept}
 use Rattle.timing.specs.Code.AcceptParts.{AcceptedParts, AcceptedAs}
 use Rattle.timing.specs.Laws.AcceptLaws.{accepted-refused, accepted-passed}
 use Rattle.notation_buffers.specs.Code.Writing.{Appends}
-use Rattle.notation_buffers.specs.Laws.WritingLaws.{appends-count, appends-length}
+use Rattle.notation_buffers.specs.Laws.WritingLaws.{appends-count, appends-front, appends-length}
 use Rattle.writer.specs.declared.WriteAnswer.{WriteAnswer}
 use Rattle.writer.specs.Values.{Fits}
 use Rattle.writer.specs.Fields.{acceptTable}
@@ -41,13 +41,6 @@ refusal number place = record { number = number; place = place; length = 0 }
 
 abbrev pub done : ℕ → WriteAnswer
 done n = record { number = 0; place = 0; length = n }
-
--- bytes that were appended at the front, as many as there are
-pub appends-front : {room : ℕ} {before bytes after : List ℕ} {n : ℕ} → Appends room before 0 bytes after n
-    → length bytes ≤ room → after ≡ bytes ++ drop (length bytes) before
-appends-front {room} {before} {bytes} {after} {n} does fits =
-    let all : take (room - 0) bytes ≡ bytes = take-all (room - 0) bytes (omega arith) in
-    does .is ∙ (λ j. all j ++ drop (appends-count does fits j) before)
 
 -- ---- a table that was laid out
 

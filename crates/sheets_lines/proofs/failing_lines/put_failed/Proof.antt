@@ -3,19 +3,18 @@
 -- Assumes nothing.
 use Prim.Native.Nat.{_-_, _≤_}
 use native.Mathlib.Omega.{arith}
-use lib.ListN.{length}
 use borrow.Author.Needs.{needs}
-use Rattle.notation_buffers.specs.Laws.WritingLaws.{appends-length}
-use Rattle.sheets.specs.Texts.{failedWord}
+use Rattle.sheets.specs.SheetWords.{failedWord}
+use Rattle.sheets_printing.specs.Code.Puts.{PutsText}
 use Rattle.sheets_printing.specs.Code.Spaced.{spacedNumbers}
-use Rattle.sheets_printing.specs.Laws.LineLaws.{PutsText, puts-enough}
+use Rattle.sheets_printing.specs.Laws.LineLaws.{puts-length}
 use Rattle.sheets_lines.specs.Laws.FailingLines.{failedTo, failed-none, failed-more, failed-put}
 use Rattle.sheets_lines.proofs.failing_lines.put_failed.Statement.{statement}
 use Rattle.sheets_lines.proofs.failing_lines.put_failed.Tie as tie
 
 abbrev Inv-loop : tie.InvT-loop
 Inv-loop k at out₀ failed next₀ j₀ out next j =
-    (4608 ≤ length out) × (j ≤ k) × PutsText out₀ next₀ (spacedNumbers (failedTo failed j)) out next
+    (j ≤ k) × PutsText out₀ next₀ (spacedNumbers (failedTo failed j)) out next
 
 abbrev μ-loop : tie.MeasureT-loop
 μ-loop k at out₀ failed next₀ j₀ out next j = k - j
@@ -27,7 +26,7 @@ put-word-requires : tie.Need-put-word-requires Inv-loop μ-loop
 put-word-requires c κs = search needs
 
 loop-holds : tie.Need-loop-holds Inv-loop μ-loop
-loop-holds c = (puts-enough (c .before .before .before .before .before .before .pre .1) (c .before .before .put-word .ensures), omega arith, failed-none _ _ _)
+loop-holds c = (omega arith, failed-none _ _ _)
 
 cast-then-failed : tie.Need-cast-then-failed Inv-loop μ-loop
 cast-then-failed c = search needs
@@ -36,7 +35,7 @@ array-read-then-failed : tie.Need-array-read-then-failed Inv-loop μ-loop
 array-read-then-failed c = search needs
 
 then-failed-requires : tie.Need-then-failed-requires Inv-loop μ-loop
-then-failed-requires c κs = c .before .before .loop .inv .0
+then-failed-requires c κs = search needs
 
 add-j : tie.Need-add-j Inv-loop μ-loop
 add-j c = search needs
@@ -46,29 +45,22 @@ loop-less c = search needs
 
 loop-again : tie.Need-loop-again Inv-loop μ-loop
 loop-again c =
-    let at = c .before .before .before .before .before in
-    let enough = puts-enough (c .before .before .before .before .before .before .before .before .before .before .before .before .pre .1) (c .before .before .before .before .before .before .before .before .put-word .ensures) in
-    let written = c .before .before .then-failed .ensures in (
-      puts-enough (at .loop .inv .0) written,
-      omega arith,
-      failed-more _ _ enough (at .loop .inv .2) written,
-    )
+    let put = c .before .before in
+    (omega arith, failed-more _ _ (put .before .before .before .loop .inv .1) (put .then-failed .ensures))
 
 end-line-requires : tie.Need-end-line-requires Inv-loop μ-loop
-end-line-requires c κs = c .before .before .loop .inv .0
+end-line-requires c κs = search needs
 
 returns : tie.Need-returns Inv-loop μ-loop
 unfolding failedWord
 returns c =
-    let left = c .before .before .before .before .before in
-    failed-put _ _ _
-    (c .before .before .before .before .before .before .before .before .before .before .before .before .pre .1)
-    (left .loop .inv .1) (c .before .before .before .before .loop-test .left)
-    (c .before .before .before .before .before .before .before .before .put-word .ensures) (left .loop .inv .2)
-    (c .before .before .end-line .ensures)
+    let ended = c .before .before in
+    let left = ended .before .before .before in
+    failed-put _ _ _ (left .loop .inv .0) (ended .before .before .loop-test .left)
+    (left .before .before .before .put-word .ensures) (left .loop .inv .1) (ended .end-line .ensures)
 
 same-length : tie.Need-same-length Inv-loop μ-loop
-same-length c = appends-length (returns c) (c .before .before .before .before .before .before .before .before .before .before .before .before .pre .1)
+same-length c = puts-length (returns c)
 
 pub put-failed-spec : {M : Type 1} → statement M
 put-failed-spec =

@@ -3,12 +3,11 @@
 -- Assumes nothing.
 use Prim.Native.Nat.{_-_, _≤_}
 use native.Mathlib.Omega.{arith}
-use lib.ListN.{length}
 use borrow.Author.Needs.{needs}
-use Rattle.notation_buffers.specs.Laws.WritingLaws.{appends-length}
-use Rattle.sheets.specs.Texts.{jobWord, roundsWord}
+use Rattle.sheets.specs.SheetWords.{jobWord, roundsWord}
+use Rattle.sheets_printing.specs.Code.Puts.{PutsText}
 use Rattle.sheets_printing.specs.Code.Spaced.{spacedNumbers}
-use Rattle.sheets_printing.specs.Laws.LineLaws.{PutsText, puts-enough}
+use Rattle.sheets_printing.specs.Laws.LineLaws.{puts-length}
 use Rattle.sheets_lines.specs.Laws.FailingLines.{roundsTo, job-rounds-none}
 use Rattle.sheets_lines.specs.Laws.FailingLines.{job-rounds-more, job-rounds-put}
 use Rattle.sheets_lines.proofs.failing_lines.put_job_rounds.Statement.{statement}
@@ -16,7 +15,7 @@ use Rattle.sheets_lines.proofs.failing_lines.put_job_rounds.Tie as tie
 
 abbrev Inv-loop : tie.InvT-loop
 Inv-loop marks x at out₀ word first next₀ count n₀ out next n =
-    (4608 ≤ length out) × (n ≤ count) × PutsText out₀ next₀ (spacedNumbers (roundsTo marks (x .0) n)) out next
+    (n ≤ count) × PutsText out₀ next₀ (spacedNumbers (roundsTo marks (x .0) n)) out next
 
 abbrev μ-loop : tie.MeasureT-loop
 μ-loop marks x at out₀ word first next₀ count n₀ out next n = count - n
@@ -28,21 +27,19 @@ put-word-requires : tie.Need-put-word-requires Inv-loop μ-loop
 put-word-requires c κs = search needs
 
 then-byte-requires : tie.Need-then-byte-requires Inv-loop μ-loop
-then-byte-requires c κs = puts-enough (c .before .before .before .before .before .before .before .pre .2) (c .before .before .before .put-word .ensures)
+then-byte-requires c κs = search needs
 
 slice-aggregate-then-word : tie.Need-slice-aggregate-then-word Inv-loop μ-loop
 slice-aggregate-then-word c = search needs
 
 then-word-requires : tie.Need-then-word-requires Inv-loop μ-loop
-then-word-requires c κs = puts-enough (puts-enough (c .before .before .before .before .before .before .before .before .before .before .before .before .pre .2) (c .before .before .before .before .before .before .before .before .put-word .ensures)) (c .before .before .before .before .then-byte .ensures)
+then-word-requires c κs = search needs
 
 count-at-requires : tie.Need-count-at-requires Inv-loop μ-loop
 count-at-requires c κs = search needs
 
 loop-holds : tie.Need-loop-holds Inv-loop μ-loop
-loop-holds c =
-    let enough = puts-enough (puts-enough (puts-enough (c .before .before .before .before .before .before .before .before .before .before .before .before .before .before .before .before .pre .2) (c .before .before .before .before .before .before .before .before .before .before .before .before .put-word .ensures)) (c .before .before .before .before .before .before .before .before .then-byte .ensures)) (c .before .before .before .then-word .ensures) in
-    (enough, omega arith, job-rounds-none _ _ _ _)
+loop-holds c = (omega arith, job-rounds-none _ _ _ _)
 
 round-at-requires : tie.Need-round-at-requires Inv-loop μ-loop
 round-at-requires c κs =
@@ -50,7 +47,7 @@ round-at-requires c κs =
     (start .1, omega (arith, c .before .before .count-at .ensures, start .0 .few _ (start .1)))
 
 then-byte-requires-2 : tie.Need-then-byte-requires-2 Inv-loop μ-loop
-then-byte-requires-2 c κs = c .before .before .before .loop .inv .0
+then-byte-requires-2 c κs = search needs
 
 add-n : tie.Need-add-n Inv-loop μ-loop
 add-n c = search needs
@@ -60,32 +57,28 @@ loop-less c = search needs
 
 loop-again : tie.Need-loop-again Inv-loop μ-loop
 loop-again c =
-    let at = c .before .before .before .before .before .before in
-    let enough = puts-enough (puts-enough (puts-enough (c .before .before .before .before .before .before .before .before .before .before .before .before .before .before .before .before .before .before .before .before .before .before .before .pre .2) (c .before .before .before .before .before .before .before .before .before .before .before .before .before .before .before .before .before .before .before .put-word .ensures)) (c .before .before .before .before .before .before .before .before .before .before .before .before .before .before .before .then-byte .ensures)) (c .before .before .before .before .before .before .before .before .before .before .then-word .ensures) in
-    let written = c .before .before .then-byte2 .ensures in (
-      puts-enough (at .loop .inv .0) written,
-      omega arith,
-      job-rounds-more _ _ _ enough (c .before .before .before .before .round-at .ensures) (at .loop .inv .2) written,
-    )
+    let put = c .before .before in
+    let round = put .before .before in
+    (omega arith, job-rounds-more _ _ _ (round .round-at .ensures) (round .before .before .loop .inv .1) (put .then-byte2 .ensures))
 
 end-line-requires : tie.Need-end-line-requires Inv-loop μ-loop
-end-line-requires c κs = c .before .before .loop .inv .0
+end-line-requires c κs = search needs
 
 returns : tie.Need-returns Inv-loop μ-loop
 unfolding jobWord roundsWord
 returns c =
-    let left = c .before .before .before .before .before in
-    job-rounds-put _ _ _ _
-    (c .before .before .before .before .before .before .before .before .before .before .before .before .before .before .before .before .before .before .before .before .before .before .pre .2)
-    (c .before .before .before .before .before .before .count-at .ensures) (left .loop .inv .1)
-    (c .before .before .before .before .loop-test .left)
-    (c .before .before .before .before .before .before .before .before .before .before .before .before .before .before .before .before .before .before .put-word .ensures)
-    (c .before .before .before .before .before .before .before .before .before .before .before .before .before .before .then-byte .ensures)
-    (c .before .before .before .before .before .before .before .before .before .then-word .ensures)
-    (left .loop .inv .2) (c .before .before .end-line .ensures)
+    let ended = c .before .before in
+    let left = ended .before .before .before in
+    let counted = left .before in
+    let third = counted .before .before .before in
+    let second = third .before .before .before .before .before in
+    let first = second .before .before .before .before in
+    job-rounds-put _ _ _ _ (counted .count-at .ensures) (left .loop .inv .0) (ended .before .before .loop-test .left)
+    (first .put-word .ensures) (second .then-byte .ensures) (third .then-word .ensures) (left .loop .inv .1)
+    (ended .end-line .ensures)
 
 same-length : tie.Need-same-length Inv-loop μ-loop
-same-length c = appends-length (returns c) (c .before .before .before .before .before .before .before .before .before .before .before .before .before .before .before .before .before .before .before .before .before .before .pre .2)
+same-length c = puts-length (returns c)
 
 pub put-job-rounds-spec : {M : Type 1} → statement M
 put-job-rounds-spec =

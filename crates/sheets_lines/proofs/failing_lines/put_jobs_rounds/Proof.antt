@@ -3,11 +3,10 @@
 -- Assumes nothing.
 use Prim.Native.Nat.{_-_, _≤_}
 use native.Mathlib.Omega.{arith}
-use lib.ListN.{length}
 use borrow.Author.Needs.{needs}
 use Rattle.notation.specs.Lists.{upTo, each}
-use Rattle.notation_buffers.specs.Laws.WritingLaws.{appends-length}
-use Rattle.sheets_printing.specs.Laws.LineLaws.{PutsText, puts-enough}
+use Rattle.sheets_printing.specs.Code.Puts.{PutsText}
+use Rattle.sheets_printing.specs.Laws.LineLaws.{puts-length}
 use Rattle.sheets_lines.specs.Code.LineParts.{jobLine}
 use Rattle.sheets_lines.specs.Laws.FailingLines.{texts-none, texts-more, texts-put}
 use Rattle.sheets_lines.proofs.failing_lines.put_jobs_rounds.Statement.{statement}
@@ -15,16 +14,16 @@ use Rattle.sheets_lines.proofs.failing_lines.put_jobs_rounds.Tie as tie
 
 abbrev Inv-loop : tie.InvT-loop
 Inv-loop marks k at out₀ next₀ x₀ out next x =
-    (4608 ≤ length out) × (x ≤ k) × PutsText out₀ next₀ (each (upTo x) (jobLine marks)) out next
+    (x ≤ k) × PutsText out₀ next₀ (each (upTo x) (jobLine marks)) out next
 
 abbrev μ-loop : tie.MeasureT-loop
 μ-loop marks k at out₀ next₀ x₀ out next x = k - x
 
 loop-holds : tie.Need-loop-holds Inv-loop μ-loop
-loop-holds c = (c .before .pre .2, omega arith, texts-none _ _ _)
+loop-holds c = (omega arith, texts-none _ _ _)
 
 put-job-rounds-requires : tie.Need-put-job-rounds-requires Inv-loop μ-loop
-put-job-rounds-requires c κs = (c .before .before .before .before .pre .0, omega arith, c .before .before .loop .inv .0)
+put-job-rounds-requires c κs = (c .before .before .before .before .pre .0, omega arith)
 
 add-x : tie.Need-add-x Inv-loop μ-loop
 add-x c = search needs
@@ -34,18 +33,14 @@ loop-less c = search needs
 
 loop-again : tie.Need-loop-again Inv-loop μ-loop
 loop-again c =
-    let at = c .before .before .before .before .before in
-    let written = c .before .before .put-job-rounds .ensures in (
-      puts-enough (at .loop .inv .0) written,
-      omega arith,
-      texts-more _ _ (c .before .before .before .before .before .before .before .pre .2) (at .loop .inv .2) written,
-    )
+    let put = c .before .before in
+    (omega arith, texts-more _ _ (put .before .before .before .loop .inv .1) (put .put-job-rounds .ensures))
 
 same-length : tie.Need-same-length Inv-loop μ-loop
-same-length c = appends-length (c .before .loop .inv .2) (c .before .before .before .pre .2)
+same-length c = puts-length (c .before .loop .inv .1)
 
 returns : tie.Need-returns Inv-loop μ-loop
-returns c = texts-put _ _ _ (c .before .loop .inv .1) (c .loop-test .left) (c .before .loop .inv .2)
+returns c = texts-put _ _ _ (c .before .loop .inv .0) (c .loop-test .left) (c .before .loop .inv .1)
 
 pub put-jobs-rounds-spec : {M : Type 1} → statement M
 put-jobs-rounds-spec =

@@ -1,7 +1,7 @@
 -- `sheets_lines::failing_lines::put_order` meets its contract. The word, the numbers and the newline stand one after the other.
 -- Assumes nothing.
 use borrow.Author.Needs.{needs}
-use Rattle.sheets.specs.Texts.{orderWord}
+use Rattle.sheets.specs.SheetWords.{orderWord}
 use Rattle.sheets_lines.specs.Laws.FailingLines.{order-put}
 use Rattle.sheets_lines.proofs.failing_lines.put_order.Statement.{statement}
 use Rattle.sheets_lines.proofs.failing_lines.put_order.Tie as tie
@@ -27,7 +27,7 @@ returns c =
     let ended = c .before .before in
     let numbers = ended .before .before .before .before in
     let word = numbers .before .before .before .before in
-    order-put _ (word .before .before .before .before .before .pre) (word .put-word .ensures) (numbers .then-bytes .ensures)
+    order-put _ (word .put-word .ensures) (numbers .then-bytes .ensures)
     (ended .end-line .ensures)
 
 pub put-order-spec : {M : Type 1} → statement M

@@ -1,8 +1,8 @@
 -- `sheets_lines::sheet_lines::put_failure` meets its contract: the lines of a failing order stand one after the other.
 -- Assumes nothing.
 use borrow.Author.Needs.{needs}
-use Rattle.sheets.specs.Texts.{failsWord}
-use Rattle.sheets_lines.specs.Laws.FindingLaws.{failing-order, failure-put}
+use Rattle.sheets.specs.SheetWords.{failsWord}
+use Rattle.sheets_lines.specs.Laws.FindingLaws.{failure-put}
 use Rattle.sheets_lines.proofs.sheet_lines.put_failure.Statement.{statement}
 use Rattle.sheets_lines.proofs.sheet_lines.put_failure.Tie as tie
 
@@ -19,7 +19,7 @@ put-failed-requires : tie.Need-put-failed-requires
 put-failed-requires c κs = search needs
 
 plan-marks-requires : tie.Need-plan-marks-requires
-plan-marks-requires c κs = (c .before .before .before .before .before .before .before .before .before .before .before .before .before .before .before .before .before .pre .0, c .before .before .before .before .before .before .before .before .before .before .before .before .before .before .before .before .before .pre .1, failing-order (c .before .before .before .before .before .before .before .before .before .before .before .before .before .before .before .before .before .pre .2))
+plan-marks-requires c κs = search needs
 
 put-jobs-rounds-requires : tie.Need-put-jobs-rounds-requires
 put-jobs-rounds-requires c κs = search needs
@@ -30,12 +30,13 @@ same-length c = search needs
 returns : tie.Need-returns
 unfolding failsWord
 returns c =
-    let start = c .before .before .before .before .before .before .before .before .before .before .before .before .before .before .before .before .before .before .before .before .before .before .before .pre in
-    failure-put (start .2) (c .before .before .before .before .before .plan-marks .ensures) (start .3)
-    (c .before .before .before .before .before .before .before .before .before .before .before .before .before .before .before .before .before .put-verdict .ensures)
-    (c .before .before .before .before .before .before .before .before .before .before .before .before .before .put-order .ensures)
-    (c .before .before .before .before .before .before .before .before .put-failed .ensures)
-    (c .before .before .put-jobs-rounds .ensures)
+    let rounds = c .before .before in
+    let marked = rounds .before .before .before in
+    let noted = marked .before .before .before in
+    let ordered = noted .before .before .before .before .before in
+    let verdict = ordered .before .before .before .before in
+    failure-put (marked .plan-marks .ensures) (verdict .put-verdict .ensures) (ordered .put-order .ensures)
+    (noted .put-failed .ensures) (rounds .put-jobs-rounds .ensures)
 
 pub put-failure-spec : {M : Type 1} → statement M
 put-failure-spec =

@@ -1,9 +1,8 @@
 -- `sheets_lines::sheet_lines::put_sheet` meets its contract: a refused file, and an accepted one.
 -- Assumes nothing.
 use borrow.Author.Needs.{needs}
-use Rattle.sheets_printing.specs.Laws.LineLaws.{puts-enough}
 use Rattle.sheets_lines.specs.Laws.SheetLaws.{sheet-refused, table-timeable, jobs-within-room}
-use Rattle.sheets_lines.specs.Laws.SheetLaws.{parts-of, sheet-put}
+use Rattle.sheets_lines.specs.Laws.SheetLaws.{some-parts, sheet-put}
 use Rattle.sheets_lines.proofs.sheet_lines.put_sheet.Statement.{statement}
 use Rattle.sheets_lines.proofs.sheet_lines.put_sheet.Tie as tie
 
@@ -26,7 +25,10 @@ same-length : tie.Need-same-length
 same-length c = search needs
 
 returns : tie.Need-returns
-returns c = sheet-refused _ _ (c .before .before .before .before .before .before .before .accept-file .ensures) (c .before .before .before .before .before .check .given .1) (c .before .before .put-refused .ensures)
+returns c =
+    let put = c .before .before in
+    let told = put .before .before .before in
+    sheet-refused _ _ (told .before .before .accept-file .ensures) (told .check .given .1) (put .put-refused .ensures)
 
 enum-told : tie.Need-enum-told
 enum-told c = search needs
@@ -42,26 +44,28 @@ put-totals-requires c κs = search needs
 
 put-tasks-requires : tie.Need-put-tasks-requires
 put-tasks-requires c κs =
-    let accepted = c .before .before .before .before .before .before .before .before .before .before .before .before .accept-file .ensures in
-    (table-timeable _ _ accepted (c .before .before .before .before .before .before .before .before .before .before .enum-told .given .1), puts-enough (c .before .before .before .before .before .before .before .before .before .before .before .before .before .before .before .pre) (c .before .before .before .put-totals .ensures))
+    let told = c .before .before .before .before .before .before .before .before .before .before in
+    table-timeable _ _ (told .before .before .accept-file .ensures) (told .enum-told .given .1)
 
 put-findings-requires : tie.Need-put-findings-requires
 put-findings-requires c κs =
-    let accepted = c .before .before .before .before .before .before .before .before .before .before .before .before .before .before .before .before .accept-file .ensures in
-    let passes = c .before .before .before .before .before .before .before .before .before .before .before .before .before .before .enum-told .given .1 in
-    (table-timeable _ _ accepted passes .shaped, jobs-within-room _ _ accepted passes, parts-of _ _ accepted passes, puts-enough (puts-enough (c .before .before .before .before .before .before .before .before .before .before .before .before .before .before .before .before .before .before .before .pre) (c .before .before .before .before .before .before .before .put-totals .ensures)) (c .before .before .before .put-tasks .ensures))
+    let totals = c .before .before .before .before .before .before .before in
+    let told = totals .before .before .before .before .before .before .before in
+    let accepted = told .before .before .accept-file .ensures in
+    let passes = told .enum-told .given .1 in
+    (table-timeable _ _ accepted passes .shaped, jobs-within-room _ _ accepted passes, some-parts _ _ accepted passes)
 
 same-length-2 : tie.Need-same-length-2
 same-length-2 c = search needs
 
 returns-2 : tie.Need-returns-2
 returns-2 c =
-    sheet-put _ _
-    (c .before .before .before .before .before .before .before .before .before .before .before .before .before .before .before .before .before .before .before .accept-file .ensures)
-    (c .before .before .before .before .before .before .before .before .before .before .before .before .before .before .before .before .before .enum-told .given .1)
-    (c .before .before .before .before .before .before .before .before .before .before .before .before .before .before .before .before .before .before .before .before .before .before .pre)
-    (c .before .before .before .before .before .before .before .before .before .before .put-totals .ensures)
-    (c .before .before .before .before .before .before .put-tasks .ensures) (c .before .before .put-findings .ensures)
+    let findings = c .before .before in
+    let tasks = findings .before .before .before .before in
+    let totals = tasks .before .before .before .before in
+    let told = totals .before .before .before .before .before .before .before in
+    sheet-put _ _ (told .before .before .accept-file .ensures) (told .enum-told .given .1) (totals .put-totals .ensures)
+    (tasks .put-tasks .ensures) (findings .put-findings .ensures)
 
 pub put-sheet-spec : {M : Type 1} → statement M
 put-sheet-spec =

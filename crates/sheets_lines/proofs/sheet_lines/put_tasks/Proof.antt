@@ -3,12 +3,11 @@
 -- Assumes nothing.
 use Prim.Native.Nat.{_-_, _≤_}
 use native.Mathlib.Omega.{arith}
-use lib.ListN.{length}
 use borrow.Author.Needs.{needs}
 use Rattle.notation.specs.Lists.{upTo, each}
 use Rattle.timing.specs.Laws.TimeableLaws.{period-read}
-use Rattle.notation_buffers.specs.Laws.WritingLaws.{appends-length}
-use Rattle.sheets_printing.specs.Laws.LineLaws.{PutsText, puts-enough}
+use Rattle.sheets_printing.specs.Code.Puts.{PutsText}
+use Rattle.sheets_printing.specs.Laws.LineLaws.{puts-length}
 use Rattle.sheets_lines.specs.Laws.FailingLines.{texts-none, texts-more, texts-put}
 use Rattle.sheets_lines.specs.Code.SheetParts.{taskText}
 use Rattle.sheets_lines.specs.Laws.TaskLines.{task-put}
@@ -17,13 +16,13 @@ use Rattle.sheets_lines.proofs.sheet_lines.put_tasks.Tie as tie
 
 abbrev Inv-loop : tie.InvT-loop
 Inv-loop at out₀ t responses next₀ i₀ out next i =
-    (4608 ≤ length out) × (i ≤ t .tasks) × PutsText out₀ next₀ (each (upTo i) (taskText t responses)) out next
+    (i ≤ t .tasks) × PutsText out₀ next₀ (each (upTo i) (taskText t responses)) out next
 
 abbrev μ-loop : tie.MeasureT-loop
 μ-loop at out₀ t responses next₀ i₀ out next i = t .tasks - i
 
 loop-holds : tie.Need-loop-holds Inv-loop μ-loop
-loop-holds c = (c .before .pre .1, omega arith, texts-none _ _ _)
+loop-holds c = (omega arith, texts-none _ _ _)
 
 cast-e : tie.Need-cast-e Inv-loop μ-loop
 cast-e c = search needs
@@ -32,10 +31,10 @@ mul-e : tie.Need-mul-e Inv-loop μ-loop
 mul-e c = search needs
 
 element-copy-out-e : tie.Need-element-copy-out-e Inv-loop μ-loop
-element-copy-out-e c = omega (arith, c .before .before .before .pre .0 .shaped .tasksWithin)
+element-copy-out-e c = omega (arith, c .before .before .before .pre .shaped .tasksWithin)
 
 jobs-within-requires : tie.Need-jobs-within-requires Inv-loop μ-loop
-jobs-within-requires c κs = period-read (c .before .before .before .before .pre .0) _ _ (omega arith)
+jobs-within-requires c κs = period-read (c .before .before .before .before .pre) _ _ (omega arith)
 
 cast-put-task : tie.Need-cast-put-task Inv-loop μ-loop
 cast-put-task c = search needs
@@ -50,7 +49,7 @@ array-read-put-task : tie.Need-array-read-put-task Inv-loop μ-loop
 array-read-put-task c = search needs
 
 put-task-requires : tie.Need-put-task-requires Inv-loop μ-loop
-put-task-requires c κs = c .before .before .before .before .loop .inv .0
+put-task-requires c κs = search needs
 
 add-i : tie.Need-add-i Inv-loop μ-loop
 add-i c = search needs
@@ -60,20 +59,19 @@ loop-less c = search needs
 
 loop-again : tie.Need-loop-again Inv-loop μ-loop
 loop-again c =
-    let at = c .before .before .before .before .before .before .before in
-    let start = c .before .before .before .before .before .before .before .before .before .pre in
+    let put = c .before .before in
+    let jobs = put .before .before in
+    let at = jobs .before .before .before in
     let written =
-    task-put (start .0 .shaped) _ _ _ (c .before .before .before .before .before .before .loop-test .taken) (c .before .before .before .before .jobs-within .ensures .0) (c .before .before .put-task .ensures) in (
-      puts-enough (at .loop .inv .0) written,
-      omega arith,
-      texts-more _ _ (start .1) (at .loop .inv .2) written,
-    )
+    task-put (at .before .before .pre .shaped) _ _ _ (jobs .before .before .loop-test .taken) (jobs .jobs-within .ensures .0)
+    (put .put-task .ensures) in
+    (omega arith, texts-more _ _ (at .loop .inv .1) written)
 
 same-length : tie.Need-same-length Inv-loop μ-loop
-same-length c = appends-length (c .before .loop .inv .2) (c .before .before .before .pre .1)
+same-length c = puts-length (c .before .loop .inv .1)
 
 returns : tie.Need-returns Inv-loop μ-loop
-returns c = texts-put _ _ _ (c .before .loop .inv .1) (c .loop-test .left) (c .before .loop .inv .2)
+returns c = texts-put _ _ _ (c .before .loop .inv .0) (c .loop-test .left) (c .before .loop .inv .1)
 
 pub put-tasks-spec : {M : Type 1} → statement M
 put-tasks-spec =

@@ -6,12 +6,12 @@ use Prim.Native.Nat.{_-_, _≤_, _<_}
 use native.Mathlib.Omega.{arith}
 use lib.ListN.{length}
 use borrow.Author.Needs.{needs}
-use Rattle.notation_buffers.specs.Laws.WritingLaws.{appends-length}
 use Rattle.taskfile.specs.Tables.{bodyOf, endInstruction}
 use Rattle.writer.specs.Laws.FitsLaws.{entry-fits}
 use Rattle.texts.specs.Grammar.{lineText}
 use Rattle.texts.specs.TextTables.{instructionLine}
-use Rattle.sheets_printing.specs.Laws.LineLaws.{PutsText, puts-enough}
+use Rattle.sheets_printing.specs.Code.Puts.{PutsText}
+use Rattle.sheets_printing.specs.Laws.LineLaws.{puts-length}
 use Rattle.sheets_printing.specs.Laws.SpacedLaws.{partsTo, listed-none, listed-more, listed-whole}
 use Rattle.texts_lines.specs.Laws.TextLineLaws.{body-many, body-element, lines-put}
 use Rattle.texts_lines.proofs.all_lines.put_body_lines.Statement.{statement}
@@ -19,7 +19,7 @@ use Rattle.texts_lines.proofs.all_lines.put_body_lines.Tie as tie
 
 abbrev Inv-loop : tie.InvT-loop
 Inv-loop e at out₀ count next₀ p₀ out next p =
-    (4608 ≤ length out) × (p ≤ count)
+    (p ≤ count)
     × PutsText out₀ at (partsTo (λ i. lineText (instructionLine i)) (bodyOf e) p) out next
 
 abbrev μ-loop : tie.MeasureT-loop
@@ -36,13 +36,13 @@ held-count-requires : tie.Need-held-count-requires Inv-loop μ-loop
 held-count-requires c κs = search needs
 
 loop-holds : tie.Need-loop-holds Inv-loop μ-loop
-loop-holds c = (c .before .before .pre, omega arith, listed-none _ _ _ _)
+loop-holds c = (omega arith, listed-none _ _ _ _)
 
 instruction-of-requires : tie.Need-instruction-of-requires Inv-loop μ-loop
 instruction-of-requires c κs = search needs
 
 put-instruction-line-requires : tie.Need-put-instruction-line-requires Inv-loop μ-loop
-put-instruction-line-requires c κs = c .before .before .before .loop .inv .0
+put-instruction-line-requires c κs = search needs
 
 add-p : tie.Need-add-p Inv-loop μ-loop
 add-p c = search needs
@@ -58,19 +58,18 @@ loop-again c =
     let start = at .before .before .before in
     let inside : at .loop .p < length (bodyOf (start .args .e)) = omega (arith, counted (at .before)) in
     let written = put .put-instruction-line .ensures in (
-      puts-enough (at .loop .inv .0) written,
       omega arith,
-      listed-more _ _ (at .loop .p) endInstruction (start .pre) inside
-          (body-element _ (at .loop .p) (found .instruction-of .ensures) inside) (at .loop .inv .2) written,
+      listed-more _ _ (at .loop .p) endInstruction inside
+          (body-element _ (at .loop .p) (found .instruction-of .ensures) inside) (at .loop .inv .1) written,
     )
 
 same-length : tie.Need-same-length Inv-loop μ-loop
-same-length c = appends-length (c .before .loop .inv .2) (c .before .before .before .before .pre)
+same-length c = puts-length (c .before .loop .inv .1)
 
 returns : tie.Need-returns Inv-loop μ-loop
 returns c =
     lines-put _ _
-    (listed-whole _ _ (c .before .loop .p) (omega (arith, counted (c .before .before))) (c .before .loop .inv .2))
+    (listed-whole _ _ (c .before .loop .p) (omega (arith, counted (c .before .before))) (c .before .loop .inv .1))
 
 pub put-body-lines-spec : {M : Type 1} → statement M
 put-body-lines-spec =

@@ -6,12 +6,12 @@ use Prim.Native.Nat.{_-_, _≤_, _<_}
 use native.Mathlib.Omega.{arith}
 use lib.ListN.{length}
 use borrow.Author.Needs.{needs}
-use Rattle.notation_buffers.specs.Laws.WritingLaws.{appends-length}
 use Rattle.writer.specs.Claims.{noLock}
 use Rattle.writer.specs.Laws.FitsLaws.{table-fits}
 use Rattle.texts.specs.Grammar.{lineText}
 use Rattle.texts.specs.TextTables.{lockLine}
-use Rattle.sheets_printing.specs.Laws.LineLaws.{PutsText, puts-enough}
+use Rattle.sheets_printing.specs.Code.Puts.{PutsText}
+use Rattle.sheets_printing.specs.Laws.LineLaws.{puts-length}
 use Rattle.sheets_printing.specs.Laws.SpacedLaws.{partsTo, listed-none, listed-more, listed-whole}
 use Rattle.texts_lines.specs.Laws.TextLineLaws.{heldLocks, locks-many, locks-element, lines-put}
 use Rattle.texts_lines.proofs.all_lines.put_lock_lines.Statement.{statement}
@@ -19,7 +19,7 @@ use Rattle.texts_lines.proofs.all_lines.put_lock_lines.Tie as tie
 
 abbrev Inv-loop : tie.InvT-loop
 Inv-loop t at out₀ count next₀ l₀ out next l =
-    (4608 ≤ length out) × (l ≤ count)
+    (l ≤ count)
     × PutsText out₀ at (partsTo (λ lock. lineText (lockLine lock)) (heldLocks t) l) out next
 
 abbrev μ-loop : tie.MeasureT-loop
@@ -36,13 +36,13 @@ held-count-requires : tie.Need-held-count-requires Inv-loop μ-loop
 held-count-requires c κs = search needs
 
 loop-holds : tie.Need-loop-holds Inv-loop μ-loop
-loop-holds c = (c .before .before .pre, omega arith, listed-none _ _ _ _)
+loop-holds c = (omega arith, listed-none _ _ _ _)
 
 lock-of-requires : tie.Need-lock-of-requires Inv-loop μ-loop
 lock-of-requires c κs = search needs
 
 put-lock-line-requires : tie.Need-put-lock-line-requires Inv-loop μ-loop
-put-lock-line-requires c κs = c .before .before .before .loop .inv .0
+put-lock-line-requires c κs = search needs
 
 add-l : tie.Need-add-l Inv-loop μ-loop
 add-l c = search needs
@@ -58,20 +58,19 @@ loop-again c =
     let start = at .before .before .before in
     let inside : at .loop .l < length (heldLocks (start .args .t)) = omega (arith, counted (at .before)) in
     let written = put .put-lock-line .ensures in (
-      puts-enough (at .loop .inv .0) written,
       omega arith,
-      listed-more _ _ (at .loop .l) noLock (start .pre) inside
-          (locks-element _ (at .loop .l) (found .lock-of .ensures) inside) (at .loop .inv .2) written,
+      listed-more _ _ (at .loop .l) noLock inside
+          (locks-element _ (at .loop .l) (found .lock-of .ensures) inside) (at .loop .inv .1) written,
     )
 
 same-length : tie.Need-same-length Inv-loop μ-loop
-same-length c = appends-length (c .before .loop .inv .2) (c .before .before .before .before .pre)
+same-length c = puts-length (c .before .loop .inv .1)
 
 returns : tie.Need-returns Inv-loop μ-loop
 unfolding heldLocks
 returns c =
     lines-put _ _
-    (listed-whole _ _ (c .before .loop .l) (omega (arith, counted (c .before .before))) (c .before .loop .inv .2))
+    (listed-whole _ _ (c .before .loop .l) (omega (arith, counted (c .before .before))) (c .before .loop .inv .1))
 
 pub put-lock-lines-spec : {M : Type 1} → statement M
 put-lock-lines-spec =

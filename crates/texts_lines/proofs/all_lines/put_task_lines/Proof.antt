@@ -18,7 +18,7 @@ returns : tie.Need-returns
 returns c =
     let body = c .before .before in
     let line = body .before .before .before .before in
-    task-lines-put _ (line .before .before .before .pre) (line .put-task-line .ensures) (body .put-body-lines .ensures)
+    task-lines-put _ (line .put-task-line .ensures) (body .put-body-lines .ensures)
 
 pub put-task-lines-spec : {M : Type 1} → statement M
 put-task-lines-spec =

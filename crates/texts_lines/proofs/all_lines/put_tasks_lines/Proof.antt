@@ -6,12 +6,12 @@ use Prim.Native.Nat.{_-_, _≤_, _<_}
 use native.Mathlib.Omega.{arith}
 use lib.ListN.{length}
 use borrow.Author.Needs.{needs}
-use Rattle.notation_buffers.specs.Laws.WritingLaws.{appends-length}
 use Rattle.taskfile.specs.Tables.{tasksOf, noTask}
 use Rattle.writer.specs.Laws.FitsLaws.{table-fits}
 use Rattle.texts.specs.Grammar.{joined}
 use Rattle.texts.specs.TextTables.{taskLines}
-use Rattle.sheets_printing.specs.Laws.LineLaws.{PutsText, puts-enough}
+use Rattle.sheets_printing.specs.Code.Puts.{PutsText}
+use Rattle.sheets_printing.specs.Laws.LineLaws.{puts-length}
 use Rattle.sheets_printing.specs.Laws.SpacedLaws.{partsTo, listed-none, listed-more, listed-whole}
 use Rattle.texts_lines.specs.Laws.TextLineLaws.{tasks-many, tasks-element, lines-listed}
 use Rattle.texts_lines.proofs.all_lines.put_tasks_lines.Statement.{statement}
@@ -19,7 +19,7 @@ use Rattle.texts_lines.proofs.all_lines.put_tasks_lines.Tie as tie
 
 abbrev Inv-loop : tie.InvT-loop
 Inv-loop t at out₀ count next₀ i₀ out next i =
-    (4608 ≤ length out) × (i ≤ count) × PutsText out₀ at (partsTo (λ e. joined (taskLines e)) (tasksOf t) i) out next
+    (i ≤ count) × PutsText out₀ at (partsTo (λ e. joined (taskLines e)) (tasksOf t) i) out next
 
 abbrev μ-loop : tie.MeasureT-loop
 μ-loop t at out₀ count next₀ i₀ out next i = count - i
@@ -35,13 +35,13 @@ held-count-requires : tie.Need-held-count-requires Inv-loop μ-loop
 held-count-requires c κs = search needs
 
 loop-holds : tie.Need-loop-holds Inv-loop μ-loop
-loop-holds c = (c .before .before .pre, omega arith, listed-none _ _ _ _)
+loop-holds c = (omega arith, listed-none _ _ _ _)
 
 entry-of-requires : tie.Need-entry-of-requires Inv-loop μ-loop
 entry-of-requires c κs = search needs
 
 put-task-lines-requires : tie.Need-put-task-lines-requires Inv-loop μ-loop
-put-task-lines-requires c κs = c .before .before .before .loop .inv .0
+put-task-lines-requires c κs = search needs
 
 add-i : tie.Need-add-i Inv-loop μ-loop
 add-i c = search needs
@@ -57,19 +57,18 @@ loop-again c =
     let start = at .before .before .before in
     let inside : at .loop .i < length (tasksOf (start .args .t)) = omega (arith, counted (at .before)) in
     let written = put .put-task-lines .ensures in (
-      puts-enough (at .loop .inv .0) written,
       omega arith,
-      listed-more _ _ (at .loop .i) noTask (start .pre) inside
-          (tasks-element _ (at .loop .i) (found .entry-of .ensures) inside) (at .loop .inv .2) written,
+      listed-more _ _ (at .loop .i) noTask inside
+          (tasks-element _ (at .loop .i) (found .entry-of .ensures) inside) (at .loop .inv .1) written,
     )
 
 same-length : tie.Need-same-length Inv-loop μ-loop
-same-length c = appends-length (c .before .loop .inv .2) (c .before .before .before .before .pre)
+same-length c = puts-length (c .before .loop .inv .1)
 
 returns : tie.Need-returns Inv-loop μ-loop
 returns c =
     lines-listed _ _
-    (listed-whole _ _ (c .before .loop .i) (omega (arith, counted (c .before .before))) (c .before .loop .inv .2))
+    (listed-whole _ _ (c .before .loop .i) (omega (arith, counted (c .before .before))) (c .before .loop .inv .1))
 
 pub put-tasks-lines-spec : {M : Type 1} → statement M
 put-tasks-lines-spec =

@@ -27,7 +27,7 @@ returns c =
     let tasks = locks .before .before .before .before in
     let start = tasks .before .before .before .before in
     let window = start .before .before .before .before in
-    text-put _ (window .before .before .before .before .pre) (window .put-window-line .ensures)
+    text-put _ (window .put-window-line .ensures)
     (start .put-start-line .ensures) (tasks .put-tasks-lines .ensures) (locks .put-lock-lines .ensures)
 
 pub put-text-spec : {M : Type 1} → statement M

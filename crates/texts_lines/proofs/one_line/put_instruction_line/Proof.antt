@@ -45,7 +45,7 @@ returns c =
     let fields = ended .before .before .before .before in
     let name = fields .before .before .before .before .before in
     let used = name .before .before in
-    instruction-line-put _ (used .before .before .pre) (used .field-count .ensures) (name .put-name .ensures)
+    instruction-line-put _ (used .field-count .ensures) (name .put-name .ensures)
     (fields .then-bytes .ensures) (ended .end-line .ensures)
 
 pub put-instruction-line-spec : {M : Type 1} → statement M

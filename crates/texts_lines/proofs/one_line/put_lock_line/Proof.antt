@@ -39,7 +39,7 @@ returns c =
     line-ended
     (line-more
     (line-more
-    (line-begun (word .before .before .before .before .pre) (word .put-word .ensures))
+    (line-begun (word .put-word .ensures))
     (first .then-byte .ensures))
     (second .then-number .ensures))
     (ended .end-line .ensures)

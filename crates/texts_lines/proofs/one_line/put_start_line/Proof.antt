@@ -31,8 +31,7 @@ returns c =
     let ended = c .before .before in
     let values = ended .before .before .before .before in
     let word = values .before .before .before .before .before in
-    numbers-put startWord _ (word .before .before .before .before .pre) (word .put-word .ensures)
-    (values .then-bytes .ensures) (ended .end-line .ensures)
+    numbers-put startWord _ (word .put-word .ensures) (values .then-bytes .ensures) (ended .end-line .ensures)
 
 pub put-start-line-spec : {M : Type 1} → statement M
 put-start-line-spec =

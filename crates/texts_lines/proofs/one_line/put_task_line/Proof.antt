@@ -1,7 +1,7 @@
 -- `texts_lines::one_line::put_task_line` meets its contract. The words of the line stand one after the other.
 -- Assumes nothing.
 use borrow.Author.Needs.{needs}
-use Rattle.sheets.specs.Texts.{taskWord}
+use Rattle.sheets.specs.SheetWords.{taskWord}
 use Rattle.texts.specs.Grammar.{lineText, rowOf}
 use Rattle.sheets_printing.specs.Laws.LineLaws.{line-begun, line-more, line-ended}
 use Rattle.texts_lines.proofs.one_line.put_task_line.Statement.{statement}
@@ -49,7 +49,7 @@ returns c =
     (line-more
     (line-more
     (line-more
-    (line-begun (word .before .before .before .before .pre) (word .put-word .ensures))
+    (line-begun (word .put-word .ensures))
     (first .then-number .ensures))
     (second .then-number2 .ensures))
     (third .then-number3 .ensures))

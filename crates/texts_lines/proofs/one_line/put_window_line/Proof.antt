@@ -29,7 +29,7 @@ returns c =
     let first = ended .before .before .before .before in
     let word = first .before .before .before .before in
     line-ended
-    (line-more (line-begun (word .before .before .before .before .pre) (word .put-word .ensures))
+    (line-more (line-begun (word .put-word .ensures))
     (first .then-number .ensures))
     (ended .end-line .ensures)
 

@@ -3,7 +3,8 @@
 use mathlib.Core.Path.{_≡_, sym, _∙_}
 use mathlib.Core.Bool.{false}
 use borrow.Author.Needs.{needs}
-use Rattle.sheets.specs.Texts.{Text, taskWord}
+use Rattle.notation.specs.Texts.{Text}
+use Rattle.sheets.specs.SheetWords.{taskWord}
 use Rattle.texts.specs.declared.Form.the-variants.{WindowLine, StartLine, TaskLine, LockLine}
 use Rattle.texts.specs.Grammar.{rowOf}
 use Rattle.texts.specs.Words.{windowWord, startWord, lockWord}

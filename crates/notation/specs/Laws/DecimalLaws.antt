@@ -7,8 +7,8 @@ use native.Mathlib.Omega.{arith}
 use mathlib.Core.List.{List, [], _∷_, _++_}
 use lib.ListN.{length, length-append}
 use borrow.Author.Tests.{lt-ltb, le-ltb}
 use Rattle.notation.specs.Lists.{if_then_else_}
-use Rattle.sheets.specs.Texts.{Text, digit, digits, decimal}
+use Rattle.notation.specs.Texts.{Text, digit, digits, decimal}
 
 -- ---- one digit, and one digit after the others
 

@@ -7,9 +7,9 @@ use mathlib.Core.Bool.{Bool, true, false}
 use mathlib.Core.List.{List, [], _∷_, _++_, map}
 use lib.ListN.{length, getD, length-append}
 use lib.Dec.{ltb}
 use Rattle.notation.specs.Lists.{if_then_else_, only, each, sum}
 use Rattle.notation.specs.Ordered.{Every}
-use Rattle.sheets.specs.Texts.{Text, digit, digits, decimal, spaced, line}
+use Rattle.notation.specs.Texts.{Text, digit, digits, decimal, spaced, line}
 
 -- ---- lists
 
