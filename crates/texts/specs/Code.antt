@@ -1,1 +1,2 @@
+pub mod AddedLines
 pub mod LineParts

@@ -1,4 +1,4 @@
-pub mod AddedPartLaws
+pub mod AddedLinesLaws
 pub mod EveryLaws
 pub mod FormLaws
 pub mod GrammarLaws
@@ -7,9 +7,11 @@ pub mod LineSizes
 pub mod LinesBackLaws
 pub mod LongestText
 pub mod NumeralLaws
+pub mod OrderLaws
 pub mod RowLaws
 pub mod SeparatorLaws
 pub mod SoundTableLaws
+pub mod SpelledFits
 pub mod SpelledTableLaws
 pub mod TextDemandLaws
 pub mod TextExamples

@@ -1,17 +1,17 @@
 -- The table that lines spell, and the lines of a table. Document 02, E5: "Each table has one text".
--- A text may have more tasks, instructions and locks than a table holds. Its table then claims one too many, which is
--- refused by 5, whatever stands in it and after it (`Claims`).
+-- A text may have more tasks, instructions and locks than a table holds. Its table then claims one too many, and never
+-- more, which is refused by 5, whatever stands in it and after it (`Claims`).
 -- Assumes nothing.
-use Prim.Native.Nat.{ℕ, suc, min, _-_}
+use Prim.Native.Nat.{ℕ, suc, min}
 use mathlib.Core.List.{List, [], _∷_, _++_, map}
-use lib.ListN.{getD, take, set, length}
-use Rattle.notation.specs.Lists.{each, bytesAt}
+use lib.ListN.{getD, take, length}
+use Rattle.notation.specs.Lists.{each, padded}
 use Rattle.notation.specs.Texts.{Text}
 use Rattle.taskfile.specs.declared.Instruction.{Instruction}
 use Rattle.taskfile.specs.declared.Table.{Table}
 use Rattle.taskfile.specs.declared.TaskEntry.{TaskEntry}
 use Rattle.taskfile.specs.Chains.{mostTasks, mostLocks, mostInstructions}
-use Rattle.taskfile.specs.Tables.{tasksOf, bodyOf, noTask, emptyTable}
+use Rattle.taskfile.specs.Tables.{tasksOf, bodyOf, endInstruction, noTask, emptyTable}
 use Rattle.writer.specs.declared.Lock.{Lock}
 use Rattle.writer.specs.Claims.{lockArray}
 use Rattle.texts.specs.declared.Form.{Form}
@@ -20,102 +20,64 @@ use Rattle.texts.specs.Grammar.{Line, lineWith, rowOf, joined}
 
 -- ---- from lines to a table
 
--- one more, and never more than one too many
-unfoldable pub counted : ℕ → ℕ → ℕ
-counted most count = min (suc most) (suc count)
-
-unfoldable pub withWindow : Table → ℕ → Table
-withWindow t window =
-    record {
-      window = window;
-      store = t .store;
-      tasks = t .tasks;
-      entries = t .entries;
-      locks = t .locks;
-      ceilings = t .ceilings;
-      holdings = t .holdings;
-    }
-
-unfoldable pub withStore : Table → List ℕ → Table
-withStore t store =
-    record {
-      window = t .window;
-      store = store;
-      tasks = t .tasks;
-      entries = t .entries;
-      locks = t .locks;
-      ceilings = t .ceilings;
-      holdings = t .holdings;
-    }
-
-unfoldable pub withTasks : Table → ℕ → List TaskEntry → Table
-withTasks t tasks entries =
-    record {
-      window = t .window;
-      store = t .store;
-      tasks = tasks;
-      entries = entries;
-      locks = t .locks;
-      ceilings = t .ceilings;
-      holdings = t .holdings;
-    }
-
--- a task that has no instruction yet
-unfoldable pub bareTask : ℕ → ℕ → ℕ → TaskEntry
-bareTask execution period arrival =
-    record { execution = execution; period = period; arrival = arrival; length = 0; body = noTask .body }
-
-unfoldable pub addTask : Table → TaskEntry → Table
-addTask t e = withTasks t (counted mostTasks (t .tasks)) (set (t .entries) (t .tasks) e)
-
--- one instruction more at the end of a task's body
-unfoldable pub longerTask : TaskEntry → Instruction → TaskEntry
-longerTask e i =
-    record {
-      execution = e .execution;
-      period = e .period;
-      arrival = e .arrival;
-      length = counted mostInstructions (e .length);
-      body = set (e .body) (e .length) i;
-    }
-
--- an instruction belongs to the task that came last
-unfoldable pub addInstruction : Table → Instruction → Table
-addInstruction t i =
-    let last = t .tasks - 1 in
-    withTasks t (t .tasks) (set (t .entries) last (longerTask (getD (t .entries) last noTask) i))
-
-unfoldable pub addLock : Table → Lock → Table
-addLock t lock =
-    record {
-      window = t .window;
-      store = t .store;
-      tasks = t .tasks;
-      entries = t .entries;
-      locks = counted mostLocks (t .locks);
-      ceilings = set (t .ceilings) (t .locks) (lock .ceiling);
-      holdings = set (t .holdings) (t .locks) (lock .holding);
-    }
-
 -- The numbers of a line are its fields in order; the fields of an instruction that it does not use are zero.
 unfoldable pub instructionWith : ℕ → List ℕ → Instruction
 instructionWith operation numbers =
     record { operation = operation; a = getD numbers 0 0; b = getD numbers 1 0; c = getD numbers 2 0 }
 
-unfoldable pub addPart : Table → Form → List ℕ → Table
-addPart t WindowLine numbers = withWindow t (getD numbers 0 0)
-addPart t StartLine numbers = withStore t (bytesAt numbers 0 8)
-addPart t TaskLine numbers = addTask t (bareTask (getD numbers 0 0) (getD numbers 1 0) (getD numbers 2 0))
-addPart t (InstructionLine operation) numbers = addInstruction t (instructionWith operation numbers)
-addPart t LockLine numbers = addLock t (record { ceiling = getD numbers 0 0; holding = getD numbers 1 0 })
+-- "`task` C P A", and the body that its instruction lines are
+unfoldable pub taskWith : List ℕ → List Instruction → TaskEntry
+taskWith numbers body =
+    record {
+      execution = getD numbers 0 0;
+      period = getD numbers 1 0;
+      arrival = getD numbers 2 0;
+      length = min (suc mostInstructions) (length body);
+      body = padded mostInstructions endInstruction body;
+    }
 
--- each line adds its part to the table
-unfoldable pub addLines : Table → List Line → Table
-addLines t [] = t
-addLines t (l ∷ lines) = addLines (addPart t (l .form) (l .numbers)) lines
+-- "`lock` ceiling H"
+unfoldable pub lockWith : List ℕ → Lock
+lockWith numbers = record { ceiling = getD numbers 0 0; holding = getD numbers 1 0 }
 
+-- Lines in groups: the instructions ahead of the first task line, which are the body of a task line in front of them;
+-- the tasks, each with its body; the locks.
+pub record Groups : Type 0 where
+  pub body : List Instruction
+  pub tasks : List TaskEntry
+  pub locks : List Lock
+
+-- A line in front of lines in groups: "each task line followed by its instruction lines". A window or start line is not
+-- among them, since it comes first.
+unfoldable pub inFront : Form → List ℕ → Groups → Groups
+inFront WindowLine numbers g = g
+inFront StartLine numbers g = g
+inFront TaskLine numbers g =
+    record { body = []; tasks = taskWith numbers (g .body) ∷ g .tasks; locks = g .locks }
+inFront (InstructionLine operation) numbers g =
+    record { body = instructionWith operation numbers ∷ g .body; tasks = g .tasks; locks = g .locks }
+inFront LockLine numbers g = record { body = g .body; tasks = g .tasks; locks = lockWith numbers ∷ g .locks }
+
+unfoldable pub grouped : List Line → Groups
+grouped [] = record { body = []; tasks = []; locks = [] }
+grouped (l ∷ lines) = inFront (l .form) (l .numbers) (grouped lines)
+
+-- "a `window` line, a `start` line with eight values, then each task line followed by its instruction lines .., then
+-- lock lines". No text has less than the first two.
 unfoldable pub tableOf : List Line → Table
-tableOf lines = addLines emptyTable lines
+tableOf [] = emptyTable
+tableOf (window ∷ []) = emptyTable
+tableOf (window ∷ start ∷ others) =
+    let g = grouped others in
+    record {
+      window = getD (window .numbers) 0 0;
+      store = start .numbers;
+      tasks = min (suc mostTasks) (length (g .tasks));
+      entries = padded mostTasks noTask (g .tasks);
+      locks = min (suc mostLocks) (length (g .locks));
+      ceilings = padded mostLocks 0 (map (λ (lock : Lock). lock .ceiling) (g .locks));
+      holdings = padded mostLocks 0 (map (λ (lock : Lock). lock .holding) (g .locks));
+    }
 
 -- ---- from a table to its lines
 

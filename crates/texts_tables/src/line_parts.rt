@@ -16,13 +16,13 @@ use writer::Lock;
 ghost use mathlib.Core.Path.{_≡_};
 ghost use Prim.Native.Nat.{ℕ, _-_, _≤_};
 ghost use mathlib.Core.Bool.{true};
-ghost use mathlib.Core.List.{List};
-ghost use lib.ListN.{getD};
+ghost use mathlib.Core.List.{List, []};
 ghost use Rattle.notation.specs.Lists.{bytesAt};
 ghost use Rattle.taskfile.specs.declared.Instruction.{Instruction};
 ghost use Rattle.texts.specs.declared.Form.the-variants.{StartLine, TaskLine, InstructionLine, LockLine};
-ghost use Rattle.texts.specs.TextTables.{counted, withWindow, withStore, bareTask, addTask};
-ghost use Rattle.texts.specs.TextTables.{longerTask, addInstruction, addLock, instructionWith, addPart};
+ghost use Rattle.texts.specs.Code.AddedLines.{counted, withWindow, withStore, addTask};
+ghost use Rattle.texts.specs.Code.AddedLines.{longerTask, addInstruction, addLock, addPart};
+ghost use Rattle.texts.specs.TextTables.{instructionWith, taskWith, lockWith};
 ghost use Rattle.texts_tables.specs.Code.Overfull.{bodyOver, addsNothing};
 ghost use Rattle.texts_tables.specs.Code.PartFields.{PartFits};
 
@@ -111,7 +111,7 @@ pub fn add_lock(mut t: Table, lock: Lock) -> Table
 // A task's line: its times, and no instruction yet.
 pub fn task_with(numbers: [u64; NUMBERS]) -> TaskEntry
     requires { ⌜ PartFits TaskLine numbers ⌝ }
-    ensures { λ x. ⌜ x ≡ bareTask (getD numbers 0 0) (getD numbers 1 0) (getD numbers 2 0) ⌝ }
+    ensures { λ x. ⌜ x ≡ taskWith numbers [] ⌝ }
 {
     let none = empty_task();
     let body = none.body;
@@ -140,7 +140,7 @@ pub fn instruction_with(operation: u8, numbers: [u64; NUMBERS]) -> Instruction
 // A lock's line: its ceiling and its longest holding time.
 pub fn lock_with(numbers: [u64; NUMBERS]) -> Lock
     requires { ⌜ PartFits LockLine numbers ⌝ }
-    ensures { λ x. ⌜ x ≡ record { ceiling = getD numbers 0 0; holding = getD numbers 1 0 } ⌝ }
+    ensures { λ x. ⌜ x ≡ lockWith numbers ⌝ }
 {
     Lock {
         ceiling: numbers[0] as u8,

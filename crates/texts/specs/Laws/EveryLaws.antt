@@ -1,26 +1,14 @@
--- Laws of a fact of every element of a list: where an element is replaced, where one is read with a default, where two
--- facts make a third, and of a test of the numbers below n.
+-- Laws of a fact of every element of a list: where two facts make a third, and of a test of the numbers below n.
 -- Assumes nothing.
 use mathlib.Core.Path.{_≡_, sym, ap, _∙_}
-use Prim.Native.Nat.{ℕ, zero, suc, _<_}
+use Prim.Native.Nat.{ℕ, _<_}
 use native.Mathlib.Omega.{arith}
 use mathlib.Core.Bool.{Bool, true}
 use mathlib.Core.List.{List, [], _∷_}
-use lib.ListN.{getD, set}
 use Rattle.notation.specs.Laws.ListLaws.{getD-upTo, upTo-length}
 use Rattle.notation.specs.Laws.QuantifierLaws.{all-at}
 use Rattle.notation.specs.Lists.{upTo, all}
 use Rattle.notation.specs.Ordered.{Every}
-
-pub every-set : {A : Type 0} (P : A → Type 0) (xs : List A) (k : ℕ) (y : A) → Every P xs → P y → Every P (set xs k y)
-every-set P [] k y h new = tt
-every-set P (x ∷ xs) zero y h new = (new, h .1)
-every-set P (x ∷ xs) (suc k) y h new = (h .0, every-set P xs k y (h .1) new)
-
-pub every-default : {A : Type 0} (P : A → Type 0) (xs : List A) (k : ℕ) (d : A) → Every P xs → P d → P (getD xs k d)
-every-default P [] k d h blank = blank
-every-default P (x ∷ xs) zero d h blank = h .0
-every-default P (x ∷ xs) (suc k) d h blank = every-default P xs k d (h .1) blank
 
 pub every-both : {A : Type 0} (P Q R : A → Type 0) → ((x : A) → P x → Q x → R x) → (xs : List A) → Every P xs
     → Every Q xs → Every R xs

@@ -5,24 +5,21 @@ use Prim.Native.Nat.{ℕ, _≤_}
 use native.Mathlib.Omega.{arith}
 use mathlib.Core.List.{List}
 use lib.ListN.{length}
-use lib.Seq.{getD-take}
 use lib.Dec.{leb}
 use borrow.Author.Tests.{le-leb}
 use Rattle.notation.specs.Checked.{Checked, passed, require, placedBy}
 use Rattle.notation.specs.Laws.CheckedLaws.{passed-same, bind-passed, bind-goes, then-passed, then-goes}
 use Rattle.notation.specs.Laws.CheckedLaws.{require-holds, placed-passed}
 use Rattle.notation.specs.Laws.NumberedLaws.{Numbered, bind-numbered, then-numbered, require-numbered, placed-numbered}
-use Rattle.notation.specs.Laws.PairLaws.{every-at}
 use Rattle.notation.specs.Texts.{Text}
 use Rattle.taskfile.specs.declared.Table.{Table}
-use Rattle.taskfile.specs.declared.TaskEntry.{TaskEntry}
 use Rattle.taskfile.specs.Chains.{Chains, chainsOf}
 use Rattle.taskfile.specs.Records.{File}
-use Rattle.taskfile.specs.Tables.{tasksOf, noTask, tableAt}
+use Rattle.taskfile.specs.Tables.{tableAt}
 use Rattle.timing.specs.Accepted.{Accepted, accept}
 use Rattle.timing.specs.Laws.AcceptedLaws.{file-accepted}
-use Rattle.writer.specs.Covered.{covered}
 use Rattle.writer.specs.Values.{Bytes, Fits}
+use Rattle.writer.specs.Covered.{covered}
 use Rattle.writer.specs.Fields.{fields, acceptTable}
 use Rattle.writer.specs.Layout.{layout}
 use Rattle.writer.specs.SameTable.{SameTable}
@@ -30,7 +27,7 @@ use Rattle.writer.specs.WalkOrder.{inWalkOrder}
 use Rattle.writer.specs.WriteEntries.{fileRoom, written, answerOf}
 use Rattle.writer.specs.Laws.AcceptLaidLaws.{accept-laid}
 use Rattle.writer.specs.Laws.CheckedTableLaws.{fields-within}
-use Rattle.writer.specs.Laws.CoveredLaws.{covered-same, held-tasks-length}
+use Rattle.writer.specs.Laws.CoveredLaws.{covered-same}
 use Rattle.writer.specs.Laws.DeskDemandLaws.{written-room, zero-written, bytes-written, fields-sound, table-covered}
 use Rattle.writer.specs.Laws.DeskDemandLaws.{table-read, table-accepted}
 use Rattle.writer.specs.Laws.FieldsRead.{covered-read, fits-read}
@@ -43,11 +40,11 @@ use Rattle.texts.specs.TextDemand.{TextDemand}
 use Rattle.texts.specs.TextEntries.{textRoom, lineOfRecord, filed, texted, toFileAnswer, toFileAfter}
 use Rattle.texts.specs.TextEntries.{toTextAnswer, toTextAfter}
 use Rattle.texts.specs.TextTables.{tableOf, tableLines, textOf}
-use Rattle.texts.specs.Laws.AddedPartLaws.{lines-fit, empty-fits}
 use Rattle.texts.specs.Laws.GrammarLaws.{spelled-read, text-spelled, lines-unique}
 use Rattle.texts.specs.Laws.LinesBackLaws.{Held, lines-back}
 use Rattle.texts.specs.Laws.LongestText.{file-read, text-longest}
 use Rattle.texts.specs.Laws.SoundTableLaws.{table-spells}
+use Rattle.texts.specs.Laws.SpelledFits.{table-fits}
 use Rattle.texts.specs.Laws.SpelledTableLaws.{table-spelled}
 use Rattle.texts.specs.Laws.TextFaults.{read-numbered}
 
@@ -56,22 +53,12 @@ use Rattle.texts.specs.Laws.TextFaults.{read-numbered}
 module _ (lines : List Line) {text : Text} (spells : Spells lines text) {a : Accepted}
     (e : acceptTable (tableOf lines) ≡ passed a) where
   spelled-fits : Fits (tableOf lines)
-  unfolding tableOf
-  spelled-fits = lines-fit _ lines empty-fits (spells .good)
+  spelled-fits = table-fits lines (spells .placed) (spells .good)
 
   spelled-held : Held (tableOf lines)
-  unfolding tasksOf
   spelled-held =
-      let t = tableOf lines in
-      let within = fields-within t spelled-fits (fields-sound t e) in
-      record {
-        tasks = within .0;
-        locks = within .1;
-        lengths = λ k lt.
-            subst (λ (x : TaskEntry). x .length ≤ 16) (getD-take (t .tasks) (t .entries) k noTask lt)
-            (every-at (λ (x : TaskEntry). x .length ≤ 16) (tasksOf t) k noTask (within .2)
-            (omega (arith, lt, held-tasks-length t spelled-fits (within .0))));
-      }
+      let within = fields-within (tableOf lines) spelled-fits (fields-sound (tableOf lines) e) in
+      record { tasks = within .0; locks = within .1; lengths = within .2 }
 
   -- its text is this text, and nothing stands past its counts
   spelled-lines : tableLines (tableOf lines) ≡ lines

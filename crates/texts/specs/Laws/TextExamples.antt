@@ -11,7 +11,7 @@ use Rattle.sheets.specs.SheetWords.{taskWord}
 use Rattle.taskfile.specs.Records.{tidyInstruction, fieldsInRange, choiceInRange, instructionInRange}
 use Rattle.taskfile.specs.Records.{usesOf, operationUses}
 use Rattle.taskfile.specs.Records.{tidyField, fieldInRange}
-use Rattle.taskfile.specs.Tables.{tasksOf, bodyOf, noTask, emptyTable}
+use Rattle.taskfile.specs.Tables.{tasksOf, bodyOf, noTask}
 use Rattle.writer.specs.Claims.{claimed, claimedTasks, claimedBody, lockByLock, claimedLocks}
 use Rattle.writer.specs.Positions.{positionWhere}
 use Rattle.writer.specs.Sites.{bodySites, taskSites, sites, siteNumbers, sameSite, indexOf}
@@ -23,9 +23,7 @@ use Rattle.texts.specs.Grammar.{rowOf, operationRows, lineWith, lineText
 use Rattle.texts.specs.Reading.{begins, parts, isDigit, isEmpty, isNumeral, valueAfter, valueOf, forms}
 use Rattle.texts.specs.Reading.{formNamed, lineRead, linesRead, textRead}
 use Rattle.texts.specs.TextEntries.{filed, lineOfRecord}
-use Rattle.texts.specs.TextTables.{counted, withWindow, withStore, withTasks, bareTask, addTask, longerTask}
-use Rattle.texts.specs.TextTables.{addInstruction}
-use Rattle.texts.specs.TextTables.{addLock, instructionWith, addPart, addLines, tableOf}
+use Rattle.texts.specs.TextTables.{instructionWith, taskWith, lockWith, inFront, grouped, tableOf}
 use Rattle.texts.specs.TextTables.{tableLines, taskLines, instructionLine, lockLine, textOf}
 use Rattle.texts.specs.Words.{windowWord, startWord, lockWord, endWord, loadWord, storeWord, setWord, addWord}
 use Rattle.texts.specs.Words.{subtractWord, lessWord, equalWord, pickWord, acquireWord, releaseWord, assertWord}
@@ -103,8 +101,8 @@ pick-two = refl
 
 -- all that judging a text's table rests on
 unfoldable judging : Unit {0}
-unfolding opened filed lineOfRecord tableOf addLines addPart withWindow withStore withTasks counted bareTask addTask
-    longerTask addInstruction addLock instructionWith emptyTable written acceptTable judgedWhole placedBy indexOf fields
+unfolding opened filed lineOfRecord tableOf grouped inFront taskWith lockWith instructionWith
+    written acceptTable judgedWhole placedBy indexOf fields
     taskFields bodyFields bodySites taskSites sites siteNumbers sameSite positionWhere claimedTasks claimedBody
     claimedLocks claimed tidyInstruction
     fieldsInRange choiceInRange instructionInRange usesOf operationUses tidyField fieldInRange

@@ -9,9 +9,9 @@ use Rattle.notation.specs.Texts.{Text}
 use Rattle.taskfile.specs.declared.Table.{Table}
 use Rattle.taskfile.specs.Tables.{emptyTable}
 use Rattle.texts.specs.declared.TextRead.{TextRead}
+use Rattle.texts.specs.Code.AddedLines.{addPart}
 use Rattle.texts.specs.Grammar.{rowOf, atTasks}
 use Rattle.texts.specs.Reading.{isEmpty, lineRead}
-use Rattle.texts.specs.TextTables.{addPart}
 
 -- the lines from line k on, which comes at a stage, after those that spell a table
 unfoldable pub tableRead : Table → ℕ → ℕ → List Text → Checked ℕ Table

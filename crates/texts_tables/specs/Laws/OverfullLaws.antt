@@ -16,7 +16,7 @@ use Rattle.taskfile.specs.declared.Table.{Table}
 use Rattle.taskfile.specs.declared.TaskEntry.{TaskEntry}
 use Rattle.taskfile.specs.Chains.{mostTasks, mostInstructions}
 use Rattle.taskfile.specs.Tables.{noTask}
-use Rattle.texts.specs.TextTables.{addInstruction, withTasks, longerTask, counted}
+use Rattle.texts.specs.Code.AddedLines.{addInstruction, withTasks, longerTask, counted}
 use Rattle.writer.specs.Values.{Fits, FitsEntry}
 use Rattle.texts_tables.specs.Code.Overfull.{bodyOver}
 

@@ -14,16 +14,18 @@ use Rattle.notation.specs.Laws.ElementLaws.{same-equal}
 use Rattle.notation.specs.Laws.PaddedLaws.{padded-at}
 use Rattle.notation.specs.Laws.TabulateLaws.{same-values}
 use Rattle.notation.specs.Laws.TestLaws.{and-both, and-holds}
-use Rattle.notation.specs.Lists.{padded, bytesAt, upTo, from, all, same}
+use Rattle.notation.specs.Lists.{padded, bytesAt, all, same}
 use Rattle.taskfile.specs.declared.Table.{Table}
+use Rattle.taskfile.specs.Chains.{mostInstructions}
+use Rattle.taskfile.specs.Tables.{endInstruction}
 use Rattle.texts.specs.declared.Form.{Form}
 use Rattle.texts.specs.declared.Form.the-variants.{WindowLine, StartLine, TaskLine, InstructionLine, LockLine}
+use Rattle.texts.specs.Code.AddedLines.{addPart, withWindow, withStore, addTask, addInstruction, addLock}
 use Rattle.texts.specs.Grammar.{Row, rowOf, operationRows, fits, byteField}
-use Rattle.texts.specs.Laws.AddedPartLaws.{fits-at}
 use Rattle.texts.specs.Laws.FormLaws.{operation-tested}
 use Rattle.texts.specs.Laws.LineReadLaws.{fits-length}
-use Rattle.texts.specs.TextTables.{addPart, withWindow, withStore, addTask, bareTask, addInstruction, addLock}
-use Rattle.texts.specs.TextTables.{instructionWith}
+use Rattle.texts.specs.Laws.SpelledFits.{fits-at}
+use Rattle.texts.specs.TextTables.{instructionWith, taskWith, lockWith}
 use Rattle.texts_tables.specs.Code.PartFields.{partFields, PartFits}
 
 -- ---- each number fits its field
@@ -113,7 +115,7 @@ bytes-padded numbers =
 
 pub part-padded : (t : Table) (form : Form) (numbers : List ℕ)
     → addPart t form (padded 8 0 numbers) ≡ addPart t form numbers
-unfolding addPart instructionWith bytesAt upTo from
+unfolding addPart instructionWith taskWith lockWith
 part-padded t form numbers = go form
   where
     at : (k : ℕ) → k < 8 → getD (padded 8 0 numbers) k 0 ≡ getD numbers k 0
@@ -131,7 +133,14 @@ part-padded t form numbers = go form
     go : (form : Form) → addPart t form (padded 8 0 numbers) ≡ addPart t form numbers
     go WindowLine = λ i. withWindow t (first i)
     go StartLine = ap (withStore t) (bytes-padded numbers)
-    go TaskLine = λ i. addTask t (bareTask (first i) (second i) (third i))
+    go TaskLine =
+        λ i. addTask t (record {
+          execution = first i;
+          period = second i;
+          arrival = third i;
+          length = 0;
+          body = padded mostInstructions endInstruction [];
+        })
     go (InstructionLine operation) =
         λ i. addInstruction t (record { operation = operation; a = first i; b = second i; c = third i })
     go LockLine = λ i. addLock t (record { ceiling = first i; holding = second i })

@@ -21,10 +21,12 @@ use Rattle.taskfile.specs.Tables.{emptyTable}
 use Rattle.texts.specs.declared.Form.{Form}
 use Rattle.texts.specs.declared.LineRead.{LineRead}
 use Rattle.texts.specs.declared.TextRead.{TextRead}
+use Rattle.texts.specs.Code.AddedLines.{addPart, addLines}
 use Rattle.texts.specs.Code.LineParts.{partEnd, lineAnswer, textAnswer}
 use Rattle.texts.specs.Grammar.{Line, rowOf, atWindow, atTasks}
+use Rattle.texts.specs.Laws.AddedLinesLaws.{lines-added}
+use Rattle.texts.specs.Laws.GrammarLaws.{text-spelled}
 use Rattle.texts.specs.Reading.{parts, isEmpty, lineRead, linesRead, textRead}
-use Rattle.texts.specs.TextTables.{addPart, addLines, tableOf}
 use Rattle.texts_tables.specs.Code.PartFields.{PartFits}
 use Rattle.texts_tables.specs.Laws.PartFieldLaws.{part-padded}
 use Rattle.texts_tables.specs.Code.TableReading.{tableRead, tableReadAs}
@@ -38,12 +40,12 @@ restRead t k stage ps = tableReadAs (tableRead t k stage ps)
 -- ---- the table beside the lines
 
 -- one line more in front of those that were read
-lines-added : (c : Checked ℕ (List Line)) (t : Table) (l : Line)
+line-in-front : (c : Checked ℕ (List Line)) (t : Table) (l : Line)
     → _>>=_ c (λ lines. passed (addLines (addPart t (l .form) (l .numbers)) lines))
     ≡ _>>=_ {P = ℕ} (_>>=_ c (λ lines. passed (l ∷ lines))) (λ lines. passed (addLines t lines))
 unfolding _>>=_ addLines
-lines-added (refused number place) t l = refl
-lines-added (passed lines) t l = refl
+line-in-front (refused number place) t l = refl
+line-in-front (passed lines) t l = refl
 
 -- reading with the table is reading the lines, and then adding them to the table
 table-read-agreed : (t : Table) (k stage : ℕ) (ps : List Text)
@@ -68,20 +70,24 @@ table-read-agreed t k stage (bytes ∷ next ∷ others) =
     go (refused number place) later = refl
     go (passed l) later =
         later (addPart t (l .form) (l .numbers)) (suc k) (rowOf (l .form) .stage)
-        ∙ lines-added (linesRead (suc k) (rowOf (l .form) .stage) (next ∷ others)) t l
+        ∙ line-in-front (linesRead (suc k) (rowOf (l .form) .stage) (next ∷ others)) t l
 
-lines-answered : (c : Checked ℕ (List Line))
+-- the lines of a text that was read add up to the table that they spell
+lines-answered : (text : Text) (c : Checked ℕ (List Line)) → textRead text ≡ c
     → tableReadAs (_>>=_ c (λ lines. passed (addLines emptyTable lines))) ≡ textAnswer c
-unfolding tableReadAs _>>=_ textAnswer tableOf
-lines-answered (refused number place) = refl
-lines-answered (passed lines) = refl
+unfolding tableReadAs _>>=_ textAnswer
+lines-answered text (refused number place) read = refl
+lines-answered text (passed lines) read =
+    let spells = text-spelled text lines read in
+    ap (λ (t : Table). record { number = 0; line = 0; table = t })
+    (lines-added lines (spells .placed) (spells .good))
 
 -- what the whole text comes to
 text-answered : (text : Text) → restRead emptyTable 0 atWindow (parts 10 text) ≡ textAnswer (textRead text)
 unfolding textRead
 text-answered text =
     ap tableReadAs (table-read-agreed emptyTable 0 atWindow (parts 10 text))
-    ∙ lines-answered (linesRead 0 atWindow (parts 10 text))
+    ∙ lines-answered text (linesRead 0 atWindow (parts 10 text)) refl
 
 -- ---- a line, and what comes after it
 

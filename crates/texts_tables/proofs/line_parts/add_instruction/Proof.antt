@@ -12,7 +12,7 @@ use Rattle.taskfile.specs.declared.Instruction.{Instruction}
 use Rattle.taskfile.specs.declared.Table.{Table}
 use Rattle.taskfile.specs.declared.TaskEntry.{TaskEntry}
 use Rattle.taskfile.specs.Tables.{noTask}
-use Rattle.texts.specs.TextTables.{addInstruction, withTasks, longerTask}
+use Rattle.texts.specs.Code.AddedLines.{addInstruction, withTasks, longerTask}
 use Rattle.writer.specs.Values.{Fits}
 use Rattle.writer.specs.Laws.FitsLaws.{table-fits}
 use Rattle.texts_tables.proofs.line_parts.add_instruction.Statement.{statement}

@@ -6,7 +6,7 @@ use lib.Dec.{lit<}
 use Rattle.texts.specs.declared.Form.{Form}
 use Rattle.texts.specs.declared.Form.the-variants.{WindowLine}
 use Rattle.texts.specs.Grammar.{rowOf}
-use Rattle.texts.specs.TextTables.{addPart, withStore, addTask, addInstruction, addLock}
+use Rattle.texts.specs.Code.AddedLines.{addPart, withStore, addTask, addInstruction, addLock}
 use Rattle.texts_tables.specs.Code.PartFields.{partFields, PartFits}
 use Rattle.texts_tables.specs.Laws.PartFieldLaws.{field-holds}
 use Rattle.texts_tables.proofs.line_parts.add_part.Statement.{statement}

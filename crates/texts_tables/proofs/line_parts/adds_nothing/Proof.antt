@@ -5,7 +5,7 @@ use mathlib.Core.Path.{ap, sym, _∙_}
 use mathlib.Core.Bool.{false≢true}
 use borrow.Author.Needs.{needs}
 use Rattle.texts.specs.declared.Form.{Form}
-use Rattle.texts.specs.TextTables.{addPart}
+use Rattle.texts.specs.Code.AddedLines.{addPart}
 use Rattle.texts_tables.specs.Code.Overfull.{addsNothing}
 use Rattle.texts_tables.proofs.line_parts.adds_nothing.Statement.{statement}
 use Rattle.texts_tables.proofs.line_parts.adds_nothing.Tie as tie

@@ -7,6 +7,7 @@ use lib.Dec.{lit<}
 use lib.ListN.{getD}
 use Rattle.texts.specs.declared.Form.the-variants.{LockLine}
 use Rattle.texts.specs.Grammar.{rowOf}
+use Rattle.texts.specs.TextTables.{lockWith}
 use Rattle.texts_tables.specs.Code.PartFields.{partFields}
 use Rattle.texts_tables.specs.Laws.PartFieldLaws.{field-holds}
 use Rattle.texts_tables.proofs.line_parts.lock_with.Statement.{statement}
@@ -31,6 +32,7 @@ cast-t10 : tie.Need-cast-t10
 cast-t10 c = omega (arith, below c)
 
 returns : tie.Need-returns
+unfolding lockWith
 returns c = search needs
 
 pub lock-with-spec : {M : Type 1} → statement M

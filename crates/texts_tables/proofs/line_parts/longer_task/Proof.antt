@@ -5,7 +5,7 @@ use native.Mathlib.Omega.{arith}
 use borrow.Author.Needs.{needs}
 use lib.ListN.{set}
 use lib.Seq.{set-out}
-use Rattle.texts.specs.TextTables.{longerTask}
+use Rattle.texts.specs.Code.AddedLines.{longerTask}
 use Rattle.writer.specs.Values.{FitsEntry}
 use Rattle.writer.specs.Laws.FitsLaws.{entry-fits}
 use Rattle.texts_tables.proofs.line_parts.longer_task.Statement.{statement}

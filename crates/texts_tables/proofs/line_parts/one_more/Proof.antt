@@ -2,7 +2,7 @@
 -- Assumes nothing.
 use native.Mathlib.Omega.{arith}
 use borrow.Author.Needs.{needs}
-use Rattle.texts.specs.TextTables.{counted}
+use Rattle.texts.specs.Code.AddedLines.{counted}
 use Rattle.texts_tables.proofs.line_parts.one_more.Statement.{statement}
 use Rattle.texts_tables.proofs.line_parts.one_more.Tie as tie
 

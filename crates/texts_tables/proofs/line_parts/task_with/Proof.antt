@@ -5,9 +5,10 @@ use native.Mathlib.Omega.{arith}
 use borrow.Author.Needs.{needs}
 use lib.Dec.{lit<}
 use lib.ListN.{getD}
+use Rattle.taskfile.specs.Tables.{noTask}
 use Rattle.texts.specs.declared.Form.the-variants.{TaskLine}
 use Rattle.texts.specs.Grammar.{rowOf}
-use Rattle.texts.specs.TextTables.{bareTask}
+use Rattle.texts.specs.TextTables.{taskWith}
 use Rattle.texts_tables.specs.Code.PartFields.{partFields}
 use Rattle.texts_tables.specs.Laws.PartFieldLaws.{field-holds}
 use Rattle.texts_tables.proofs.line_parts.task_with.Statement.{statement}
@@ -42,7 +43,7 @@ cast-t16 : tie.Need-cast-t16
 cast-t16 c = omega (arith, below (c .before .before))
 
 returns : tie.Need-returns
-unfolding bareTask
+unfolding taskWith noTask
 returns c =
     let numbers = c .before .before .args .t1 in
     λ i. record {

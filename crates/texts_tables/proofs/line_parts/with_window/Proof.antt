@@ -1,7 +1,7 @@
 -- `texts_tables::line_parts::with_window` meets its contract: one field is stored.
 -- Assumes nothing.
 use mathlib.Core.Path.{refl}
-use Rattle.texts.specs.TextTables.{withWindow}
+use Rattle.texts.specs.Code.AddedLines.{withWindow}
 use Rattle.texts_tables.proofs.line_parts.with_window.Statement.{statement}
 use Rattle.texts_tables.proofs.line_parts.with_window.Tie as tie
 

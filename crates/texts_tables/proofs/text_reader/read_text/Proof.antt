@@ -9,9 +9,9 @@ use borrow.Author.Needs.{needs}
 use borrow.Author.Tests.{not-false}
 use lib.ListN.{length, take, drop}
 use Rattle.texts_reading.specs.Laws.NamedLineLaws.{line-placed}
+use Rattle.texts.specs.Code.AddedLines.{addPart}
 use Rattle.texts.specs.Code.LineParts.{lineAnswer}
 use Rattle.texts.specs.Reading.{lineRead}
-use Rattle.texts.specs.TextTables.{addPart}
 use Rattle.texts_tables.specs.Laws.TextReadLaws.{TextReadTo, text-begun, text-unended, text-short, text-whole}
 use Rattle.texts_tables.specs.Laws.TextReadLaws.{text-stopped, numbers-fit, text-more}
 use Rattle.texts_tables.proofs.text_reader.read_text.Statement.{statement}
