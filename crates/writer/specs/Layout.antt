@@ -69,3 +69,7 @@ layout t =
     headerRecord t (linkTo 1 (claimedTasks t)) (linkTo (locksAt t) (claimedLocks t))
     ++ taskRecords 1 (claimedTasks t)
     ++ lockRecords (locksAt t) (claimedLocks t)
+
+-- the bytes that any table's layout fits in, counts that are too high among them: 1 + 9 + 9 × 17 + 9 records
+abbrev pub layoutRoom : ℕ
+layoutRoom = 2_752

@@ -11,10 +11,56 @@ use Rattle.notation.specs.Lists.{upTo, bytesAt, each}
 use Rattle.taskfile.specs.declared.Instruction.{Instruction}
 use Rattle.taskfile.specs.declared.Table.{Table}
 use Rattle.taskfile.specs.declared.TaskEntry.{TaskEntry}
+use Rattle.taskfile.specs.Chains.{mostTasks, mostLocks, mostInstructions}
 use Rattle.writer.specs.Layout.{wideBytes}
 
 abbrev pub tableBytes : ℕ
 tableBytes = 696
+
+-- where the table's parts stand
+abbrev pub windowAt : ℕ
+windowAt = 0
+
+abbrev pub storeAt : ℕ
+storeAt = 4
+
+abbrev pub taskCountAt : ℕ
+taskCountAt = 12
+
+abbrev pub lockCountAt : ℕ
+lockCountAt = 13
+
+abbrev pub ceilingsAt : ℕ
+ceilingsAt = 16
+
+abbrev pub entriesAt : ℕ
+entriesAt = 24
+
+abbrev pub holdingsAt : ℕ
+holdingsAt = 664
+
+-- how many bytes an entry has, and where its parts stand in it, after its execution time
+abbrev pub entrySize : ℕ
+entrySize = 80
+
+abbrev pub periodAt : ℕ
+periodAt = 4
+
+abbrev pub arrivalAt : ℕ
+arrivalAt = 8
+
+abbrev pub lengthAt : ℕ
+lengthAt = 12
+
+abbrev pub bodyAt : ℕ
+bodyAt = 16
+
+-- how many bytes a wide field has, and an instruction
+abbrev pub wideSize : ℕ
+wideSize = 4
+
+abbrev pub instructionSize : ℕ
+instructionSize = 4
 
 unfoldable pub byteIn : List ℕ → ℕ → ℕ
 byteIn memory at = getD memory at 0
@@ -37,24 +83,24 @@ unfoldable pub entryIn : List ℕ → ℕ → TaskEntry
 entryIn memory at =
     record {
       execution = wideIn memory at;
-      period = wideIn memory (at + 4);
-      arrival = wideIn memory (at + 8);
-      length = byteIn memory (at + 12);
-      body = map (λ p. instructionIn memory (at + 16 + 4 * p)) (upTo 16);
+      period = wideIn memory (at + periodAt);
+      arrival = wideIn memory (at + arrivalAt);
+      length = byteIn memory (at + lengthAt);
+      body = map (λ p. instructionIn memory (at + bodyAt + instructionSize * p)) (upTo mostInstructions);
     }
 
 unfoldable pub holdingsIn : List ℕ → List ℕ
-holdingsIn memory = map (λ l. wideIn memory (664 + 4 * l)) (upTo 8)
+holdingsIn memory = map (λ l. wideIn memory (holdingsAt + wideSize * l)) (upTo mostLocks)
 
 unfoldable pub tableIn : List ℕ → Table
 tableIn memory =
     record {
-      window = wideIn memory 0;
-      store = bytesAt memory 4 8;
-      tasks = byteIn memory 12;
-      entries = map (λ i. entryIn memory (24 + 80 * i)) (upTo 8);
-      locks = byteIn memory 13;
-      ceilings = bytesAt memory 16 8;
+      window = wideIn memory windowAt;
+      store = bytesAt memory storeAt 8;
+      tasks = byteIn memory taskCountAt;
+      entries = map (λ i. entryIn memory (entriesAt + entrySize * i)) (upTo mostTasks);
+      locks = byteIn memory lockCountAt;
+      ceilings = bytesAt memory ceilingsAt mostLocks;
       holdings = holdingsIn memory;
     }
 

@@ -7,11 +7,13 @@ use mathlib.Core.Bool.{Bool}
 use mathlib.Core.List.{List, [], _∷_, _++_, map}
 use lib.ListN.{length}
 use Rattle.notation.specs.Lists.{upTo, same}
+use Rattle.taskfile.specs.declared.Kind.the-variants.{Header, TaskRecord, LockRecord, InstructionRecord}
 use Rattle.taskfile.specs.declared.Site.{Site}
 use Rattle.taskfile.specs.declared.Site.the-variants.{AtHeader, AtTask, AtInstruction, AtLock}
 use Rattle.taskfile.specs.declared.Table.{Table}
 use Rattle.taskfile.specs.declared.TaskEntry.{TaskEntry}
 use Rattle.taskfile.specs.Judgement.{numbered}
+use Rattle.taskfile.specs.Records.{kindNumber}
 use Rattle.writer.specs.Claims.{claimedTasks, claimedBody, claimedLocks}
 use Rattle.writer.specs.Positions.{positionWhere}
 
@@ -30,10 +32,10 @@ sites t = AtHeader ∷ taskSites 0 (claimedTasks t) ++ map AtLock (upTo (length 
 
 -- a site by numbers: its record's kind, and then its task and its position in the body, or its lock
 unfoldable pub siteNumbers : Site → List ℕ
-siteNumbers AtHeader = 1 ∷ []
-siteNumbers (AtTask i) = 2 ∷ i .0 ∷ []
-siteNumbers (AtLock l) = 3 ∷ l ∷ []
-siteNumbers (AtInstruction i p) = 4 ∷ i .0 ∷ p ∷ []
+siteNumbers AtHeader = kindNumber Header ∷ []
+siteNumbers (AtTask i) = kindNumber TaskRecord ∷ i .0 ∷ []
+siteNumbers (AtLock l) = kindNumber LockRecord ∷ l ∷ []
+siteNumbers (AtInstruction i p) = kindNumber InstructionRecord ∷ i .0 ∷ p ∷ []
 
 -- are the two sites the same?
 unfoldable pub sameSite : Site → Site → Bool

@@ -1,4 +1,5 @@
-// The table in memory and the writer: what their entries answer, and where a table's parts stand in memory. Document 02, E2.
+// The table in memory and the writer: what their entries answer, and where a table's parts stand in memory.
+// Document 02, E2.
 // What both entries answer: number and place, and how many bytes were written.
 pub struct WriteAnswer {
     pub number: u8,

@@ -16,7 +16,7 @@ use taskfile::TaskEntry;
 ghost use Prim.Native.Nat.{_≤_};
 ghost use lib.ListN.{length};
 ghost use Rattle.writer.specs.Claims.{claimedTasks, claimedBody, claimedLocks};
-ghost use Rattle.writer.specs.Layout.{bodyRecords, taskRecords, lockRecords, layout};
+ghost use Rattle.writer.specs.Layout.{bodyRecords, taskRecords, lockRecords, layout, layoutRoom};
 ghost use Rattle.notation_buffers.specs.Code.Writing.{Appends};
 ghost use Rattle.writer_layout.specs.Code.Layouts.{taskPart};
 
@@ -25,8 +25,8 @@ const FIRST_TASK: u8 = 1;
 
 // Writes the records of a body from index r on.
 pub fn put_body(e: TaskEntry, r: u8, at: usize, out: &mut [u8]) -> usize
-    requires { ⌜ (r ≤ 200) × (2752 ≤ length (now out)) ⌝ }
-    ensures { λ n. ⌜ Appends 2752 (now (out .entry)) at (bodyRecords r (claimedBody e)) (now (out .exit)) n ⌝ }
+    requires { ⌜ (r ≤ 200) × (layoutRoom ≤ length (now out)) ⌝ }
+    ensures { λ n. ⌜ Appends layoutRoom (now (out .entry)) at (bodyRecords r (claimedBody e)) (now (out .exit)) n ⌝ }
 {
     let count = body_count(e);
     let mut next = at;
@@ -41,8 +41,8 @@ pub fn put_body(e: TaskEntry, r: u8, at: usize, out: &mut [u8]) -> usize
 
 // Writes the record of a task at index r, whose next record is at index `link`, and its body.
 pub fn put_task(e: TaskEntry, r: u8, link: u8, at: usize, out: &mut [u8]) -> usize
-    requires { ⌜ (r ≤ 180) × (2752 ≤ length (now out)) ⌝ }
-    ensures { λ n. ⌜ Appends 2752 (now (out .entry)) at (taskPart e r link) (now (out .exit)) n ⌝ }
+    requires { ⌜ (r ≤ 180) × (layoutRoom ≤ length (now out)) ⌝ }
+    ensures { λ n. ⌜ Appends layoutRoom (now (out .entry)) at (taskPart e r link) (now (out .exit)) n ⌝ }
 {
     let first = link_at(r + 1, 0, body_count(e));
     let body = put_task_record(e, link, first, at, out);
@@ -51,8 +51,8 @@ pub fn put_task(e: TaskEntry, r: u8, link: u8, at: usize, out: &mut [u8]) -> usi
 
 // Writes the records of a table's tasks, each followed by its body.
 pub fn put_tasks(t: Table, at: usize, out: &mut [u8]) -> usize
-    requires { ⌜ 2752 ≤ length (now out) ⌝ }
-    ensures { λ n. ⌜ Appends 2752 (now (out .entry)) at (taskRecords 1 (claimedTasks t)) (now (out .exit)) n ⌝ }
+    requires { ⌜ layoutRoom ≤ length (now out) ⌝ }
+    ensures { λ n. ⌜ Appends layoutRoom (now (out .entry)) at (taskRecords 1 (claimedTasks t)) (now (out .exit)) n ⌝ }
 {
     let count = task_count(t);
     let mut next = at;
@@ -70,8 +70,8 @@ pub fn put_tasks(t: Table, at: usize, out: &mut [u8]) -> usize
 
 // Writes the records of a table's locks from index r on.
 pub fn put_locks(t: Table, r: u8, at: usize, out: &mut [u8]) -> usize
-    requires { ⌜ (r ≤ 200) × (2752 ≤ length (now out)) ⌝ }
-    ensures { λ n. ⌜ Appends 2752 (now (out .entry)) at (lockRecords r (claimedLocks t)) (now (out .exit)) n ⌝ }
+    requires { ⌜ (r ≤ 200) × (layoutRoom ≤ length (now out)) ⌝ }
+    ensures { λ n. ⌜ Appends layoutRoom (now (out .entry)) at (lockRecords r (claimedLocks t)) (now (out .exit)) n ⌝ }
 {
     let count = lock_count(t);
     let mut next = at;
@@ -86,8 +86,8 @@ pub fn put_locks(t: Table, r: u8, at: usize, out: &mut [u8]) -> usize
 
 // Writes a table's records in walk order at the front of the buffer, and answers how many bytes they are.
 pub fn put_layout(t: Table, out: &mut [u8]) -> usize
-    requires { ⌜ 2752 ≤ length (now out) ⌝ }
-    ensures { λ n. ⌜ Appends 2752 (now (out .entry)) 0 (layout t) (now (out .exit)) n ⌝ }
+    requires { ⌜ layoutRoom ≤ length (now out) ⌝ }
+    ensures { λ n. ⌜ Appends layoutRoom (now (out .entry)) 0 (layout t) (now (out .exit)) n ⌝ }
 {
     let locks = FIRST_TASK + record_total(t);
     let task = link_at(FIRST_TASK, 0, task_count(t));

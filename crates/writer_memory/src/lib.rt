@@ -18,7 +18,8 @@ ghost use mathlib.Core.List.{[], _∷_};
 ghost use lib.ListN.{length};
 ghost use Rattle.notation.specs.Lists.{bytesAt, each};
 ghost use Rattle.writer.specs.Layout.{wideBytes};
-ghost use Rattle.writer.specs.Memory.{tableBytes, byteIn, wideIn, instructionIn, entryIn, holdingsIn, tableIn};
+ghost use Rattle.writer.specs.Memory.{tableBytes, entrySize, wideSize, instructionSize};
+ghost use Rattle.writer.specs.Memory.{byteIn, wideIn, instructionIn, entryIn, holdingsIn, tableIn};
 ghost use Rattle.writer.specs.Memory.{instructionBytes, entryBytes, memoryOf};
 ghost use Rattle.notation_buffers.specs.Code.Writing.{Appends};
 
@@ -32,7 +33,7 @@ fn byte_in(memory: &[u8], at: usize) -> u8
 
 // The wide field at a place of the memory, low byte first.
 fn wide_in(memory: &[u8], at: usize) -> u32
-    requires { ⌜ at + 4 ≤ length (now memory) ⌝ }
+    requires { ⌜ at + wideSize ≤ length (now memory) ⌝ }
     ensures { λ x. ⌜ x ≡ wideIn (now (memory .entry)) at ⌝ }
 {
     let a = byte_in(memory, at) as u32;
@@ -71,7 +72,7 @@ fn holdings_in(memory: &[u8]) -> [u32; LOCKS]
 }
 
 fn instruction_in(memory: &[u8], at: usize) -> Instruction
-    requires { ⌜ at + 4 ≤ length (now memory) ⌝ }
+    requires { ⌜ at + instructionSize ≤ length (now memory) ⌝ }
     ensures { λ x. ⌜ x ≡ instructionIn (now (memory .entry)) at ⌝ }
 {
     Instruction {
@@ -83,7 +84,7 @@ fn instruction_in(memory: &[u8], at: usize) -> Instruction
 }
 
 fn entry_in(memory: &[u8], at: usize) -> TaskEntry
-    requires { ⌜ at + 80 ≤ length (now memory) ⌝ }
+    requires { ⌜ at + entrySize ≤ length (now memory) ⌝ }
     ensures { λ x. ⌜ x ≡ entryIn (now (memory .entry)) at ⌝ }
 {
     let end = end_instruction();

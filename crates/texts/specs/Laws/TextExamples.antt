@@ -10,7 +10,7 @@ use Rattle.notation.specs.Texts.{digit, digits, decimal, spaced, line}
 use Rattle.sheets.specs.SheetWords.{taskWord}
 use Rattle.taskfile.specs.Records.{tidyInstruction, fieldsInRange, choiceInRange, instructionInRange}
 use Rattle.taskfile.specs.Records.{usesOf, operationUses}
-use Rattle.taskfile.specs.Records.{tidyField, fieldInRange}
+use Rattle.taskfile.specs.Records.{kindNumber, tidyField, fieldInRange}
 use Rattle.taskfile.specs.Tables.{tasksOf, bodyOf, noTask}
 use Rattle.writer.specs.Claims.{claimed, claimedTasks, claimedBody, lockByLock, claimedLocks}
 use Rattle.writer.specs.Positions.{positionWhere}
@@ -103,7 +103,7 @@ pick-two = refl
 unfoldable judging : Unit {0}
 unfolding opened filed lineOfRecord tableOf grouped inFront taskWith lockWith instructionWith
     written acceptTable judgedWhole placedBy indexOf fields
-    taskFields bodyFields bodySites taskSites sites siteNumbers sameSite positionWhere claimedTasks claimedBody
+    taskFields bodyFields bodySites taskSites sites siteNumbers kindNumber sameSite positionWhere claimedTasks claimedBody
     claimedLocks claimed tidyInstruction
     fieldsInRange choiceInRange instructionInRange usesOf operationUses tidyField fieldInRange
 judging = tt

@@ -15,7 +15,8 @@ use Rattle.notation.specs.Laws.CheckedLaws.{passed-same, bind-passed, then-pass
 use Rattle.notation.specs.Laws.TestLaws.{and-both, test-holds}
 use Rattle.taskfile.specs.declared.Kind.{Kind}
 use Rattle.taskfile.specs.declared.Kind.the-variants.{Header, TaskRecord, LockRecord, InstructionRecord}
-use Rattle.taskfile.specs.Chains.{Chains, TaskChain, mostInstructions, mostTasks, mostLocks, recordOf, follow, chain, bodyChain, taskChains, recordsOf, reachedBy, chainsOf}
+use Rattle.taskfile.specs.Chains.{Chains, TaskChain, mostInstructions, mostTasks, mostLocks, recordOf, follow, chain}
+use Rattle.taskfile.specs.Chains.{bodyChain, taskChains, recordsOf, reachedBy, chainsOf}
 use Rattle.taskfile.specs.Code.Reading.{linked, linkedTask}
 use Rattle.taskfile.specs.Laws.ChainCases.{follow-allowed}
 use Rattle.taskfile.specs.Laws.ChainLaws.{chain-linked, tasks-linked}

@@ -14,12 +14,13 @@ use Rattle.taskfile.specs.Chains.{mostInstructions}
 use Rattle.writer.specs.Claims.{claimedTasks, claimedBody}
 use Rattle.writer.specs.Values.{Fits}
 use Rattle.writer.specs.Fields.{fields}
-use Rattle.writer.specs.Layout.{layout}
+use Rattle.writer.specs.Layout.{layout, layoutRoom}
+use Rattle.writer.specs.WriteEntries.{fileRoom}
 use Rattle.writer.specs.Laws.CheckedTableLaws.{claims-few}
 use Rattle.writer.specs.Laws.LaidChainLaws.{layout-bytes, layout-most}
 use Rattle.writer.specs.Laws.SiteLaws.{recordTotal, recordTotal-cons}
 
-pub layout-length : (t : Table) → Fits t → length (layout t) ≤ 2752
+pub layout-length : (t : Table) → Fits t → length (layout t) ≤ layoutRoom
 layout-length t fit = omega (arith, layout-bytes t fit, layout-most t fit)
 
 -- tasks with at most 16 instructions
@@ -30,7 +31,7 @@ total-few [] short = omega arith
 total-few (e ∷ others) short = omega (arith, recordTotal-cons e others, total-few others (short .1))
 
 -- 1 + 8 × 17 + 8 records
-pub layout-fits : (t : Table) → Fits t → {u : Unit {0}} → fields t ≡ passed u → length (layout t) ≤ 2320
+pub layout-fits : (t : Table) → Fits t → {u : Unit {0}} → fields t ≡ passed u → length (layout t) ≤ fileRoom
 layout-fits t fit sound =
     let few = claims-few t sound in
     omega (arith, layout-bytes t fit, total-few (claimedTasks t) (few .2))

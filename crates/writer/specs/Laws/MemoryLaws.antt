@@ -13,11 +13,15 @@ use Rattle.notation.specs.Ordered.{Every}
 use Rattle.taskfile.specs.declared.Instruction.{Instruction}
 use Rattle.taskfile.specs.declared.Table.{Table}
 use Rattle.taskfile.specs.declared.TaskEntry.{TaskEntry}
+use Rattle.taskfile.specs.Chains.{mostTasks, mostLocks, mostInstructions}
 use Rattle.writer.specs.Values.{Fits, FitsEntry, ByteFields}
 use Rattle.writer.specs.Laws.MemoryReading.{byte-behind, wide-behind, wide-skipped, bytes-behind, parts-long, parts-back}
 use Rattle.writer.specs.Laws.WideBytesLaws.{Wide}
 use Rattle.writer.specs.Layout.{wideBytes}
-use Rattle.writer.specs.Memory.{tableBytes, byteIn, wideIn, instructionIn, entryIn, holdingsIn, tableIn, instructionBytes, entryBytes, memoryOf}
+use Rattle.writer.specs.Memory.{tableBytes, storeAt, taskCountAt, lockCountAt, ceilingsAt, entriesAt, holdingsAt}
+use Rattle.writer.specs.Memory.{entrySize, periodAt, arrivalAt, lengthAt, bodyAt, wideSize, instructionSize}
+use Rattle.writer.specs.Memory.{byteIn, wideIn, instructionIn, entryIn, holdingsIn, tableIn}
+use Rattle.writer.specs.Memory.{instructionBytes, entryBytes, memoryOf}
 
 -- ---- an instruction
 
@@ -25,7 +29,7 @@ use Rattle.writer.specs.Memory.{tableBytes, byteIn, wideIn, instructionI
 abbrev Any : Instruction → Type 0
 Any i = Unit {0}
 
-instruction-length : (i : Instruction) → Any i → length (instructionBytes i) ≡ 4
+instruction-length : (i : Instruction) → Any i → length (instructionBytes i) ≡ instructionSize
 unfolding instructionBytes
 instruction-length i any = refl
 
@@ -45,11 +49,11 @@ instruction-back front i rest place any is =
 -- the bytes of a body
 body-length : (e : TaskEntry) → FitsEntry e → length (each (e .body) instructionBytes) ≡ 64
 body-length e fits =
-    parts-long instructionIn instructionBytes 4 Any instruction-length instruction-back (e .body)
+    parts-long instructionIn instructionBytes instructionSize Any instruction-length instruction-back (e .body)
     (every-of Any (λ i. tt) (e .body))
     ∙ ap (λ (n : ℕ). 4 * n) (fits .body)
 
-entry-length : (e : TaskEntry) → FitsEntry e → length (entryBytes e) ≡ 80
+entry-length : (e : TaskEntry) → FitsEntry e → length (entryBytes e) ≡ entrySize
 unfolding entryBytes wideBytes
 entry-length e fits = omega (arith, body-length e fits)
 
@@ -65,24 +69,26 @@ entry-back front e rest place fits is =
     let bodies = each (e .body) instructionBytes in
     let first : wideIn (front ++ (entryBytes e ++ rest)) place ≡ e .execution =
     wide-behind front _ (e .execution) place is (fits .execution) in
-    let second : wideIn (front ++ (entryBytes e ++ rest)) (place + 4) ≡ e .period =
-    wide-skipped front (wideBytes (e .execution)) _ (e .period) (place + 4) (omega arith) (fits .period) in
-    let third : wideIn (front ++ (entryBytes e ++ rest)) (place + 8) ≡ e .arrival =
-    wide-skipped front (wideBytes (e .execution) ++ wideBytes (e .period)) _ (e .arrival) (place + 8) (omega arith)
+    let second : wideIn (front ++ (entryBytes e ++ rest)) (place + periodAt) ≡ e .period =
+    wide-skipped front (wideBytes (e .execution)) _ (e .period) (place + periodAt) (omega arith) (fits .period) in
+    let third : wideIn (front ++ (entryBytes e ++ rest)) (place + arrivalAt) ≡ e .arrival =
+    wide-skipped front (wideBytes (e .execution) ++ wideBytes (e .period)) _ (e .arrival) (place + arrivalAt) (omega arith)
     (fits .arrival) in
-    let fourth = byte-behind front (entryBytes e ++ rest) 12 (place + 12) (omega arith) in
+    let fourth = byte-behind front (entryBytes e ++ rest) lengthAt (place + lengthAt) (omega arith) in
     let before : front ++ (entryBytes e ++ rest) ≡ (front ++ entryFront e) ++ (bodies ++ rest) =
     sym (append-assoc front (entryFront e) (bodies ++ rest)) in
-    let fifth : map (λ p. instructionIn (front ++ (entryBytes e ++ rest)) (place + 16 + 4 * p)) (upTo 16) ≡ e .body =
-    ap (λ (l : List ℕ). map (λ p. instructionIn l (place + 16 + 4 * p)) (upTo 16)) before
-    ∙ parts-back instructionIn instructionBytes 4 Any instruction-length instruction-back (front ++ entryFront e)
-    (e .body) rest (place + 16) 16 (every-of Any (λ i. tt) (e .body))
+    let body : List ℕ → List Instruction = λ l.
+    map (λ p. instructionIn l (place + bodyAt + instructionSize * p)) (upTo mostInstructions) in
+    let fifth : body (front ++ (entryBytes e ++ rest)) ≡ e .body =
+    ap body before
+    ∙ parts-back instructionIn instructionBytes instructionSize Any instruction-length instruction-back (front ++ entryFront e)
+    (e .body) rest (place + bodyAt) mostInstructions (every-of Any (λ i. tt) (e .body))
     (length-append front (entryFront e) ∙ omega arith) (fits .body) in
     λ j. record { execution = first j; period = second j; arrival = third j; length = fourth j; body = fifth j }
 
 -- ---- a holding time
 
-wide-length : (x : ℕ) → Wide x → length (wideBytes x) ≡ 4
+wide-length : (x : ℕ) → Wide x → length (wideBytes x) ≡ wideSize
 unfolding wideBytes
 wide-length x fits = refl
 
@@ -94,8 +100,8 @@ wide-back-at front x rest place fits is = wide-behind front rest x place is fits
 
 entries-size : (t : Table) → Fits t → length (each (t .entries) entryBytes) ≡ 640
 entries-size t fits =
-    parts-long entryIn entryBytes 80 FitsEntry entry-length entry-back (t .entries) (fits .entries)
-    ∙ ap (λ (n : ℕ). 80 * n) (fits .entriesFull)
+    parts-long entryIn entryBytes entrySize FitsEntry entry-length entry-back (t .entries) (fits .entries)
+    ∙ ap (λ (n : ℕ). entrySize * n) (fits .entriesFull)
 
 -- how many bytes a table that fits takes
 pub memory-length : (t : Table) → Fits t → length (memoryOf t) ≡ tableBytes
@@ -103,7 +109,7 @@ unfolding memoryOf wideBytes
 memory-length t fits =
     let entries = each (t .entries) entryBytes in
     let holdings = each (t .holdings) wideBytes in
-    let wide = parts-long wideIn wideBytes 4 Wide wide-length wide-back-at (t .holdings) (fits .holdings) in
+    let wide = parts-long wideIn wideBytes wideSize Wide wide-length wide-back-at (t .holdings) (fits .holdings) in
     let store = wideBytes (t .window) ++ t .store in
     let counts = t .tasks ∷ t .locks ∷ 0 ∷ 0 ∷ [] in
     length-append (store ++ counts ++ t .ceilings ++ entries) holdings
@@ -147,23 +153,28 @@ memory-table t rest fits =
     second ∙ append-assoc window (t .store) (counts ++ (t .ceilings ++ (entries ++ later))) in
     let isWindow : wideIn (memoryOf t ++ rest) 0 ≡ t .window =
     ap (λ (l : List ℕ). wideIn l 0) first ∙ wide-behind [] _ (t .window) 0 refl (fits .window) in
-    let isStore : bytesAt (memoryOf t ++ rest) 4 8 ≡ t .store =
-    ap (λ (l : List ℕ). bytesAt l 4 8) first ∙ bytes-behind window (t .store) _ 8 4 refl (fits .store) in
-    let isTasks : byteIn (memoryOf t ++ rest) 12 ≡ t .tasks =
-    ap (λ (l : List ℕ). byteIn l 12) second ∙ byte-behind toStore _ 0 12 (omega (arith, storeLong, fits .store)) in
-    let isLocks : byteIn (memoryOf t ++ rest) 13 ≡ t .locks =
-    ap (λ (l : List ℕ). byteIn l 13) second ∙ byte-behind toStore _ 1 13 (omega (arith, storeLong, fits .store)) in
-    let isCeilings : bytesAt (memoryOf t ++ rest) 16 8 ≡ t .ceilings =
-    ap (λ (l : List ℕ). bytesAt l 16 8) third
-    ∙ bytes-behind toCounts (t .ceilings) _ 8 16 (omega (arith, storeLong, countsLong, fits .store)) (fits .ceilings) in
-    let isEntries : map (λ i. entryIn (memoryOf t ++ rest) (24 + 80 * i)) (upTo 8) ≡ t .entries =
-    ap (λ (l : List ℕ). map (λ i. entryIn l (24 + 80 * i)) (upTo 8)) fourth
-    ∙ parts-back entryIn entryBytes 80 FitsEntry entry-length entry-back toCeilings (t .entries) later 24 8
+    let isStore : bytesAt (memoryOf t ++ rest) storeAt 8 ≡ t .store =
+    ap (λ (l : List ℕ). bytesAt l storeAt 8) first ∙ bytes-behind window (t .store) _ 8 storeAt refl (fits .store) in
+    let isTasks : byteIn (memoryOf t ++ rest) taskCountAt ≡ t .tasks =
+    ap (λ (l : List ℕ). byteIn l taskCountAt) second
+    ∙ byte-behind toStore _ 0 taskCountAt (omega (arith, storeLong, fits .store)) in
+    let isLocks : byteIn (memoryOf t ++ rest) lockCountAt ≡ t .locks =
+    ap (λ (l : List ℕ). byteIn l lockCountAt) second
+    ∙ byte-behind toStore _ 1 lockCountAt (omega (arith, storeLong, fits .store)) in
+    let isCeilings : bytesAt (memoryOf t ++ rest) ceilingsAt mostLocks ≡ t .ceilings =
+    ap (λ (l : List ℕ). bytesAt l ceilingsAt mostLocks) third
+    ∙ bytes-behind toCounts (t .ceilings) _ mostLocks ceilingsAt
+    (omega (arith, storeLong, countsLong, fits .store)) (fits .ceilings) in
+    let isEntries : map (λ i. entryIn (memoryOf t ++ rest) (entriesAt + entrySize * i)) (upTo mostTasks) ≡ t .entries =
+    ap (λ (l : List ℕ). map (λ i. entryIn l (entriesAt + entrySize * i)) (upTo mostTasks)) fourth
+    ∙ parts-back entryIn entryBytes entrySize FitsEntry entry-length entry-back toCeilings (t .entries) later
+    entriesAt mostTasks
     (fits .entries) (omega (arith, storeLong, countsLong, ceilingsLong, fits .store, fits .ceilings))
     (fits .entriesFull) in
     let isHoldings : holdingsIn (memoryOf t ++ rest) ≡ t .holdings =
     ap holdingsIn fifth
-    ∙ parts-back wideIn wideBytes 4 Wide wide-length wide-back-at (toCeilings ++ entries) (t .holdings) rest 664 8
+    ∙ parts-back wideIn wideBytes wideSize Wide wide-length wide-back-at (toCeilings ++ entries) (t .holdings) rest
+    holdingsAt mostLocks
     (fits .holdings)
     (omega (arith, storeLong, countsLong, ceilingsLong, entriesLong, many, fits .store, fits .ceilings))
     (fits .holdingsFull) in
@@ -207,34 +218,34 @@ unfolding entryIn
 entry-small memory at small =
     record {
       execution = wide-small memory at small;
-      period = wide-small memory (at + 4) small;
-      arrival = wide-small memory (at + 8) small;
-      body = values-length (λ p. instructionIn memory (at + 16 + 4 * p)) 16;
+      period = wide-small memory (at + periodAt) small;
+      arrival = wide-small memory (at + arrivalAt) small;
+      body = values-length (λ p. instructionIn memory (at + bodyAt + instructionSize * p)) mostInstructions;
       instructions =
-          every-map ByteFields (λ p. instructionIn memory (at + 16 + 4 * p)) (upTo 16)
-          (every-of (λ p. ByteFields (instructionIn memory (at + 16 + 4 * p)))
-          (λ p. instructionIn-small memory (at + 16 + 4 * p) small) (upTo 16));
+          every-map ByteFields (λ p. instructionIn memory (at + bodyAt + instructionSize * p)) (upTo mostInstructions)
+          (every-of (λ p. ByteFields (instructionIn memory (at + bodyAt + instructionSize * p)))
+          (λ p. instructionIn-small memory (at + bodyAt + instructionSize * p) small) (upTo mostInstructions));
     }
 
 -- whatever bytes hold is a table that fits
 pub memory-fits : (memory : List ℕ) → Every (λ (b : ℕ). b < 256) memory → Fits (tableIn memory)
 unfolding tableIn holdingsIn bytesAt byteIn
 memory-fits memory small =
-    let at : ℕ → TaskEntry = λ i. entryIn memory (24 + 80 * i) in
-    let holding : ℕ → ℕ = λ l. wideIn memory (664 + 4 * l) in
+    let at : ℕ → TaskEntry = λ i. entryIn memory (entriesAt + entrySize * i) in
+    let holding : ℕ → ℕ = λ l. wideIn memory (holdingsAt + wideSize * l) in
     record {
       window = wide-small memory 0 small;
-      store = bytesAt-length memory 4 8;
+      store = bytesAt-length memory storeAt 8;
       values =
-          every-map (λ (b : ℕ). b < 256) (λ k. byteIn memory (4 + k)) (upTo 8)
-          (every-of (λ k. byteIn memory (4 + k) < 256) (λ k. byte-small memory (4 + k) small) (upTo 8));
-      entriesFull = values-length at 8;
+          every-map (λ (b : ℕ). b < 256) (λ k. byteIn memory (storeAt + k)) (upTo 8)
+          (every-of (λ k. byteIn memory (storeAt + k) < 256) (λ k. byte-small memory (storeAt + k) small) (upTo 8));
+      entriesFull = values-length at mostTasks;
       entries =
-          every-map FitsEntry at (upTo 8)
-          (every-of (λ i. FitsEntry (at i)) (λ i. entry-small memory (24 + 80 * i) small) (upTo 8));
-      ceilings = bytesAt-length memory 16 8;
-      holdingsFull = values-length holding 8;
+          every-map FitsEntry at (upTo mostTasks)
+          (every-of (λ i. FitsEntry (at i)) (λ i. entry-small memory (entriesAt + entrySize * i) small) (upTo mostTasks));
+      ceilings = bytesAt-length memory ceilingsAt mostLocks;
+      holdingsFull = values-length holding mostLocks;
       holdings =
-          every-map Wide holding (upTo 8)
-          (every-of (λ l. Wide (holding l)) (λ l. wide-small memory (664 + 4 * l) small) (upTo 8));
+          every-map Wide holding (upTo mostLocks)
+          (every-of (λ l. Wide (holding l)) (λ l. wide-small memory (holdingsAt + wideSize * l) small) (upTo mostLocks));
     }

@@ -19,6 +19,7 @@ use Rattle.taskfile.specs.declared.Site.the-variants.{AtHeader, AtTask, AtInstr
 use Rattle.taskfile.specs.declared.Table.{Table}
 use Rattle.taskfile.specs.declared.TaskEntry.{TaskEntry}
 use Rattle.taskfile.specs.Judgement.{numbered}
+use Rattle.taskfile.specs.Records.{kindNumber}
 use Rattle.taskfile.specs.Tables.{noTask}
 use Rattle.writer.specs.Claims.{claimedTasks, claimedBody, claimedLocks}
 use Rattle.writer.specs.Positions.{positionWhere}
@@ -72,16 +73,16 @@ position-numbered part test q rest tests (suc n) p (suc k) is few =
 -- ---- which sites are the same
 
 same-task : (n i : ℕ) → sameSite (AtTask (numbered n)) (AtTask (numbered i)) ≡ eqb n i
-unfolding sameSite siteNumbers same
+unfolding sameSite siteNumbers kindNumber same
 same-task n i = and-true (eqb n i)
 
 same-lock : (l m : ℕ) → sameSite (AtLock l) (AtLock m) ≡ eqb l m
-unfolding sameSite siteNumbers same
+unfolding sameSite siteNumbers kindNumber same
 same-lock l m = and-true (eqb l m)
 
 same-instruction : (n i q p : ℕ)
     → sameSite (AtInstruction (numbered n) q) (AtInstruction (numbered i) p) ≡ (eqb n i && eqb q p)
-unfolding sameSite siteNumbers same
+unfolding sameSite siteNumbers kindNumber same
 same-instruction n i q p = ap (λ (b : Bool). eqb n i && b) (and-true (eqb q p))
 
 -- no site of the list is the same
@@ -99,13 +100,13 @@ body-other s i e other =
 -- another task's sites, with its body's, are others; and a lock's site is no task's
 other-task : (n i : ℕ) (e : TaskEntry) → (n ≡ i → ⊥)
     → Elsewhere (AtTask (numbered n)) (AtTask (numbered i) ∷ bodySites i e)
-unfolding sameSite siteNumbers same
+unfolding sameSite siteNumbers kindNumber same
 other-task n i e other =
     (same-task n i ∙ ne-eqb n i other, body-other (AtTask (numbered n)) i e (λ p. refl))
 
 other-instruction : (n q i : ℕ) (e : TaskEntry) → (n ≡ i → ⊥)
     → Elsewhere (AtInstruction (numbered n) q) (AtTask (numbered i) ∷ bodySites i e)
-unfolding sameSite siteNumbers same
+unfolding sameSite siteNumbers kindNumber same
 other-instruction n q i e other = (
   refl,
   body-other (AtInstruction (numbered n) q) i e
@@ -113,7 +114,7 @@ other-instruction n q i e other = (
 )
 
 lock-other : (l i : ℕ) (tasks : List TaskEntry) → Elsewhere (AtLock l) (taskSites i tasks)
-unfolding taskSites sameSite siteNumbers same
+unfolding taskSites sameSite siteNumbers kindNumber same
 lock-other l i [] = tt
 lock-other l i (e ∷ others) = (
   refl,
@@ -170,7 +171,7 @@ unfolding positionWhere if_then_else_
 task-own n behind = rw (same-task n n, eq-eqb n n refl)
 
 instruction-no-task : (n q i : ℕ) → sameSite (AtInstruction (numbered n) q) (AtTask (numbered i)) ≡ false
-unfolding sameSite siteNumbers same
+unfolding sameSite siteNumbers kindNumber same
 instruction-no-task n q i = refl
 
 instruction-own : (n q : ℕ) (e : TaskEntry) (behind : List Site) → q < length (claimedBody e)
@@ -192,7 +193,7 @@ lock-own l n few =
 lock-behind : (t : Table) (l k : ℕ)
     → positionWhere (sameSite (AtLock l)) (map AtLock (upTo (length (claimedLocks t)))) ≡ k
     → indexOf t (AtLock l) ≡ suc (recordTotal (claimedTasks t)) + k
-unfolding indexOf sites positionWhere if_then_else_ sameSite siteNumbers same
+unfolding indexOf sites positionWhere if_then_else_ sameSite siteNumbers kindNumber same
 lock-behind t l k own =
     let tasks = claimedTasks t in
     ap suc
@@ -203,7 +204,7 @@ lock-behind t l k own =
 
 -- the index of a site of what the table claims
 pub index-counted : (t : Table) (s : Site) → ClaimedSite t s → indexOf t s ≡ countedIndex t s
-unfolding indexOf countedIndex sites positionWhere if_then_else_ sameSite siteNumbers same
+unfolding indexOf countedIndex sites positionWhere if_then_else_ sameSite siteNumbers kindNumber same
 index-counted t AtHeader claimed = refl
 index-counted t (AtTask i) claimed =
     ap suc

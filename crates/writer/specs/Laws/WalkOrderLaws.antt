@@ -21,7 +21,8 @@ use Rattle.writer.specs.Laws.ClaimLaws.{body-spelled, tasks-spelled, loc
 use Rattle.writer.specs.Laws.LockLaws.{lockAt}
 use Rattle.writer.specs.Laws.MovedRecords.{lock-moved, instruction-moved, task-moved, header-moved}
 use Rattle.writer.specs.Laws.PositionLaws.{StandFrom, new-stand, stand-first, stand-second}
-use Rattle.writer.specs.Layout.{linkTo, instructionRecord, bodyRecords, taskRecord, afterTask, taskRecords, lockRecord, lockRecords, headerRecord, layout}
+use Rattle.writer.specs.Layout.{linkTo, instructionRecord, bodyRecords, taskRecord, afterTask, taskRecords}
+use Rattle.writer.specs.Layout.{lockRecord, lockRecords, headerRecord, layout}
 use Rattle.writer.specs.Positions.{positionOf}
 use Rattle.writer.specs.WalkOrder.{movedRecord, inWalkOrder}
 use Rattle.writer.specs.Laws.SiteLaws.{recordTotal, locks-counted}

@@ -10,7 +10,7 @@ use Rattle.taskfile.specs.declared.Instruction.{Instruction}
 use Rattle.taskfile.specs.declared.Table.{Table}
 use Rattle.taskfile.specs.declared.TaskEntry.{TaskEntry}
 use Rattle.taskfile.specs.Records.{tidyInstruction, fieldsInRange, choiceInRange, instructionInRange, usesOf, operationUses}
-use Rattle.taskfile.specs.Records.{tidyField, fieldInRange}
+use Rattle.taskfile.specs.Records.{kindNumber, tidyField, fieldInRange}
 use Rattle.taskfile.specs.Tables.{endInstruction, noTask}
 use Rattle.writer.specs.Claims.{claimed, claimedTasks, claimedBody, lockByLock, claimedLocks}
 use Rattle.writer.specs.Sites.{bodySites, taskSites, sites, siteNumbers, sameSite, indexOf, locksAt}
@@ -53,7 +53,7 @@ small W tasks C =
 
 -- all that an index rests on
 unfoldable indexing : Unit {0}
-unfolding locksAt indexOf sites taskSites bodySites sameSite siteNumbers same positionWhere if_then_else_ upTo from
+unfolding locksAt indexOf sites taskSites bodySites sameSite siteNumbers kindNumber same positionWhere if_then_else_ upTo from
 indexing = tt
 
 -- header, each task followed by its body, the lock

@@ -66,12 +66,16 @@ returns-2 c =
 
 array-share-prefix-laid-2 : tie.Need-array-share-prefix-laid-2
 array-share-prefix-laid-2 c =
-    let made = c .before .before .before .before .before .before .before in
+    let told = c .before .before in
+    let called = told .before .before in
+    let made = called .before .before .before in
     laid-inside _ (fits (made .before .before .before)) (made .put-layout .ensures) laying-room
 
 slice-aggregate-write-bytes : tie.Need-slice-aggregate-write-bytes
 slice-aggregate-write-bytes c =
-    let made = c .before .before .before .before .before .before .before .before in
+    let told = c .before .before .before in
+    let called = told .before .before in
+    let made = called .before .before .before in
     sym (length-take-le _ _ (laid-inside _ (fits (made .before .before .before)) (made .put-layout .ensures) laying-room))
 
 write-bytes-requires : tie.Need-write-bytes-requires

@@ -25,7 +25,7 @@ use Rattle.writer.specs.Fields.{acceptTable}
 use Rattle.writer.specs.Laws.AcceptLaidLaws.{accept-laid}
 use Rattle.writer.specs.Laws.DeskDemandLaws.{fields-sound}
 use Rattle.writer.specs.Laws.LayoutSizes.{layout-fits, layout-length}
-use Rattle.writer.specs.Layout.{layout}
+use Rattle.writer.specs.Layout.{layout, layoutRoom}
 use Rattle.writer.specs.WriteEntries.{written, answerOf, afterOf, writeAnswer, writeAfter, fileRoom}
 
 -- an answer and lent memory as a check's outcome has them
@@ -45,17 +45,17 @@ done n = record { number = 0; place = 0; length = n }
 -- ---- a table that was laid out
 
 -- the array that a table is laid out in has room for every layout
-pub laying-room : 2752 ≤ length (replicate {A = ℕ} 2752 0)
-laying-room = omega (arith, length-replicate {A = ℕ} 2752 0)
+pub laying-room : layoutRoom ≤ length (replicate {A = ℕ} layoutRoom 0)
+laying-room = omega (arith, length-replicate {A = ℕ} layoutRoom 0)
 
-module _ (t : Table) (fit : Fits t) {before after : List ℕ} {n : ℕ} (does : Appends 2752 before 0 (layout t) after n) where
+module _ (t : Table) (fit : Fits t) {before after : List ℕ} {n : ℕ} (does : Appends layoutRoom before 0 (layout t) after n) where
   pub laid-count : n ≡ length (layout t)
   laid-count = appends-count does (layout-length t fit)
 
-  pub laid-within : n ≤ 2752
+  pub laid-within : n ≤ layoutRoom
   laid-within = omega (arith, laid-count, layout-length t fit)
 
-  pub laid-inside : 2752 ≤ length before → n ≤ length after
+  pub laid-inside : layoutRoom ≤ length before → n ≤ length after
   laid-inside enough = omega (arith, laid-within, appends-length does enough)
 
   pub laid-file : take n after ≡ layout t
@@ -79,7 +79,7 @@ module _ (t : Table) (fit : Fits t) {before after : List ℕ} {n : ℕ} (does : 
     pub copied-whole : out ≡ layout t ++ drop (length (layout t)) buffer
     copied-whole = appends-front copies fits-file ∙ ap (λ (l : List ℕ). l ++ drop (length l) buffer) laid-file
 
-    pub copied-within : m ≤ 2752
+    pub copied-within : m ≤ layoutRoom
     copied-within = omega (arith, copied-count, layout-length t fit)
 
 -- ---- the writer

@@ -13,7 +13,7 @@ use Rattle.writer.specs.declared.Lock.{Lock}
 use Rattle.writer.specs.Claims.{claimedTasks, claimedBody, claimedLocks}
 use Rattle.writer.specs.Sites.{locksAt}
 use Rattle.writer.specs.Layout.{linkTo, instructionRecord, bodyRecords, taskRecord, afterTask, taskRecords}
-use Rattle.writer.specs.Layout.{lockRecord, lockRecords, headerRecord, layout}
+use Rattle.writer.specs.Layout.{lockRecord, lockRecords, headerRecord, layout, layoutRoom}
 use Rattle.notation_buffers.specs.Laws.WritingLaws.{appends-none, appends-more, appends-length}
 use Rattle.writer_layout.specs.Laws.RecordBytes.{Lays, lays-same}
 use Rattle.writer_layout.specs.Code.ClaimedParts.{linkAt}
@@ -30,10 +30,10 @@ pub record Laying (before : List ℕ) (at : ℕ) (whole now : List ℕ) (next : 
 
 pub laying-whole : (before : List ℕ) (at : ℕ) {whole rest : List ℕ} → rest ≡ whole
     → Laying before at whole before at rest
-laying-whole before at e = record { done = []; is = appends-none 2752 before at; joins = e }
+laying-whole before at e = record { done = []; is = appends-none layoutRoom before at; joins = e }
 
 pub laying-more : {before : List ℕ} {at : ℕ} {whole now : List ℕ} {next : ℕ} {rest part left after : List ℕ} {n : ℕ}
-    → 2752 ≤ length before → rest ≡ part ++ left → Laying before at whole now next rest → Lays now next part after n
+    → layoutRoom ≤ length before → rest ≡ part ++ left → Laying before at whole now next rest → Lays now next part after n
     → Laying before at whole after n left
 laying-more {part = part} {left} enough split laying more =
     record {
@@ -53,12 +53,8 @@ laying-all none laying =
     (laying .is)
 
 pub laying-length : {before : List ℕ} {at : ℕ} {whole now : List ℕ} {next : ℕ} {rest : List ℕ}
-    → Laying before at whole now next rest → 2752 ≤ length before → length now ≡ length before
+    → Laying before at whole now next rest → layoutRoom ≤ length before → length now ≡ length before
 laying-length laying enough = appends-length (laying .is) enough
-
--- the index of the next record, and the number of the next part
-after-suc : (r p : ℕ) → r + p + 1 ≡ suc (r + p)
-after-suc r p = add-one (r + p)
 
 -- the link to what comes after part p
 link-after : {A : Type 0} (r p : ℕ) (xs : List A) {count link : ℕ} → count ≡ length xs → link ≡ linkAt r (p + 1) count
@@ -66,58 +62,61 @@ link-after : {A : Type 0} (r p : ℕ) (xs : List A) {count link : ℕ} → count
 link-after r p xs counted is =
     is ∙ ap (linkAt r (p + 1)) counted ∙ sym (link-from r (p + 1) xs) ∙ ap (λ (k : ℕ). linkTo r (drop k xs)) (add-one p)
 
--- ---- a body
+-- ---- parts of one kind, each linked to the next: the instructions of a body, the locks
 
--- the records of a body from position p on, where the body's first is at index r
-unfoldable pub bodyLeft : ℕ → List Instruction → ℕ → List ℕ
-bodyLeft r body p = bodyRecords (r + p) (drop p body)
+-- the records of parts from index r on
+pub record Linked {A : Type 0} (recordOf : A → ℕ → List ℕ) (recordsFrom : ℕ → List A → List ℕ) : Type 0 where
+  pub one : (r : ℕ) (x : A) (others : List A)
+      → recordsFrom r (x ∷ others) ≡ recordOf x (linkTo (suc r) others) ++ recordsFrom (suc r) others
+  pub none : (r : ℕ) → recordsFrom r [] ≡ []
 
-pub body-left-whole : (r : ℕ) (body : List Instruction) → bodyLeft r body 0 ≡ bodyRecords r body
-unfolding bodyLeft
-body-left-whole r body = let same : r + 0 ≡ r = omega arith in ap (λ (k : ℕ). bodyRecords k body) same
+pub body-linked : Linked instructionRecord bodyRecords
+unfolding bodyRecords
+body-linked = record { one = λ r i others. refl; none = λ r. refl }
 
-pub body-left-more : (r : ℕ) (body : List Instruction) (p : ℕ) {i : Instruction} {count link : ℕ}
-    → drop p body ≡ i ∷ drop (suc p) body → count ≡ length body → link ≡ linkAt (r + p + 1) (p + 1) count
-    → bodyLeft r body p ≡ instructionRecord i link ++ bodyLeft r body (p + 1)
-unfolding bodyLeft bodyRecords
-body-left-more r body p {i} {link = link} here counted linked =
-    let index : r + p + 1 ≡ suc (r + p) = after-suc r p in
-    let same : link ≡ linkTo (suc (r + p)) (drop (suc p) body) =
-    link-after (r + p + 1) p body counted linked ∙ ap (λ (k : ℕ). linkTo k (drop (suc p) body)) index in
+pub locks-linked : Linked lockRecord lockRecords
+unfolding lockRecords
+locks-linked = record { one = λ r lock others. refl; none = λ r. refl }
+
+-- the records from part p on, where the first part is at index r
+unfoldable pub partsLeft : {A : Type 0} → (ℕ → List A → List ℕ) → ℕ → List A → ℕ → List ℕ
+partsLeft recordsFrom r parts p = recordsFrom (r + p) (drop p parts)
+
+-- none is written yet
+pub parts-whole : {A : Type 0} (recordsFrom : ℕ → List A → List ℕ) (r : ℕ) (parts : List A) (before : List ℕ) (at : ℕ)
+    → Laying before at (recordsFrom r parts) before at (partsLeft recordsFrom r parts 0)
+unfolding partsLeft
+parts-whole recordsFrom r parts before at =
+    let same : r + 0 ≡ r = omega arith in
+    laying-whole before at (ap (λ (k : ℕ). recordsFrom k parts) same)
+
+-- part p is written next
+pub parts-more : {A : Type 0} {recordOf : A → ℕ → List ℕ} {recordsFrom : ℕ → List A → List ℕ}
+    → Linked recordOf recordsFrom → (r : ℕ) (parts : List A) (p : ℕ) {x : A} {count link : ℕ}
+    {before : List ℕ} {at : ℕ} {whole now : List ℕ} {next : ℕ} {after : List ℕ} {n : ℕ}
+    → layoutRoom ≤ length before → drop p parts ≡ x ∷ drop (suc p) parts → count ≡ length parts
+    → link ≡ linkAt (r + p + 1) (p + 1) count → Laying before at whole now next (partsLeft recordsFrom r parts p)
+    → Lays now next (recordOf x link) after n → Laying before at whole after n (partsLeft recordsFrom r parts (p + 1))
+unfolding partsLeft
+parts-more {recordOf = recordOf} {recordsFrom} linked r parts p {x} {link = link} enough here counted is laying lays =
+    let same : link ≡ linkTo (suc (r + p)) (drop (suc p) parts) =
+    link-after (r + p + 1) p parts counted is ∙ ap (λ (k : ℕ). linkTo k (drop (suc p) parts)) (add-one (r + p)) in
     let later : suc (r + p) ≡ r + (p + 1) = omega arith in
-    ap (bodyRecords (r + p)) here
-    ∙ (λ j. instructionRecord i (sym same j) ++ bodyRecords (later j) (drop (sym (add-one p) j) body))
+    let split : recordsFrom (r + p) (drop p parts)
+    ≡ recordOf x link ++ recordsFrom (r + (p + 1)) (drop (p + 1) parts) =
+    ap (recordsFrom (r + p)) here
+    ∙ linked .one (r + p) x (drop (suc p) parts)
+    ∙ (λ j. recordOf x (sym same j) ++ recordsFrom (later j) (drop (sym (add-one p) j) parts)) in
+    laying-more enough split laying lays
 
-pub body-left-none : (r : ℕ) (body : List Instruction) (p : ℕ) → length body ≤ p → bodyLeft r body p ≡ []
-unfolding bodyLeft bodyRecords
-body-left-none r body p all = ap (bodyRecords (r + p)) (drop-of-length-le body all)
-
--- ---- the locks
-
--- the records of the locks from lock l on, where the first is at index r
-unfoldable pub locksLeft : ℕ → List Lock → ℕ → List ℕ
-locksLeft r locks l = lockRecords (r + l) (drop l locks)
-
-pub locks-left-whole : (r : ℕ) (locks : List Lock) → locksLeft r locks 0 ≡ lockRecords r locks
-unfolding locksLeft
-locks-left-whole r locks = let same : r + 0 ≡ r = omega arith in ap (λ (k : ℕ). lockRecords k locks) same
-
-pub locks-left-more : (r : ℕ) (locks : List Lock) (l : ℕ) {lock : Lock} {count link : ℕ}
-    → drop l locks ≡ lock ∷ drop (suc l) locks → count ≡ length locks
-    → link ≡ linkAt (r + l + 1) (l + 1) count
-    → locksLeft r locks l ≡ lockRecord lock link ++ locksLeft r locks (l + 1)
-unfolding locksLeft lockRecords
-locks-left-more r locks l {lock} {link = link} here counted linked =
-    let index : r + l + 1 ≡ suc (r + l) = after-suc r l in
-    let same : link ≡ linkTo (suc (r + l)) (drop (suc l) locks) =
-    link-after (r + l + 1) l locks counted linked ∙ ap (λ (k : ℕ). linkTo k (drop (suc l) locks)) index in
-    let later : suc (r + l) ≡ r + (l + 1) = omega arith in
-    ap (lockRecords (r + l)) here
-    ∙ (λ j. lockRecord lock (sym same j) ++ lockRecords (later j) (drop (sym (add-one l) j) locks))
-
-pub locks-left-none : (r : ℕ) (locks : List Lock) (l : ℕ) → length locks ≤ l → locksLeft r locks l ≡ []
-unfolding locksLeft lockRecords
-locks-left-none r locks l all = ap (lockRecords (r + l)) (drop-of-length-le locks all)
+-- all are written
+pub parts-all : {A : Type 0} {recordOf : A → ℕ → List ℕ} {recordsFrom : ℕ → List A → List ℕ}
+    → Linked recordOf recordsFrom → (r : ℕ) (parts : List A) (p : ℕ) → length parts ≤ p
+    → {before : List ℕ} {at : ℕ} {whole now : List ℕ} {next : ℕ}
+    → Laying before at whole now next (partsLeft recordsFrom r parts p) → Lays before at whole now next
+unfolding partsLeft
+parts-all {recordsFrom = recordsFrom} linked r parts p all laying =
+    laying-all (ap (recordsFrom (r + p)) (drop-of-length-le parts all) ∙ linked .none (r + p)) laying
 
 -- ---- the tasks
 
@@ -152,7 +151,7 @@ tasks-left-none tasks r i all = ap (taskRecords r) (drop-of-length-le tasks all)
 -- ---- a task's part, and the whole layout
 
 pub task-laid : (e : TaskEntry) (r link : ℕ) {count first : ℕ} {before : List ℕ} {at : ℕ} {mid : List ℕ} {m : ℕ}
-    {after : List ℕ} {n : ℕ} → 2752 ≤ length before → count ≡ length (claimedBody e) → first ≡ linkAt (r + 1) 0 count
+    {after : List ℕ} {n : ℕ} → layoutRoom ≤ length before → count ≡ length (claimedBody e) → first ≡ linkAt (r + 1) 0 count
     → Lays before at (taskRecord e link first) mid m → Lays mid m (bodyRecords (r + 1) (claimedBody e)) after n
     → Lays before at (taskPart e r link) after n
 unfolding taskPart
@@ -165,7 +164,7 @@ task-laid e r link {count} {first} enough counted linked one two =
     ∙ ap (λ (k : ℕ). taskRecord e link (linkTo k body) ++ bodyRecords k body) (add-one r)) (appends-more enough one two)
 
 pub layout-laid : (t : Table) {index tasks locks task lock : ℕ} {before mid : List ℕ} {m : ℕ} {later : List ℕ} {k : ℕ}
-    {after : List ℕ} {n : ℕ} → 2752 ≤ length before → index ≡ locksAt t
+    {after : List ℕ} {n : ℕ} → layoutRoom ≤ length before → index ≡ locksAt t
     → tasks ≡ length (claimedTasks t) → locks ≡ length (claimedLocks t)
     → task ≡ linkAt 1 0 tasks → lock ≡ linkAt index 0 locks
     → Lays before 0 (headerRecord t task lock) mid m → Lays mid m (taskRecords 1 (claimedTasks t)) later k

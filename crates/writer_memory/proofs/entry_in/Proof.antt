@@ -6,7 +6,8 @@ use Prim.Native.Nat.{ℕ, _+_, _-_, _*_}
 use native.Mathlib.Omega.{arith}
 use borrow.Author.Needs.{needs}
 use mathlib.Core.List.{List}
-use Rattle.writer.specs.Memory.{wideIn, instructionIn, entryIn}
+use Rattle.taskfile.specs.Chains.{mostInstructions}
+use Rattle.writer.specs.Memory.{bodyAt, instructionSize, wideIn, instructionIn, entryIn}
 use Rattle.writer_memory.specs.Laws.TabulatedLaws.{Tabulated, tabulated-none, tabulated-more, tabulated-all}
 use Rattle.writer_memory.proofs.entry_in.Statement.{statement}
 use Rattle.writer_memory.proofs.entry_in.Tie as tie
@@ -15,10 +16,11 @@ wide-here : (memory : List ℕ) (at : ℕ) → wideIn memory (at + 0) ≡ wideIn
 wide-here memory at = ap (wideIn memory) (omega arith)
 
 abbrev Inv-loop : tie.InvT-loop
-Inv-loop memory at body₀ p₀ body p = Tabulated (λ j. instructionIn memory (at + 16 + 4 * j)) 16 body p
+Inv-loop memory at body₀ p₀ body p =
+    Tabulated (λ j. instructionIn memory (at + bodyAt + instructionSize * j)) mostInstructions body p
 
 abbrev μ-loop : tie.MeasureT-loop
-μ-loop memory at body₀ p₀ body p = 16 - p
+μ-loop memory at body₀ p₀ body p = mostInstructions - p
 
 end-instruction-requires : tie.Need-end-instruction-requires Inv-loop μ-loop
 end-instruction-requires c κs = search needs

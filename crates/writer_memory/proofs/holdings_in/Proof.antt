@@ -3,16 +3,17 @@
 -- Assumes nothing.
 use Prim.Native.Nat.{_+_, _-_, _*_}
 use native.Mathlib.Omega.{arith}
-use Rattle.writer.specs.Memory.{wideIn, holdingsIn}
+use Rattle.taskfile.specs.Chains.{mostLocks}
+use Rattle.writer.specs.Memory.{holdingsAt, wideSize, wideIn, holdingsIn}
 use Rattle.writer_memory.specs.Laws.TabulatedLaws.{Tabulated, tabulated-none, tabulated-more, tabulated-all}
 use Rattle.writer_memory.proofs.holdings_in.Statement.{statement}
 use Rattle.writer_memory.proofs.holdings_in.Tie as tie
 
 abbrev Inv-loop : tie.InvT-loop
-Inv-loop memory holdings₀ l₀ holdings l = Tabulated (λ j. wideIn memory (664 + 4 * j)) 8 holdings l
+Inv-loop memory holdings₀ l₀ holdings l = Tabulated (λ j. wideIn memory (holdingsAt + wideSize * j)) mostLocks holdings l
 
 abbrev μ-loop : tie.MeasureT-loop
-μ-loop memory holdings₀ l₀ holdings l = 8 - l
+μ-loop memory holdings₀ l₀ holdings l = mostLocks - l
 
 loop-holds : tie.Need-loop-holds Inv-loop μ-loop
 loop-holds c = tabulated-none _ 8 0

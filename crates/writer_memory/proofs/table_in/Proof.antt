@@ -4,16 +4,17 @@
 use Prim.Native.Nat.{_+_, _-_, _*_}
 use native.Mathlib.Omega.{arith}
 use borrow.Author.Needs.{needs}
-use Rattle.writer.specs.Memory.{entryIn, tableIn}
+use Rattle.taskfile.specs.Chains.{mostTasks}
+use Rattle.writer.specs.Memory.{entriesAt, entrySize, entryIn, tableIn}
 use Rattle.writer_memory.specs.Laws.TabulatedLaws.{Tabulated, tabulated-none, tabulated-more, tabulated-all}
 use Rattle.writer_memory.proofs.table_in.Statement.{statement}
 use Rattle.writer_memory.proofs.table_in.Tie as tie
 
 abbrev Inv-loop : tie.InvT-loop
-Inv-loop memory entries₀ i₀ entries i = Tabulated (λ j. entryIn memory (24 + 80 * j)) 8 entries i
+Inv-loop memory entries₀ i₀ entries i = Tabulated (λ j. entryIn memory (entriesAt + entrySize * j)) mostTasks entries i
 
 abbrev μ-loop : tie.MeasureT-loop
-μ-loop memory entries₀ i₀ entries i = 8 - i
+μ-loop memory entries₀ i₀ entries i = mostTasks - i
 
 empty-task-requires : tie.Need-empty-task-requires Inv-loop μ-loop
 empty-task-requires c κs = search needs

@@ -6,14 +6,13 @@ use native.Mathlib.Omega.{arith}
 use Rattle.writer.specs.Claims.{claimedBody}
 use Rattle.writer.specs.Layout.{bodyRecords}
 use Rattle.writer_layout.specs.Laws.CountedLaws.{body-from}
-use Rattle.writer_layout.specs.Laws.LayingLaws.{Laying, laying-whole, laying-more, laying-all, laying-length}
-use Rattle.writer_layout.specs.Laws.LayingLaws.{bodyLeft, body-left-whole, body-left-more, body-left-none}
+use Rattle.writer_layout.specs.Laws.LayingLaws.{Laying, laying-length, body-linked, partsLeft, parts-whole, parts-more, parts-all}
 use Rattle.writer_layout.proofs.layouts.put_body.Statement.{statement}
 use Rattle.writer_layout.proofs.layouts.put_body.Tie as tie
 
 abbrev Inv-loop : tie.InvT-loop
 Inv-loop e r at out₀ count next₀ p₀ out next p =
-    (p ≤ count) × Laying out₀ at (bodyRecords r (claimedBody e)) out next (bodyLeft r (claimedBody e) p)
+    (p ≤ count) × Laying out₀ at (bodyRecords r (claimedBody e)) out next (partsLeft bodyRecords r (claimedBody e) p)
 
 abbrev μ-loop : tie.MeasureT-loop
 μ-loop e r at out₀ count next₀ p₀ out next p = count - p
@@ -22,7 +21,7 @@ body-count-requires : tie.Need-body-count-requires Inv-loop μ-loop
 body-count-requires c κs = tt
 
 loop-holds : tie.Need-loop-holds Inv-loop μ-loop
-loop-holds c = (omega arith, laying-whole _ _ (body-left-whole _ _))
+loop-holds c = (omega arith, parts-whole bodyRecords _ _ _ _)
 
 add-link-at : tie.Need-add-link-at Inv-loop μ-loop
 add-link-at c = omega arith
@@ -59,18 +58,19 @@ loop-again c =
     let here =
     body-from (start .args .e) (at .loop .p) (made .before .before .instruction-of .ensures)
     (omega (arith, counted)) in
-    let split =
-    body-left-more (start .args .r) (claimedBody (start .args .e)) (at .loop .p) here counted
-    (made .before .before .before .link-at .ensures) in
-    (omega arith, laying-more (start .pre .1) split (at .loop .inv .1) (made .put-instruction .ensures))
+    let linked = made .before .before .before .link-at .ensures in (
+      omega arith,
+      parts-more body-linked (start .args .r) (claimedBody (start .args .e)) (at .loop .p) (start .pre .1) here counted
+          linked (at .loop .inv .1) (made .put-instruction .ensures),
+    )
 
 same-length : tie.Need-same-length Inv-loop μ-loop
 same-length c = laying-length (c .before .loop .inv .1) (c .before .before .before .before .pre .1)
 
 returns : tie.Need-returns Inv-loop μ-loop
 returns c =
-    laying-all (body-left-none _ _ (c .before .loop .p) (omega (arith, c .before .before .body-count .ensures)))
-    (c .before .loop .inv .1)
+    let at = c .before in
+    parts-all body-linked _ _ (at .loop .p) (omega (arith, at .before .body-count .ensures)) (at .loop .inv .1)
 
 pub put-body-spec : {M : Type 1} → statement M
 put-body-spec =

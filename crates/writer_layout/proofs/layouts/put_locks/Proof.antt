@@ -6,14 +6,13 @@ use native.Mathlib.Omega.{arith}
 use Rattle.writer.specs.Claims.{claimedLocks}
 use Rattle.writer.specs.Layout.{lockRecords}
 use Rattle.writer_layout.specs.Laws.CountedLaws.{locks-from}
-use Rattle.writer_layout.specs.Laws.LayingLaws.{Laying, laying-whole, laying-more, laying-all, laying-length}
-use Rattle.writer_layout.specs.Laws.LayingLaws.{locksLeft, locks-left-whole, locks-left-more, locks-left-none}
+use Rattle.writer_layout.specs.Laws.LayingLaws.{Laying, laying-length, locks-linked, partsLeft, parts-whole, parts-more, parts-all}
 use Rattle.writer_layout.proofs.layouts.put_locks.Statement.{statement}
 use Rattle.writer_layout.proofs.layouts.put_locks.Tie as tie
 
 abbrev Inv-loop : tie.InvT-loop
 Inv-loop t r at out₀ count next₀ l₀ out next l =
-    (l ≤ count) × Laying out₀ at (lockRecords r (claimedLocks t)) out next (locksLeft r (claimedLocks t) l)
+    (l ≤ count) × Laying out₀ at (lockRecords r (claimedLocks t)) out next (partsLeft lockRecords r (claimedLocks t) l)
 
 abbrev μ-loop : tie.MeasureT-loop
 μ-loop t r at out₀ count next₀ l₀ out next l = count - l
@@ -22,7 +21,7 @@ lock-count-requires : tie.Need-lock-count-requires Inv-loop μ-loop
 lock-count-requires c κs = tt
 
 loop-holds : tie.Need-loop-holds Inv-loop μ-loop
-loop-holds c = (omega arith, laying-whole _ _ (locks-left-whole _ _))
+loop-holds c = (omega arith, parts-whole lockRecords _ _ _ _)
 
 add-link-at : tie.Need-add-link-at Inv-loop μ-loop
 add-link-at c = omega arith
@@ -59,18 +58,19 @@ loop-again c =
     let here =
     locks-from (start .args .t) (at .loop .l) (made .before .before .lock-of .ensures)
     (omega (arith, counted)) in
-    let split =
-    locks-left-more (start .args .r) (claimedLocks (start .args .t)) (at .loop .l) here counted
-    (made .before .before .before .link-at .ensures) in
-    (omega arith, laying-more (start .pre .1) split (at .loop .inv .1) (made .put-lock .ensures))
+    let linked = made .before .before .before .link-at .ensures in (
+      omega arith,
+      parts-more locks-linked (start .args .r) (claimedLocks (start .args .t)) (at .loop .l) (start .pre .1) here counted
+          linked (at .loop .inv .1) (made .put-lock .ensures),
+    )
 
 same-length : tie.Need-same-length Inv-loop μ-loop
 same-length c = laying-length (c .before .loop .inv .1) (c .before .before .before .before .pre .1)
 
 returns : tie.Need-returns Inv-loop μ-loop
 returns c =
-    laying-all (locks-left-none _ _ (c .before .loop .l) (omega (arith, c .before .before .lock-count .ensures)))
-    (c .before .loop .inv .1)
+    let at = c .before in
+    parts-all locks-linked _ _ (at .loop .l) (omega (arith, at .before .lock-count .ensures)) (at .loop .inv .1)
 
 pub put-locks-spec : {M : Type 1} → statement M
 put-locks-spec =
