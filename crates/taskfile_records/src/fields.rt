@@ -6,6 +6,8 @@ use taskfile::Instruction;
 use taskfile::Kind;
 use taskfile::limits::HIGHEST_CEILING;
 use taskfile::limits::MOST_OPERATIONS;
+use taskfile::limits::MOST_REGISTERS;
+use taskfile::limits::MOST_VARIABLES;
 use taskfile::limits::OPERATIONS;
 use taskfile::limits::RECORD;
 use taskfile::offsets;
@@ -57,47 +59,65 @@ pub fn zero_from(file: &[u8], r: u8, k: u8, n: u8) -> bool
     true
 }
 
-// The largest value of field a of each operation, then of field b, then of field c, or 0 where the field is unused. A
-// lock number may be any byte here. By field, so that a field that is known has twelve bytes in a row.
-const LIMITS: [u8; 36] = [
-    0,
-    3,
-    7,
-    3,
-    3,
-    3,
-    3,
-    3,
-    3,
-    255,
-    255,
-    3,
-    0,
-    7,
-    3,
-    255,
-    3,
-    3,
-    3,
-    3,
-    15,
-    0,
-    0,
-    0,
-    0,
-    0,
-    0,
-    0,
-    0,
-    0,
-    15,
-    15,
-    15,
-    0,
-    0,
-    0,
+// The largest value of a field by what the operation uses it for, or 0 where it is unused. "lock numbers are left to
+// 9", so one may be any byte here.
+const UNUSED: u8 = 0;
+
+const REGISTER: u8 = MOST_REGISTERS - 1;
+
+const VARIABLE: u8 = MOST_VARIABLES - 1;
+
+const ANY_BYTE: u8 = 255;
+
+const SMALL: u8 = 15;
+
+const LOCK_NUMBER: u8 = ANY_BYTE;
+
+// How the operations 0 to 11 use field a, then field b, then field c. By field, so that a field that is known has
+// twelve bytes in a row.
+const LIMITS: [u8; 3 * OPERATIONS] = [
+    // field a
+    UNUSED, // End
+    REGISTER, // Load
+    VARIABLE, // Store
+    REGISTER, // Set
+    REGISTER, // Add
+    REGISTER, // Subtract
+    REGISTER, // Skip if less
+    REGISTER, // Skip if equal
+    REGISTER, // Pick
+    LOCK_NUMBER, // Acquire
+    LOCK_NUMBER, // Release
+    REGISTER, // Assert
+    // field b
+    UNUSED, // End
+    VARIABLE, // Load
+    REGISTER, // Store
+    ANY_BYTE, // Set
+    REGISTER, // Add
+    REGISTER, // Subtract
+    REGISTER, // Skip if less
+    REGISTER, // Skip if equal
+    SMALL, // Pick
+    UNUSED, // Acquire
+    UNUSED, // Release
+    UNUSED, // Assert
+    // field c
+    UNUSED, // End
+    UNUSED, // Load
+    UNUSED, // Store
+    UNUSED, // Set
+    UNUSED, // Add
+    UNUSED, // Subtract
+    SMALL, // Skip if less
+    SMALL, // Skip if equal
+    SMALL, // Pick
+    UNUSED, // Acquire
+    UNUSED, // Release
+    UNUSED, // Assert
 ];
 
+// The largest value of a field of an operation, 0 to 2 for a to c.
 pub fn limit(operation: u8, field: u8) -> u8
     requires { ⌜ field ≤ 2 ⌝ }
     ensures { λ x. ⌜ x ≡ limitOf (fieldOf field (usesOf operation)) ⌝ }
@@ -106,7 +126,7 @@ pub fn limit(operation: u8, field: u8) -> u8
     if o < OPERATIONS {
         LIMITS[OPERATIONS * (field as usize) + o]
     } else {
-        0
+        UNUSED
     }
 }
 
