@@ -17,7 +17,8 @@ use Rattle.order.specs.Orders.{OrderEnds}
 use Rattle.order.specs.Replay.{replayAnswer}
 use Rattle.plan.specs.Plans.{PlanEnds, planAnswer}
 use Rattle.plan.specs.Runs.{Plan}
-use Rattle.matching.specs.ConversionEntries.{orderToPlanAnswer, planToOrderAnswer, AnswersEnd, planLeft, orderLeft}
+use Rattle.matching.specs.ConversionEntries.{orderToPlanAnswer, planToOrderAnswer}
+use Rattle.matching.specs.ConversionEntries.{AnswersEnd, planLeft, orderLeft}
 
 -- of an accepted file's table, with a lent buffer for a plan and one for an order
 pub record EntryDemand3 (f : File) (a : Accepted) (planBuffer orderBuffer : List ℕ) : Type 0 where

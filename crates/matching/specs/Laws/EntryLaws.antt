@@ -1,15 +1,15 @@
 -- What the entries of an accepted file answer, and what their buffers hold when one conversion's bytes are lent to the
 -- other.
 -- Assumes nothing.
-use mathlib.Core.Path.{_≡_, refl, sym, ap, subst, _∙_}
+use mathlib.Core.Path.{_≡_, refl, ap, _∙_}
 use mathlib.Core.Logic.{_↔_}
 use Prim.Native.Nat.{ℕ, _≤_}
 use native.Mathlib.Omega.{arith}
 use mathlib.Core.List.{List, []}
-use lib.ListN.{length, take}
+use lib.ListN.{length}
 use borrow.Author.Tests.{le-leb}
 use Rattle.notation.specs.Checked.{Checked, refused, passed}
-use Rattle.notation.specs.Laws.CheckedLaws.{bind-goes, bind-passed, passed-same, refused-passed, require-holds}
+use Rattle.notation.specs.Laws.CheckedLaws.{bind-goes, bind-passed, passed-same, require-holds}
 use Rattle.taskfile.specs.Records.{File}
 use Rattle.timing.specs.Accepted.{Accepted, accept}
 use Rattle.timing.specs.Laws.AcceptedLaws.{file-accepted}
@@ -18,7 +18,7 @@ use Rattle.machine.specs.Ends.{End}
 use Rattle.order.specs.Laws.CompleteLaws.{complete-ends, replay-complete}
 use Rattle.order.specs.Orders.{OrderEnds}
 use Rattle.order.specs.Replay.{replay, replayed, replayAnswer}
-use Rattle.plan.specs.Plans.{PlanEnds, legalRun, planEnd, checkPlan, checked, planAnswer}
+use Rattle.plan.specs.Plans.{PlanEnds, legalRun, checkPlan, checked, planAnswer}
 use Rattle.plan.specs.Runs.{Plan}
 use Rattle.matching.specs.ConversionEntries.{plannedOrder, orderToPlanAnswer, orderedPlan, planToOrderAnswer, AnswersEnd, planLeft, orderLeft}
 use Rattle.matching.specs.Conversions.{orderToPlan, planToOrder}

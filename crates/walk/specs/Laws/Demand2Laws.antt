@@ -1,6 +1,5 @@
 -- The theorem of demand 2 is proved: what every file's response times, its walk and the walk's entry are worth.
 -- Assumes nothing.
-use mathlib.Core.Path.{_≡_}
 use Prim.Native.Nat.{ℕ}
 use mathlib.Core.List.{List}
 use Rattle.taskfile.specs.Records.{File}

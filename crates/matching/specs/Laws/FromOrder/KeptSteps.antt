@@ -2,7 +2,7 @@
 -- Assumes nothing.
 use mathlib.Core.Path.{_≡_, refl, sym, ap, subst, _∙_}
 use mathlib.Core.Logic.{_⊎_}
-use Prim.Native.Nat.{ℕ, zero, suc, _≤_, _<_, _/_, _%_}
+use Prim.Native.Nat.{ℕ, suc, _≤_, _<_, _/_, _%_}
 use native.Mathlib.Decide.{decLe, ℕ-discrete}
 use native.Mathlib.Omega.{arith}
 use mathlib.Core.Bool.{Bool, true, false}
@@ -10,7 +10,6 @@ use mathlib.Core.List.{List, [], _∷_, _++_}
 use mathlib.Core.Option.{some}
 use lib.ListN.{length, getD, set, length-set}
 use lib.Seq.{getD-set-same, getD-set-other}
-use Rattle.taskfile.specs.declared.Instruction.{Instruction}
 use Rattle.taskfile.specs.Judgement.{instructionOf}
 use Rattle.notation.specs.Lists.{if_then_else_, member, lastOr}
 use Rattle.timing.specs.declared.Job.{Job}
@@ -19,8 +18,7 @@ use Rattle.timing.specs.Code.IsAccepted.{IsAccepted}
 use Rattle.timing.specs.Relations.{jobAt}
 use Rattle.machine.specs.declared.Effect.{Effect}
 use Rattle.machine.specs.declared.Local.{Local}
-use Rattle.machine.specs.Instructions.{Store, values, perform, operationEffects, endJob, loadVariable, store, setNumber}
-use Rattle.machine.specs.Instructions.{add, subtract, skipLess, skipEqual, pick, acquireLock, releaseLock, assert}
+use Rattle.machine.specs.Instructions.{Store, values, perform}
 use Rattle.order.specs.Code.Invariant.{Invariant}
 use Rattle.order.specs.Orders.{nextOf, step}
 use Rattle.order.specs.States.{State, hasEnded}

@@ -16,8 +16,8 @@ use Rattle.timing.specs.Laws.JobNumberLaws.{all-jobs}
 use Rattle.machine.specs.Ends.{Flags, noStore}
 use Rattle.machine.specs.Instructions.{Store}
 use Rattle.order.specs.Orders as orders
-use Rattle.order.specs.Orders.{run, Complete}
-use Rattle.order.specs.States.{State, initial, hasEnded, allEnded}
+use Rattle.order.specs.Orders.{Complete}
+use Rattle.order.specs.States.{State, hasEnded, allEnded}
 use Rattle.plan.specs.Legality.{dueStore}
 use Rattle.plan.specs.Plans.{legalRun, planEnd, Legal}
 use Rattle.plan.specs.Runs.{Plan, JobRuns, guess, jobTotal, runPlan}

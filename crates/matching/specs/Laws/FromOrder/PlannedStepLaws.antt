@@ -12,15 +12,13 @@ use mathlib.Core.Option.{some, bind}
 use lib.ListN.{length, getD}
 use lib.Dec.{eqb}
 use borrow.Author.Tests.{eq-eqb}
-use Rattle.notation.specs.Lists.{only}
 use Rattle.notation.specs.Laws.QuantifierLaws.{map-length, map-at}
 use Rattle.timing.specs.declared.Job.{Job}
 use Rattle.timing.specs.Accepted.{Accepted}
 use Rattle.timing.specs.Code.IsAccepted.{IsAccepted}
 use Rattle.timing.specs.Relations.{IsJob}
 use Rattle.order.specs.Orders.{run, Complete}
-use Rattle.order.specs.OrderSteps as steps
-use Rattle.order.specs.OrderSteps.{OrderStep, stepsFrom, orderSteps, stepsMade}
+use Rattle.order.specs.OrderSteps.{OrderStep, stepsFrom, orderSteps, stepsOfJob, stepsMade}
 use Rattle.order.specs.States.{State, initial}
 use Rattle.order.specs.Laws.StepLaws.{good-turn, AllowedStep, step-says, initial-invariant}
 use Rattle.plan.specs.Legality.{stepsOf}
@@ -35,7 +33,7 @@ use Rattle.matching.specs.Laws.History.PlanReading.{guessed, markOf, mar
 use Rattle.matching.specs.Laws.History.PlanReadingLaws.{marks-back}
 use Rattle.matching.specs.Laws.FromOrder.TraceMore.{trace-run-first, run-invariant}
 use Rattle.matching.specs.Laws.FromOrder.TraceStepLaws.{marks-whole, marks-noted}
-use Rattle.matching.specs.Laws.FromOrder.TraceSteps.{NotedStep, noted, countedStep, RoundsCounted, traceOf}
+use Rattle.matching.specs.Laws.FromOrder.TraceSteps.{NotedStep, noted, ofJob, countedStep, RoundsCounted, traceOf}
 
 -- ---- runs
 
@@ -55,13 +53,9 @@ run-cut a (b ∷ earlier) bytes s e =
 abbrev notedIn : Accepted → List ℕ → List NotedStep
 notedIn a order = map (countedStep a) (orderSteps a order)
 
--- and of them those of job x
-abbrev stepsOfJob : Job → List NotedStep → List NotedStep
-stepsOfJob x steps = only (λ step. eqb (step .job .0) (x .0)) steps
-
 -- each job has as many as the order has of it
-noted-made : (a : Accepted) (order : List ℕ) (x : Job) → length (stepsOfJob x (notedIn a order)) ≡ stepsMade a order x
-unfolding stepsMade steps.stepsOfJob countedStep
+noted-made : (a : Accepted) (order : List ℕ) (x : Job) → length (ofJob (x .0) (notedIn a order)) ≡ stepsMade a order x
+unfolding stepsMade stepsOfJob countedStep
 noted-made a order x = sym (only-mapped (countedStep a) (λ step. eqb (step .job .0) (x .0)) (orderSteps a order))
 
 -- ---- the plan's run
@@ -73,7 +67,7 @@ module _ (a : Accepted) (order : List ℕ) (counts : RoundsCounted a order) wher
 
   -- the plan's steps of a job are the order's
   steps-noted : (x : Job) → IsJob a x
-      → map markOf (stepsOf (runsOf a order) x) ≡ map noted (stepsOfJob x (notedIn a order))
+      → map markOf (stepsOf (runsOf a order) x) ≡ map noted (ofJob (x .0) (notedIn a order))
   unfolding stepsOf jobTotal
   steps-noted x isJob =
       let all : List (List runs.Step) = runsOf a order .steps in
@@ -82,14 +76,14 @@ module _ (a : Accepted) (order : List ℕ) (counts : RoundsCounted a order) wher
       sym (map-at (map markOf) all (x .0) [] [] (omega arith))
       ∙ ap (λ (l : Marks). getD l (x .0) []) marks-run
       ∙ marks-noted a order (x .0) isJob
-      ∙ ap (λ (l : List NotedStep). map noted (stepsOfJob x l)) counts
+      ∙ ap (λ (l : List NotedStep). map noted (ofJob (x .0) l)) counts
 
   -- so each job has as many steps in the plan as in the order
   steps-same : (x : Job) → IsJob a x → length (stepsOf (runsOf a order) x) ≡ stepsMade a order x
   steps-same x isJob =
       sym (map-length markOf (stepsOf (runsOf a order) x))
       ∙ ap (λ (l : List Mark). length l) (steps-noted x isJob)
-      ∙ map-length noted (stepsOfJob x (notedIn a order))
+      ∙ map-length noted (ofJob (x .0) (notedIn a order))
       ∙ noted-made a order x
 
 -- ---- each step
@@ -128,22 +122,22 @@ module _ {a : Accepted} (ok : IsAccepted a) (earlier later : List ℕ) {byte : �
       ∙ map-append (countedStep a) (stepsFrom a (initial a) earlier) (stepMade made ∷ stepsFrom a after later)
 
   -- and of them those of its job
-  job-parts : stepsOfJob x (notedIn a order) ≡ stepsOfJob x first ++ (own ∷ stepsOfJob x others)
+  job-parts : ofJob (x .0) (notedIn a order) ≡ ofJob (x .0) first ++ (own ∷ ofJob (x .0) others)
   unfolding countedStep
   job-parts =
       let test : NotedStep → Bool = λ step. eqb (step .job .0) (x .0) in
-      ap (stepsOfJob x) order-parts
+      ap (ofJob (x .0)) order-parts
       ∙ only-append test first (own ∷ others)
-      ∙ ap (λ (l : List NotedStep). stepsOfJob x first ++ l) (only-in test own others (eq-eqb (x .0) (x .0) refl))
+      ∙ ap (λ (l : List NotedStep). ofJob (x .0) first ++ l) (only-in test own others (eq-eqb (x .0) (x .0) refl))
 
   -- so they are in the plan
-  step-at : CutAt markOf (stepsOf (runsOf a order) x) (map noted (stepsOfJob x first)) (noted own)
+  step-at : CutAt markOf (stepsOf (runsOf a order) x) (map noted (ofJob (x .0) first)) (noted own)
   step-at =
-      map-cut markOf (stepsOf (runsOf a order) x) (map noted (stepsOfJob x first)) (map noted (stepsOfJob x others))
+      map-cut markOf (stepsOf (runsOf a order) x) (map noted (ofJob (x .0) first)) (map noted (ofJob (x .0) others))
       (noted own)
       (steps-noted a order counts x turn-job
       ∙ ap (map noted) job-parts
-      ∙ map-append noted (stepsOfJob x first) (own ∷ stepsOfJob x others))
+      ∙ map-append noted (ofJob (x .0) first) (own ∷ ofJob (x .0) others))
 
   step-planned : StepPlanned a (runsOf a order) earlier byte
   unfolding noted markOf countedStep
@@ -157,7 +151,7 @@ module _ {a : Accepted} (ok : IsAccepted a) (earlier later : List ℕ) {byte : �
         step = step-at .here;
         left = step-at .after;
         cut = step-at .parts;
-        as-many = step-at .as-many ∙ map-length noted (stepsOfJob x first) ∙ noted-made a earlier x;
+        as-many = step-at .as-many ∙ map-length noted (ofJob (x .0) first) ∙ noted-made a earlier x;
         value = ap (λ (m : Mark). m .value) (step-at .same);
         round = ap (λ (m : Mark). m .round) (step-at .same);
       }

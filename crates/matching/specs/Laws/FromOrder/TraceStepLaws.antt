@@ -21,15 +21,14 @@ use Rattle.timing.specs.Accepted.{Accepted}
 use Rattle.timing.specs.Relations.{jobNumbers}
 use Rattle.machine.specs.Instructions.{Store}
 use Rattle.order.specs.Orders.{Turn, turnOf, performed}
-use Rattle.order.specs.OrderSteps as steps
-use Rattle.order.specs.OrderSteps.{OrderStep, stepsFrom, orderSteps, isEnd, endedCount}
+use Rattle.order.specs.OrderSteps.{OrderStep, stepsFrom, orderSteps, stepsOfJob, isEnd, endedCount}
 use Rattle.order.specs.States.{State, initial}
 use Rattle.plan.specs.Runs.{jobTotal}
 use Rattle.matching.specs.Conversions.{jobBytes, endStores, planOf}
 use Rattle.matching.specs.Laws.History.Histories.{Mark, Marks, job, marked}
 use Rattle.matching.specs.Laws.History.PlanReading.{marksBytes, written}
 use Rattle.matching.specs.Laws.History.PlanReadingLaws.{numbers-from}
-use Rattle.matching.specs.Laws.FromOrder.TraceSteps.{Trace, NotedStep, noted, numbered, countedStep, RoundsCounted}
+use Rattle.matching.specs.Laws.FromOrder.TraceSteps.{Trace, NotedStep, noted, ofJob, numbered, countedStep, RoundsCounted}
 use Rattle.matching.specs.Laws.FromOrder.TraceSteps.{traced, traceFrom, firstGuess, startTrace, traceOf}
 
 -- ---- lists
@@ -52,36 +51,32 @@ each-numbered {A} {B} start (x ∷ xs) d f g same =
 
 -- ---- one step
 
--- the steps of job x
-abbrev stepsOfJob : ℕ → List NotedStep → List NotedStep
-stepsOfJob x steps = only (λ step. eqb (step .job .0) x) steps
-
 -- a job's steps where the first is its own, and where it is another's
 steps-own : (x : ℕ) (step : NotedStep) (steps : List NotedStep) → step .job .0 ≡ x
-    → stepsOfJob x (step ∷ steps) ≡ step ∷ stepsOfJob x steps
+    → ofJob x (step ∷ steps) ≡ step ∷ ofJob x steps
 unfolding only if_then_else_
 steps-own x step steps e = rw (eq-eqb (step .job .0) x e) refl
 
 steps-other : (x : ℕ) (step : NotedStep) (steps : List NotedStep) → step .job .0 ≢ x
-    → stepsOfJob x (step ∷ steps) ≡ stepsOfJob x steps
+    → ofJob x (step ∷ steps) ≡ ofJob x steps
 unfolding only if_then_else_
 steps-other x step steps apart = rw (ne-eqb (step .job .0) x apart) refl
 
 -- a mark at the end of its job's is the first of those that follow
 marks-step : (marks : Marks) (step : NotedStep) (steps : List NotedStep) (x : ℕ) → x < length marks
-    → getD (marked marks (step .job .0) (noted step)) x [] ++ map noted (stepsOfJob x steps) ≡ getD marks x [] ++ map
-    noted (stepsOfJob x (step ∷ steps))
+    → getD (marked marks (step .job .0) (noted step)) x [] ++ map noted (ofJob x steps) ≡ getD marks x [] ++ map
+    noted (ofJob x (step ∷ steps))
 unfolding marked noted
 marks-step marks step steps x lt =
     elim (ℕ-discrete (step .job .0) x) [
       | yes same ↦
           (let here : getD (marked marks (step .job .0) (noted step)) x [] ≡ getD marks x [] ++ (noted step ∷ []) =
           rw same (getD-set-same marks x (getD marks x [] ++ (noted step ∷ [])) [] lt) in
-          ap (λ (l : List Mark). l ++ map noted (stepsOfJob x steps)) here
-          ∙ append-assoc (getD marks x []) (noted step ∷ []) (map noted (stepsOfJob x steps))
+          ap (λ (l : List Mark). l ++ map noted (ofJob x steps)) here
+          ∙ append-assoc (getD marks x []) (noted step ∷ []) (map noted (ofJob x steps))
           ∙ ap (λ (l : List NotedStep). getD marks x [] ++ map noted l) (sym (steps-own x step steps same)))
       | no apart ↦
-          ap (λ (l : List Mark). l ++ map noted (stepsOfJob x steps)) (getD-set-other marks (step .job .0) x _ [] (λ e. apart (sym e)))
+          ap (λ (l : List Mark). l ++ map noted (ofJob x steps)) (getD-set-other marks (step .job .0) x _ [] (λ e. apart (sym e)))
           ∙ ap (λ (l : List NotedStep). getD marks x [] ++ map noted l) (sym (steps-other x step steps apart))
     ]
 
@@ -98,7 +93,7 @@ pub record Follows (r : ℕ) (t : Trace) (made : List OrderStep) (end : Trace) :
   pub rounds : length (end .guesses) ≡ length (t .guesses)
   -- each job's marks, then those of its steps
   pub steps : (x : ℕ) → x < length (t .marks)
-      → getD (end .marks) x [] ≡ getD (t .marks) x [] ++ map noted (only (λ step. eqb (step .job .0) x) (numbered r made))
+      → getD (end .marks) x [] ≡ getD (t .marks) x [] ++ map noted (ofJob x (numbered r made))
   -- the guesses up to round r, then the stores after the Ends
   pub kept : (q : ℕ) → q ≤ r → getD (end .guesses) q [] ≡ getD (t .guesses) q []
   pub stores : (i : ℕ) → i < length (endStores made) → suc r + i < length (t .guesses)
@@ -129,12 +124,12 @@ module _ (r : ℕ) (t : Trace) (step : OrderStep) (made : List OrderStep) (end :
 
   -- the marks where the round of the next step is known
   marks-on : (q : ℕ) → (if isEnd step then suc r else r) ≡ q → (x : ℕ) → x < length (t .marks)
-      → getD (marked (t .marks) (step .job .0) (noted own)) x [] ++ map noted (stepsOfJob x (numbered q made))
-      ≡ getD (t .marks) x [] ++ map noted (stepsOfJob x (numbered r (step ∷ made)))
+      → getD (marked (t .marks) (step .job .0) (noted own)) x [] ++ map noted (ofJob x (numbered q made))
+      ≡ getD (t .marks) x [] ++ map noted (ofJob x (numbered r (step ∷ made)))
   unfolding numbered
   marks-on q same x lt =
       marks-step (t .marks) own (numbered q made) x lt
-      ∙ ap (λ (n : ℕ). getD (t .marks) x [] ++ map noted (stepsOfJob x (own ∷ numbered n made))) (sym same)
+      ∙ ap (λ (n : ℕ). getD (t .marks) x [] ++ map noted (ofJob x (own ∷ numbered n made))) (sym same)
 
   -- a step that is no End
   follows-on : isEnd step ≡ false → Follows r (now false) made end → Follows r t (step ∷ made) end
@@ -221,16 +216,16 @@ first-guess store (suc n) d lt = refl
 
 -- a job's bytes are those of its marks
 bytes-noted : (a : Accepted) (made : List OrderStep) (x : ℕ)
-    → jobBytes a made (job x) ≡ marksBytes (map noted (stepsOfJob x (map (countedStep a) made)))
-unfolding jobBytes steps.stepsOfJob marksBytes noted countedStep job only each if_then_else_
+    → jobBytes a made (job x) ≡ marksBytes (map noted (ofJob x (map (countedStep a) made)))
+unfolding jobBytes stepsOfJob marksBytes noted countedStep job only each if_then_else_
 bytes-noted a [] x = refl
 bytes-noted a (step ∷ made) x = go (eqb (step .job .0) x) (bytes-noted a made x)
   where
-    go : (b : Bool) → jobBytes a made (job x) ≡ marksBytes (map noted (stepsOfJob x (map (countedStep a) made)))
-        → each (if b then step ∷ steps.stepsOfJob made (job x) else steps.stepsOfJob made (job x))
+    go : (b : Bool) → jobBytes a made (job x) ≡ marksBytes (map noted (ofJob x (map (countedStep a) made)))
+        → each (if b then step ∷ stepsOfJob made (job x) else stepsOfJob made (job x))
         (λ one. endedCount a (one .before) ∷ one .value ∷ [])
-        ≡ marksBytes (map noted (if b then countedStep a step ∷ stepsOfJob x (map (countedStep a) made)
-        else stepsOfJob x (map (countedStep a) made)))
+        ≡ marksBytes (map noted (if b then countedStep a step ∷ ofJob x (map (countedStep a) made)
+        else ofJob x (map (countedStep a) made)))
     go true e = ap (λ (l : List ℕ). endedCount a (step .before) ∷ step .value ∷ l) e
     go false e = e
 
@@ -251,12 +246,11 @@ module _ (a : Accepted) (order : List ℕ) where
 
   -- a job's marks are those of its steps
   pub marks-noted : (x : ℕ) → x < jobTotal a
-      → getD (traceOf a order .marks) x [] ≡ map noted
-      (only (λ step. eqb (step .job .0) x) (numbered 0 (orderSteps a order)))
+      → getD (traceOf a order .marks) x [] ≡ map noted (ofJob x (numbered 0 (orderSteps a order)))
   unfolding startTrace
   marks-noted x lt =
       traced-whole .steps x (omega (arith, length-replicate {A = List Mark} (jobTotal a) []))
-      ∙ ap (λ (l : List Mark). l ++ map noted (stepsOfJob x (numbered 0 (orderSteps a order)))) (getD-replicate (jobTotal a) x [] [] lt)
+      ∙ ap (λ (l : List Mark). l ++ map noted (ofJob x (numbered 0 (orderSteps a order)))) (getD-replicate (jobTotal a) x [] [] lt)
 
   -- so the bytes of all jobs are those of the marks
   jobs-written : RoundsCounted a order → each (jobNumbers a) (jobBytes a (orderSteps a order)) ≡ each
@@ -266,7 +260,7 @@ module _ (a : Accepted) (order : List ℕ) where
       let marks : Marks = traceOf a order .marks in
       let noting : (x : ℕ) → x < jobTotal a → jobBytes a made (job x) ≡ marksBytes (getD marks x []) = λ x lt.
       bytes-noted a made x
-      ∙ ap (λ (l : List NotedStep). marksBytes (map noted (stepsOfJob x l))) (sym counts)
+      ∙ ap (λ (l : List NotedStep). marksBytes (map noted (ofJob x l))) (sym counts)
       ∙ ap marksBytes (sym (marks-noted x lt)) in
       ap (λ (xs : List Job). each xs (jobBytes a made)) (numbers-from a (length marks) marks-whole)
       ∙ each-map job (from 0 (length marks)) (jobBytes a made)

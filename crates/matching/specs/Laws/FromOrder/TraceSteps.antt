@@ -8,7 +8,8 @@ use mathlib.Core.Bool.{Bool}
 use mathlib.Core.List.{List, [], _∷_, map}
 use mathlib.Core.Option.{none, some}
 use lib.ListN.{set, replicate}
-use Rattle.notation.specs.Lists.{if_then_else_}
+use lib.Dec.{eqb}
+use Rattle.notation.specs.Lists.{if_then_else_, only}
 use Rattle.timing.specs.declared.Job.{Job}
 use Rattle.timing.specs.Accepted.{Accepted}
 use Rattle.machine.specs.Instructions.{Store}
@@ -32,6 +33,10 @@ pub record NotedStep : Type 0 where
 -- its mark
 unfoldable pub noted : NotedStep → Mark
 noted step = record { round = step .round; value = step .value }
+
+-- those of job x
+abbrev pub ofJob : ℕ → List NotedStep → List NotedStep
+ofJob x steps = only (λ step. eqb (step .job .0) x) steps
 
 -- an order's steps with their rounds, of which the first is r: a round ends with a job's End
 unfoldable pub numbered : ℕ → List OrderStep → List NotedStep

@@ -8,7 +8,7 @@ use mathlib.Core.Bool.{true}
 use mathlib.Core.List.{List, [], _∷_, _++_, append-assoc, append-nil}
 use lib.ListN.{replicate}
 use lib.Seq.{ext-getD}
-use Rattle.notation.specs.Lists.{each, lastOr}
+use Rattle.notation.specs.Lists.{lastOr}
 use Rattle.timing.specs.Accepted.{Accepted}
 use Rattle.timing.specs.Code.IsAccepted.{IsAccepted}
 use Rattle.timing.specs.Laws.JobNumberLaws.{jobs-all}
@@ -18,7 +18,7 @@ use Rattle.plan.specs.Plans.{Legal}
 use Rattle.plan.specs.Runs.{Plan, JobRuns, jobTotal}
 use Rattle.matching.specs.Laws.FromPlan.Cuts.{Placed, sequence, gathered}
 use Rattle.matching.specs.Laws.FromOrder.EndedLaws.{ended-all}
-use Rattle.matching.specs.Laws.History.Histories.{Marks, job, columns}
+use Rattle.matching.specs.Laws.History.Histories.{Marks, job}
 use Rattle.matching.specs.Laws.FromPlan.PlanColumns.{legal-back, legal-climbs, legal-stores, legal-failed, legal-ends}
 use Rattle.matching.specs.Laws.FromPlan.PlanKept.{doneMarks, doneBytes, PlanKept, plan-starts}
 use Rattle.matching.specs.Laws.History.PlanReading.{marksOf, guessesOf}

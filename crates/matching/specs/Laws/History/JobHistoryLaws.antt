@@ -12,7 +12,7 @@ use lib.Dec.{leb, ltb}
 use borrow.Author.Tests.{ltb-true, leb-true}
 use Rattle.notation.specs.Checked.{Checked, passed, require}
 use Rattle.notation.specs.Laws.CheckedLaws.{passed-same, bind-passed, then-passed, require-passed}
-use Rattle.notation.specs.Lists.{if_then_else_, from, each}
+use Rattle.notation.specs.Lists.{if_then_else_, each}
 use Rattle.taskfile.specs.Tables.{taskOf, bodyOf}
 use Rattle.notation.specs.Laws.TestLaws.{and-both, not-both, test-holds}
 use Rattle.timing.specs.Accepted.{Accepted}

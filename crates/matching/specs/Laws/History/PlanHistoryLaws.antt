@@ -21,7 +21,7 @@ use Rattle.timing.specs.Relations.{jobNumbers}
 use Rattle.machine.specs.Instructions.{fresh}
 use Rattle.plan.specs.Runs as runs
 use Rattle.plan.specs.Runs.{Plan, JobRun, JobRuns, jobTotal, roundNumbers, firstRound, guess, runJob, runJobs, runStart, runPlan}
-use Rattle.matching.specs.Laws.History.Histories.{Mark, ColumnRun, job, round}
+use Rattle.matching.specs.Laws.History.Histories.{Mark, job, round}
 use Rattle.matching.specs.Laws.History.JobHistoryLaws.{column-read}
 use Rattle.matching.specs.Laws.History.JobReadingLaws.{column-runs, whole-short}
 use Rattle.matching.specs.Laws.History.PlanReading.{marksBytes, written, markOf, AllWhole, columnsRun, Eights, guessed, guessesOf, marksOf}
