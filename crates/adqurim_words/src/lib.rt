@@ -52,19 +52,19 @@ pub const PLACE: usize = 1;
 
 pub const RESPONSES: usize = 2;
 
-pub const JOBS: usize = 10;
+pub const JOBS_WORD: usize = 10;
 
-pub const SIZE: usize = 2;
+pub const SIZE_WORD: usize = 2;
 
-pub const STORE: usize = 2;
+pub const STORE_WORD: usize = 2;
 
-pub const FAILED: usize = 10;
+pub const FAILED_WORD: usize = 10;
 
-pub const LENGTH: usize = 42;
+pub const LENGTH_WORD: usize = 42;
 
 pub const VERDICT: usize = 43;
 
-pub const COUNT: usize = 44;
+pub const COUNT_WORD: usize = 44;
 
 // Word k of the reader's answer.
 fn read_word(a: ReadAnswer, k: usize) -> u64
@@ -77,7 +77,7 @@ fn read_word(a: ReadAnswer, k: usize) -> u64
     if k == PLACE {
         return a.place as u64;
     }
-    if k < JOBS {
+    if k < JOBS_WORD {
         return a.responses[k - RESPONSES];
     }
     a.jobs as u64
@@ -120,11 +120,11 @@ fn run_word(run: RunAnswer, k: usize) -> u64
     if k == PLACE {
         return run.place as u64;
     }
-    if k < FAILED {
-        return byte_word(run.store[k - STORE]);
+    if k < FAILED_WORD {
+        return byte_word(run.store[k - STORE_WORD]);
     }
-    if k < LENGTH {
-        return flag_word(run.failed[k - FAILED]);
+    if k < LENGTH_WORD {
+        return flag_word(run.failed[k - FAILED_WORD]);
     }
     run.length as u64
 }
@@ -175,7 +175,7 @@ pub fn put_walk(x: WalkAnswer, answer: &mut [u64])
     put_run(run_part(x), answer);
     let verdict = x.verdict;
     answer[VERDICT] = verdict_word(verdict);
-    answer[COUNT] = x.count;
+    answer[COUNT_WORD] = x.count;
 }
 
 // Number, place and size as words.
@@ -185,7 +185,7 @@ pub fn put_sized(number: u8, place: u32, size: u32, answer: &mut [u64])
 {
     answer[NUMBER] = number as u64;
     answer[PLACE] = place as u64;
-    answer[SIZE] = size as u64;
+    answer[SIZE_WORD] = size as u64;
 }
 
 // The words of the sheet's answer.

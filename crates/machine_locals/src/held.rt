@@ -4,6 +4,7 @@ ghost use mathlib.Core.Path.{_≡_};
 ghost use Prim.Native.Nat.{_≤_, _<_};
 ghost use lib.ListN.{take};
 ghost use Rattle.machine.specs.Held.{noLocks, holds, priority};
+ghost use Rattle.taskfile.specs.Chains.{mostLocks};
 
 // No lock.
 pub fn no_locks() -> [u8; LOCKS]
@@ -14,7 +15,7 @@ pub fn no_locks() -> [u8; LOCKS]
 
 // Is the lock held?
 pub fn holds_lock(held: [u8; LOCKS], lock: u8) -> bool
-    requires { ⌜ lock < 8 ⌝ }
+    requires { ⌜ lock < mostLocks ⌝ }
     ensures { λ r. ⌜ r ≡ holds held lock ⌝ }
 {
     0 < held[lock as usize]
@@ -22,7 +23,7 @@ pub fn holds_lock(held: [u8; LOCKS], lock: u8) -> bool
 
 // A job's priority: the largest of its base and the ceilings it holds, where the first `locks` ceilings are locks'.
 pub fn priority_of(ceilings: [u8; LOCKS], locks: u8, base: u8, held: [u8; LOCKS]) -> u8
-    requires { ⌜ locks ≤ 8 ⌝ }
+    requires { ⌜ locks ≤ mostLocks ⌝ }
     ensures { λ r. ⌜ r ≡ priority (take locks ceilings) base held ⌝ }
 {
     let mut highest = base;

@@ -20,6 +20,8 @@ ghost use Rattle.machine.specs.Instructions.{skipLess, skipEqual, pick, acquire
 ghost use Rattle.machine.specs.Instructions.{skipping, withHeld, withRegister};
 ghost use Rattle.order_states.specs.Code.StateBytes.{frameIn};
 ghost use Rattle.machine_performing.specs.Code.Performed.{LocalMade, Done, Running};
+ghost use Rattle.order_states.specs.Code.Sizes.{stateBytes};
+ghost use Rattle.taskfile.specs.Chains.{mostTasks};
 
 // Gives register r of the job at position k the value x, and the job goes on.
 fn take_register(s: &mut [u8; STATE], k: u8, r: u8, x: u8)
@@ -42,7 +44,7 @@ fn skip_when(s: &mut [u8; STATE], k: u8, test: bool, n: u8)
 // The job at position k holds the lock once more. A job that may still acquire has come to its sixteenth instruction
 // at most, so no count leaves its byte.
 fn acquire_held(s: &mut [u8; STATE], k: u8, lock: u8)
-    requires { ⌜ (length (now s) ≡ 192) × (k < 8) × Within 15 (frameIn (now s) k .local .held) ⌝ }
+    requires { ⌜ (length (now s) ≡ stateBytes) × (k < mostTasks) × Within 15 (frameIn (now s) k .local .held) ⌝ }
     ensures { λ _. ⌜ LocalMade (now (s .entry)) (now (s .exit)) k (λ l. withHeld (acquire (l .held) lock) l) ⌝ }
 {
     let count = held_in(s, k, lock);
@@ -51,7 +53,7 @@ fn acquire_held(s: &mut [u8; STATE], k: u8, lock: u8)
 
 // The job at position k holds the lock once less, if it holds it.
 fn release_held(s: &mut [u8; STATE], k: u8, lock: u8)
-    requires { ⌜ (length (now s) ≡ 192) × (k < 8) ⌝ }
+    requires { ⌜ (length (now s) ≡ stateBytes) × (k < mostTasks) ⌝ }
     ensures { λ _. ⌜ LocalMade (now (s .entry)) (now (s .exit)) k (λ l. withHeld (release (l .held) lock) l) ⌝ }
 {
     let count = held_in(s, k, lock);

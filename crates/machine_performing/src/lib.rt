@@ -39,11 +39,13 @@ ghost use Rattle.machine.specs.Instructions.{perform};
 ghost use Rattle.machine.specs.declared.Local.{Local};
 ghost use Rattle.order_states.specs.Code.StateBytes.{frameIn};
 ghost use Rattle.machine_performing.specs.Code.Performed.{Performed};
+ghost use Rattle.order_states.specs.Code.Sizes.{stateBytes};
+ghost use Rattle.taskfile.specs.Chains.{mostInstructions, mostTasks};
 
 // Performs an instruction of the active job at position k, where v is the Pick's choice; says whether an assertion
 // failed. An operation above 11 is taken as End.
 pub fn perform_in(s: &mut [u8; STATE], k: u8, o: Instruction, v: u8) -> bool
-    requires { ⌜ (length (now s) ≡ 192) × (k < 8) × (frameIn (now s) k .local .next < 16)
+    requires { ⌜ (length (now s) ≡ stateBytes) × (k < mostTasks) × (frameIn (now s) k .local .next < mostInstructions)
         × LocksWithin (frameIn (now s) k .local) ⌝ }
     ensures failed { λ b. ⌜ b ≡ perform o v (frameIn (now (s .entry)) k .local) (bytesAt (now (s .entry)) 0 8)
         .failed ⌝ }

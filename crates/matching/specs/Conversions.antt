@@ -3,7 +3,7 @@
 -- it, and a round's guess is the store where it begins. A plan's steps make an order when they are read round by
 -- round and, in a round, job by job.
 -- Assumes nothing.
-use Prim.Native.Nat.{ℕ, _+_, _*_}
+use Prim.Native.Nat.{ℕ}
 use mathlib.Core.List.{List, [], _∷_, _++_, map}
 use lib.ListN.{take}
 use lib.Dec.{eqb}
@@ -14,6 +14,7 @@ use Rattle.timing.specs.Accepted.{Accepted}
 use Rattle.timing.specs.Relations.{base, jobNumbers}
 use Rattle.machine.specs.Buffers.{Written}
 use Rattle.machine.specs.Instructions.{Store}
+use Rattle.order.specs.OrderBytes.{orderByte}
 use Rattle.order.specs.OrderSteps.{OrderStep, orderSteps, stepsOfJob, isEnd, endedCount}
 use Rattle.order.specs.Replay.{replay}
 use Rattle.plan.specs.Legality.{stepsOf}
@@ -49,7 +50,7 @@ orderToPlan a order = do
 -- the order bytes of job x in round r
 unfoldable pub stepBytesIn : Accepted → JobRuns → ℕ → Job → List ℕ
 stepBytesIn a runs r x =
-    map (λ step. 16 * base a x + step .value) (only (λ step. eqb (step .round .0) r) (stepsOf runs x))
+    map (λ step. orderByte (base a x) (step .value)) (only (λ step. eqb (step .round .0) r) (stepsOf runs x))
 
 -- round by round, in each round job by job
 unfoldable pub orderOf : Accepted → JobRuns → List ℕ

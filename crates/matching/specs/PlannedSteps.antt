@@ -3,13 +3,14 @@
 -- order, for each of its steps, two bytes: round, Pick value or 0."
 -- Assumes nothing.
 use mathlib.Core.Path.{_≡_}
-use Prim.Native.Nat.{ℕ, _/_, _%_}
+use Prim.Native.Nat.{ℕ}
 use mathlib.Core.List.{List, _∷_, _++_}
 use mathlib.Core.Option.{some}
 use lib.ListN.{length}
 use Rattle.timing.specs.declared.Job.{Job}
 use Rattle.timing.specs.Accepted.{Accepted}
 use Rattle.timing.specs.Relations.{IsJob}
+use Rattle.order.specs.OrderBytes.{taskOfByte, valueOfByte}
 use Rattle.order.specs.Orders.{Turn, turnOf, run}
 use Rattle.order.specs.OrderSteps.{stepsMade, endedCount}
 use Rattle.order.specs.States.{State, initial}
@@ -23,7 +24,7 @@ pub record StepPlanned (a : Accepted) (runs : JobRuns) (earlier : List ℕ) (byt
   pub before : State
   pub reached : run a (initial a) earlier ≡ some before
   pub turn : Turn
-  pub due : turnOf a before (byte / 16) ≡ some turn
+  pub due : turnOf a before (taskOfByte byte) ≡ some turn
   -- the plan's steps of that job: as many as it has made in `earlier`, then this one
   pub made : List Step
   pub step : Step
@@ -31,7 +32,7 @@ pub record StepPlanned (a : Accepted) (runs : JobRuns) (earlier : List ℕ) (byt
   pub cut : stepsOf runs (turn .frame .job) ≡ made ++ (step ∷ left)
   pub as-many : length made ≡ stepsMade a earlier (turn .frame .job)
   -- it has its value from the order and, as its round, the number of Ends before it: so many jobs have ended
-  pub value : step .value ≡ byte % 16
+  pub value : step .value ≡ valueOfByte byte
   pub round : step .round .0 ≡ endedCount a before
 
 -- the plan's steps are the order's

@@ -20,10 +20,12 @@ ghost use Rattle.taskfile.specs.Code.JudgingParts.{Shaped};
 ghost use Rattle.matching.specs.ConversionEntries.{planToOrderAnswer, planToOrderAfter};
 ghost use Rattle.plan_marks.specs.Code.Marks.{IsMarks};
 ghost use Rattle.matching_orders.specs.Code.OrderWritten.{OrderWritten};
+ghost use Rattle.machine.specs.Buffers.{orderRoom};
+ghost use Rattle.timing.specs.Accepted.{mostJobs};
 
 // Writes the order of a legal plan's marks, of a table's jobs, and zeros after it up to the room of an order.
 pub fn write_order(t: Table, list: JobList, marks: &[u8; MARKS], out: &mut [u8]) -> usize
-    requires { ⌜ Shaped t × (list .count ≤ 32) × IsMarks (now marks) × (512 ≤ length (now out)) ⌝ }
+    requires { ⌜ Shaped t × (list .count ≤ mostJobs) × IsMarks (now marks) × (orderRoom ≤ length (now out)) ⌝ }
     ensures { λ n. ⌜ OrderWritten t list (now (marks .entry)) (now (out .entry)) (now (out .exit)) n ⌝ }
 {
     let program = program_of(t, list);

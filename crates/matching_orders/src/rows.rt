@@ -1,7 +1,7 @@
 // A plan's steps as an order's bytes.
 use notation_buffers::write_byte;
 use order_states::ORDER_ROOM;
-use order_states::OWNERS;
+use order_states::OWNERS_AT;
 use order_states::PROGRAM;
 use order_states::VALUES;
 use plan::Round;
@@ -15,11 +15,13 @@ ghost use Prim.Native.Nat.{_≤_, _<_};
 ghost use lib.ListN.{length};
 ghost use Rattle.plan_marks.specs.Code.Marks.{IsMarks};
 ghost use Rattle.notation_buffers.specs.Code.Writing.{Appends};
-ghost use Rattle.matching_orders.specs.Code.Rows.{orderByte, jobRow, roundRow, rowsIn};
+ghost use Rattle.matching_orders.specs.Code.Rows.{writtenByte, jobRow, roundRow, rowsIn};
+ghost use Rattle.machine.specs.Buffers.{orderRoom};
+ghost use Rattle.timing.specs.Accepted.{mostJobs};
 
 // The order byte of a task and a value. No task or value of an accepted table is above 15.
 pub fn order_byte(task: u8, value: u8) -> u8
-    ensures { λ r. ⌜ r ≡ orderByte task value ⌝ }
+    ensures { λ r. ⌜ r ≡ writtenByte task value ⌝ }
 {
     if VALUES <= task || VALUES <= value {
         return 0;
@@ -36,11 +38,11 @@ pub fn put_job(
     at: usize,
     out: &mut [u8],
 ) -> usize
-    requires { ⌜ IsMarks (now marks) × (x .0 < 32) × (512 ≤ length (now out)) ⌝ }
-    ensures { λ n. ⌜ Appends 512 (now (out .entry)) at
+    requires { ⌜ IsMarks (now marks) × (x .0 < mostJobs) × (orderRoom ≤ length (now out)) ⌝ }
+    ensures { λ n. ⌜ Appends orderRoom (now (out .entry)) at
         (jobRow (now (program .entry)) (now (marks .entry)) (r .0) (x .0)) (now (out .exit)) n ⌝ }
 {
-    let task = program[OWNERS + (x.0 as usize)];
+    let task = program[OWNERS_AT + (x.0 as usize)];
     let count = count_at(marks, x);
     let mut next = at;
     let mut n: u8 = 0;
@@ -67,8 +69,8 @@ pub fn put_round(
     at: usize,
     out: &mut [u8],
 ) -> usize
-    requires { ⌜ IsMarks (now marks) × (k ≤ 32) × (512 ≤ length (now out)) ⌝ }
-    ensures { λ n. ⌜ Appends 512 (now (out .entry)) at
+    requires { ⌜ IsMarks (now marks) × (k ≤ mostJobs) × (orderRoom ≤ length (now out)) ⌝ }
+    ensures { λ n. ⌜ Appends orderRoom (now (out .entry)) at
         (roundRow (now (program .entry)) (now (marks .entry)) k (r .0)) (now (out .exit)) n ⌝ }
 {
     let mut next = at;
@@ -82,8 +84,8 @@ pub fn put_round(
 
 // Writes the bytes of all rounds, of k jobs, at the front of the buffer.
 pub fn put_rounds(program: &[u8; PROGRAM], marks: &[u8; MARKS], k: u8, out: &mut [u8]) -> usize
-    requires { ⌜ IsMarks (now marks) × (k ≤ 32) × (512 ≤ length (now out)) ⌝ }
-    ensures { λ n. ⌜ Appends 512 (now (out .entry)) 0
+    requires { ⌜ IsMarks (now marks) × (k ≤ mostJobs) × (orderRoom ≤ length (now out)) ⌝ }
+    ensures { λ n. ⌜ Appends orderRoom (now (out .entry)) 0
         (rowsIn (now (program .entry)) (now (marks .entry)) k) (now (out .exit)) n ⌝ }
 {
     let mut next: usize = 0;

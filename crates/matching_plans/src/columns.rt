@@ -11,14 +11,16 @@ use timing::Job;
 ghost use mathlib.Core.Path.{_≡_};
 ghost use Prim.Native.Nat.{_*_, _≤_, _<_};
 ghost use lib.ListN.{length, take};
-ghost use Rattle.plan_marks.specs.Code.Marks.{IsMarks};
+ghost use Rattle.plan_marks.specs.Code.Marks.{IsMarks, storesBytes};
 ghost use Rattle.notation_buffers.specs.Code.Writing.{Appends};
 ghost use Rattle.matching_plans.specs.Code.Columns.{jobColumn, columnsIn, planIn};
+ghost use Rattle.machine.specs.Buffers.{planRoom};
+ghost use Rattle.timing.specs.Accepted.{mostJobs};
 
 // Writes the guesses of k rounds.
 pub fn put_guesses(guesses: &[u8; STORES], k: u8, at: usize, out: &mut [u8]) -> usize
-    requires { ⌜ (length (now guesses) ≡ 256) × (k ≤ 32) × (1281 ≤ length (now out)) ⌝ }
-    ensures { λ n. ⌜ Appends 1281 (now (out .entry)) at (take (8 * k) (now (guesses .entry))) (now (out .exit)) n ⌝ }
+    requires { ⌜ (length (now guesses) ≡ storesBytes) × (k ≤ mostJobs) × (planRoom ≤ length (now out)) ⌝ }
+    ensures { λ n. ⌜ Appends planRoom (now (out .entry)) at (take (8 * k) (now (guesses .entry))) (now (out .exit)) n ⌝ }
 {
     let most = VARIABLES * (k as usize);
     let mut next = at;
@@ -32,8 +34,8 @@ pub fn put_guesses(guesses: &[u8; STORES], k: u8, at: usize, out: &mut [u8]) -> 
 
 // Writes the steps of job x: two bytes each, round and value.
 pub fn put_steps(marks: &[u8; MARKS], x: Job, at: usize, out: &mut [u8]) -> usize
-    requires { ⌜ IsMarks (now marks) × (x .0 < 32) × (1281 ≤ length (now out)) ⌝ }
-    ensures { λ n. ⌜ Appends 1281 (now (out .entry)) at (jobColumn (now (marks .entry)) (x .0)) (now (out .exit)) n ⌝ }
+    requires { ⌜ IsMarks (now marks) × (x .0 < mostJobs) × (planRoom ≤ length (now out)) ⌝ }
+    ensures { λ n. ⌜ Appends planRoom (now (out .entry)) at (jobColumn (now (marks .entry)) (x .0)) (now (out .exit)) n ⌝ }
 {
     let count = count_at(marks, x);
     let mut next = at;
@@ -48,8 +50,8 @@ pub fn put_steps(marks: &[u8; MARKS], x: Job, at: usize, out: &mut [u8]) -> usiz
 
 // Writes the steps of all k jobs.
 pub fn put_jobs(marks: &[u8; MARKS], k: u8, at: usize, out: &mut [u8]) -> usize
-    requires { ⌜ IsMarks (now marks) × (k ≤ 32) × (1281 ≤ length (now out)) ⌝ }
-    ensures { λ n. ⌜ Appends 1281 (now (out .entry)) at (columnsIn (now (marks .entry)) k) (now (out .exit)) n ⌝ }
+    requires { ⌜ IsMarks (now marks) × (k ≤ mostJobs) × (planRoom ≤ length (now out)) ⌝ }
+    ensures { λ n. ⌜ Appends planRoom (now (out .entry)) at (columnsIn (now (marks .entry)) k) (now (out .exit)) n ⌝ }
 {
     let mut next = at;
     let mut x: u8 = 0;
@@ -62,8 +64,8 @@ pub fn put_jobs(marks: &[u8; MARKS], k: u8, at: usize, out: &mut [u8]) -> usize
 
 // Writes a plan of k jobs at the front of the buffer: k, the guesses, the steps.
 pub fn put_plan(guesses: &[u8; STORES], marks: &[u8; MARKS], k: u8, out: &mut [u8]) -> usize
-    requires { ⌜ (length (now guesses) ≡ 256) × IsMarks (now marks) × (k ≤ 32) × (1281 ≤ length (now out)) ⌝ }
-    ensures { λ n. ⌜ Appends 1281 (now (out .entry)) 0
+    requires { ⌜ (length (now guesses) ≡ storesBytes) × IsMarks (now marks) × (k ≤ mostJobs) × (planRoom ≤ length (now out)) ⌝ }
+    ensures { λ n. ⌜ Appends planRoom (now (out .entry)) 0
         (planIn (now (guesses .entry)) (now (marks .entry)) k) (now (out .exit)) n ⌝ }
 {
     let first = write_byte(out, PLAN_ROOM, 0, k);

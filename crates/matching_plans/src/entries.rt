@@ -23,10 +23,12 @@ ghost use lib.ListN.{length};
 ghost use Rattle.taskfile.specs.Code.JudgingParts.{Shaped};
 ghost use Rattle.matching.specs.ConversionEntries.{orderToPlanAnswer, orderToPlanAfter};
 ghost use Rattle.matching_plans.specs.Code.PlanWritten.{PlanWritten};
+ghost use Rattle.machine.specs.Buffers.{planRoom};
+ghost use Rattle.timing.specs.Accepted.{mostJobs};
 
 // Writes the plan of a complete order of a table's jobs, and zeros after it up to the room of a plan.
 pub fn write_plan(t: Table, list: JobList, order: &[u8], out: &mut [u8]) -> usize
-    requires { ⌜ Shaped t × (list .count ≤ 32) × (1281 ≤ length (now out)) ⌝ }
+    requires { ⌜ Shaped t × (list .count ≤ mostJobs) × (planRoom ≤ length (now out)) ⌝ }
     ensures { λ n. ⌜ PlanWritten t list (now (order .entry)) (now (out .entry)) (now (out .exit)) n ⌝ }
 {
     let l = lend(t, list);

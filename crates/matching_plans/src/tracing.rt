@@ -1,9 +1,9 @@
 // The run of a complete order, with each step noted in its round, and each round's first store.
 use machine::POSITIONS;
-use order_states::DEPTH;
+use order_states::DEPTH_AT;
 use order_states::PROGRAM;
 use order_states::STATE;
-use order_states::STORE;
+use order_states::STORE_AT;
 use order_states::VALUES;
 use order_states::WAITS;
 use order_states::states::eight_at;
@@ -24,12 +24,14 @@ ghost use mathlib.Core.Path.{_≡_};
 ghost use Prim.Native.Nat.{_≤_, _<_};
 ghost use lib.ListN.{length};
 ghost use Rattle.notation.specs.Lists.{bytesAt};
-ghost use Rattle.plan_marks.specs.Code.Marks.{IsMarks};
+ghost use Rattle.plan_marks.specs.Code.Marks.{IsMarks, storesBytes};
 ghost use Rattle.matching_plans.specs.Code.Tracing.{noteIn, guessIn, roundIn, notedOf, AreNoted, NotedStep, NotedOrder};
+ghost use Rattle.taskfile.specs.Chains.{mostLocks};
+ghost use Rattle.timing.specs.Accepted.{mostJobs};
 
 // Notes a step of job x in round r with its value, if it has room for one more.
 pub fn note_step(marks: &mut [u8; MARKS], x: Job, r: Round, value: u8)
-    requires { ⌜ IsMarks (now marks) × (x .0 < 32) ⌝ }
+    requires { ⌜ IsMarks (now marks) × (x .0 < mostJobs) ⌝ }
     ensures { λ _. ⌜ now (marks .exit) ≡ noteIn (now (marks .entry)) (x .0) r value ⌝ }
 {
     let n = count_at(marks, x);
@@ -40,7 +42,7 @@ pub fn note_step(marks: &mut [u8; MARKS], x: Job, r: Round, value: u8)
 
 // Notes the store where the round after r begins, and answers that round. The last of 32 rounds has none after it.
 pub fn next_round(s: &[u8; STATE], r: Round, guesses: &mut [u8; STORES]) -> Round
-    requires { ⌜ (length (now guesses) ≡ 256) ⌝ }
+    requires { ⌜ (length (now guesses) ≡ storesBytes) ⌝ }
     ensures { λ q. ⌜ (q .0 ≡ roundIn (r .0))
         × (now (guesses .exit) ≡ guessIn (now (guesses .entry)) (r .0) (bytesAt (now (s .entry)) 0 8)) ⌝ }
 {
@@ -48,7 +50,7 @@ pub fn next_round(s: &[u8; STATE], r: Round, guesses: &mut [u8; STORES]) -> Roun
         return r;
     }
     let next = Round(r.0 + 1);
-    put_store(guesses, next, eight_at(s, STORE));
+    put_store(guesses, next, eight_at(s, STORE_AT));
     next
 }
 
@@ -64,7 +66,7 @@ pub fn trace_step(
     marks: &mut [u8; MARKS],
     guesses: &mut [u8; STORES],
 ) -> Round
-    requires { ⌜ (locks .count ≤ 8) × AreNoted (now s) (now marks) (now guesses) ⌝ }
+    requires { ⌜ (locks .count ≤ mostLocks) × AreNoted (now s) (now marks) (now guesses) ⌝ }
     ensures { λ q. ⌜ NotedStep (now (program .entry)) (now (waits .entry)) locks
         (notedOf (now (s .entry)) r (now (marks .entry)) (now (guesses .entry))) byte
         (now (s .exit)) (now (marks .exit)) (now (guesses .exit)) q ⌝ }
@@ -83,7 +85,7 @@ pub fn trace_step(
     let x = f.job;
     step_with(program, s, f, d.under, i, byte % VALUES);
     note_step(marks, x, r, byte % VALUES);
-    if s[DEPTH] == d.under {
+    if s[DEPTH_AT] == d.under {
         return next_round(s, r, guesses);
     }
     r
@@ -99,7 +101,7 @@ pub fn trace_order(
     marks: &mut [u8; MARKS],
     guesses: &mut [u8; STORES],
 )
-    requires { ⌜ (locks .count ≤ 8) × AreNoted start (now marks) (now guesses) ⌝ }
+    requires { ⌜ (locks .count ≤ mostLocks) × AreNoted start (now marks) (now guesses) ⌝ }
     ensures { λ _. ⌜ NotedOrder (now (program .entry)) (now (waits .entry)) locks
         (notedOf start (record { 0 = 0 }) (now (marks .entry)) (now (guesses .entry))) (now (order .entry))
         (now (marks .exit)) (now (guesses .exit)) ⌝ }

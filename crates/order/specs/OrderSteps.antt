@@ -1,7 +1,7 @@
 -- The steps that an order's bytes make. Document 01, "Orders of steps": "An order byte is 16 × task + value .. each
 -- byte is a step from the state that the last one left."
 -- Assumes nothing.
-use Prim.Native.Nat.{ℕ, _/_, _%_}
+use Prim.Native.Nat.{ℕ}
 use mathlib.Core.Bool.{Bool}
 use mathlib.Core.List.{List, [], _∷_}
 use mathlib.Core.Option.{none, some}
@@ -11,6 +11,7 @@ use Rattle.notation.specs.Lists.{only}
 use Rattle.timing.specs.declared.Job.{Job}
 use Rattle.timing.specs.Accepted.{Accepted}
 use Rattle.timing.specs.Relations.{jobNumbers}
+use Rattle.order.specs.OrderBytes.{taskOfByte, valueOfByte}
 use Rattle.order.specs.Orders.{turnOf, performed}
 use Rattle.order.specs.States.{State, initial, hasEnded}
 
@@ -25,11 +26,11 @@ pub record OrderStep : Type 0 where
 unfoldable pub stepsFrom : Accepted → State → List ℕ → List OrderStep
 stepsFrom a s [] = []
 stepsFrom a s (byte ∷ bytes) =
-    elim (turnOf a s (byte / 16)) [
+    elim (turnOf a s (taskOfByte byte)) [
       | none ↦ []
       | some turn ↦
-          let next = performed a s (byte % 16) turn in
-          record { job = turn .frame .job; value = byte % 16; before = s; after = next } ∷ stepsFrom a next bytes
+          let next = performed a s (valueOfByte byte) turn in
+          record { job = turn .frame .job; value = valueOfByte byte; before = s; after = next } ∷ stepsFrom a next bytes
     ]
 
 -- an order's steps

@@ -4,7 +4,7 @@
 -- jobs have ended after the last, at most 512 steps."
 -- Assumes nothing.
 use mathlib.Core.Path.{_≡_}
-use Prim.Native.Nat.{ℕ, _/_, _%_, _≤_}
+use Prim.Native.Nat.{ℕ, _≤_}
 use mathlib.Core.Bool.{Bool, true, _&&_}
 use mathlib.Core.List.{List, [], _∷_}
 use mathlib.Core.Option.{Option, none, some, Option·map, bind}
@@ -17,9 +17,9 @@ use Rattle.timing.specs.declared.Job.{Job}
 use Rattle.timing.specs.Accepted.{Accepted}
 use Rattle.timing.specs.Relations.{base, jobAt, jobNumbers}
 use Rattle.machine.specs.Ends.{End, flagged}
-use Rattle.machine.specs.Buffers.{orderRoom}
 use Rattle.machine.specs.declared.Effect.{Effect}
 use Rattle.machine.specs.Instructions.{fresh, values, perform}
+use Rattle.order.specs.OrderBytes.{taskOfByte, valueOfByte}
 use Rattle.order.specs.declared.Frame.{Frame}
 use Rattle.order.specs.States.{State, initial, allEnded, mayStart}
 
@@ -69,7 +69,7 @@ stepWith a s v turn = if isOffered a turn v then some (performed a s v turn) els
 
 -- "An order byte is 16 × task + value": the state after that byte, if it is an allowed step
 unfoldable pub step : Accepted → State → ℕ → Option State
-step a s byte = bind (turnOf a s (byte / 16)) (stepWith a s (byte % 16))
+step a s byte = bind (turnOf a s (taskOfByte byte)) (stepWith a s (valueOfByte byte))
 
 -- the state that an order's bytes lead to, if each is an allowed step
 unfoldable pub run : Accepted → State → List ℕ → Option State
@@ -80,11 +80,15 @@ run a s (byte ∷ bytes) = bind (step a s byte) (λ next. run a next bytes)
 unfoldable pub orderEnd : State → End
 orderEnd s = record { store = s .store; failed = s .failed }
 
+-- "at most 512 steps"
+abbrev pub mostSteps : ℕ
+mostSteps = 512
+
 -- "It is complete if .."
 pub record Complete (a : Accepted) (order : List ℕ) (s : State) : Type 0 where
   pub allowed : run a (initial a) order ≡ some s
   pub finished : allEnded a s ≡ true
-  pub short : length order ≤ orderRoom
+  pub short : length order ≤ mostSteps
 
 -- a complete order, and how it ends: "It ends with the store left and the failed jobs, those with a failed assertion
 -- noted."

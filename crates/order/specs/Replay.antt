@@ -1,7 +1,7 @@
 -- The replay of an order, numbers 30 to 34, and its entry's answer for every input. Document 01, "Numbers by who causes
 -- them": "A replay checks 32, 30 at each byte, 31 at the end." Document 02, E1, sets 33 and 34 beside 30.
 -- Assumes nothing.
-use Prim.Native.Nat.{ℕ, suc, _/_, _%_}
+use Prim.Native.Nat.{ℕ, suc}
 use mathlib.Core.Bool.{Bool, not}
 use mathlib.Core.List.{List, [], _∷_}
 use lib.ListN.{length}
@@ -13,6 +13,7 @@ use Rattle.timing.specs.Accepted.{Accepted, accept}
 use Rattle.machine.specs.declared.RunAnswer.{RunAnswer}
 use Rattle.machine.specs.Ends.{End}
 use Rattle.machine.specs.Buffers.{runAnswer, unwritten}
+use Rattle.order.specs.OrderBytes.{taskOfByte, valueOfByte}
 use Rattle.order.specs.States.{State, initial, allEnded}
 use Rattle.order.specs.Orders.{turnOf, isOffered, performed, orderEnd}
 
@@ -24,10 +25,10 @@ isTask a i = ltb i (length (tasksOf (a .table)))
 -- for a value, all at the step's index and after 32." It passes where the byte is a step of `Orders` (`SlipLaws`).
 unfoldable pub stepAt : Accepted → State → ℕ → ℕ → Checked ℕ State
 stepAt a s index byte = do
-  require (isTask a (byte / 16)) 33 index
-  turn ← given (turnOf a s (byte / 16)) 30 index
-  require (isOffered a turn (byte % 16)) 34 index
-  passed (performed a s (byte % 16) turn)
+  require (isTask a (taskOfByte byte)) 33 index
+  turn ← given (turnOf a s (taskOfByte byte)) 30 index
+  require (isOffered a turn (valueOfByte byte)) 34 index
+  passed (performed a s (valueOfByte byte) turn)
 
 -- the bytes from `index` on. "32 EXTRA: bytes remain after all jobs ended." "31 SHORT: bytes end with jobs unfinished;
 -- place is the length."

@@ -4,7 +4,7 @@
 -- Assumes nothing.
 use mathlib.Core.Path.{_≡_}
 use mathlib.Core.Logic.{_↔_}
-use Prim.Native.Nat.{ℕ, _/_, _<_}
+use Prim.Native.Nat.{ℕ, _<_}
 use mathlib.Core.Bool.{true, false}
 use mathlib.Core.List.{List, [], _∷_}
 use mathlib.Core.Option.{none, some}
@@ -12,6 +12,7 @@ use lib.ListN.{length, getD, take}
 use Rattle.notation.specs.Checked.{refused}
 use Rattle.notation.specs.Lists.{if_then_else_, member}
 use Rattle.timing.specs.Accepted.{Accepted}
+use Rattle.order.specs.OrderBytes.{taskOfByte}
 use Rattle.order.specs.Orders.{turnOf, step, run}
 use Rattle.order.specs.Replay.{isTask, replay}
 use Rattle.order.specs.States.{State, initial, allEnded}
@@ -20,8 +21,8 @@ use Rattle.order.specs.States.{State, initial, allEnded}
 -- 34 for a value"
 unfoldable pub slipOf : Accepted → State → ℕ → ℕ
 slipOf a s byte =
-    if isTask a (byte / 16)
-    then elim (turnOf a s (byte / 16)) [ none ↦ 30 | some turn ↦ 34 ]
+    if isTask a (taskOfByte byte)
+    then elim (turnOf a s (taskOfByte byte)) [ none ↦ 30 | some turn ↦ 34 ]
     else 33
 
 -- the three numbers

@@ -19,6 +19,7 @@ ghost use mathlib.Core.Path.{_≡_};
 ghost use Prim.Native.Nat.{_≤_};
 ghost use Rattle.taskfile.specs.Code.JudgingParts.{Shaped};
 ghost use Rattle.order_lending.specs.Code.Lending.{LentOf, TimesOf, locksOf};
+ghost use Rattle.timing.specs.Accepted.{mostJobs};
 
 // What is lent to steps: the program, the wait table, the ceilings, and the state that an order starts from.
 pub struct Lent {
@@ -48,7 +49,7 @@ pub fn locks_of(t: Table) -> Ceilings
 
 // What is lent of a table and its jobs to the runs of a plan.
 pub fn lend_times(t: Table, list: JobList) -> LentTimes
-    requires { ⌜ Shaped t × (list .count ≤ 32) ⌝ }
+    requires { ⌜ Shaped t × (list .count ≤ mostJobs) ⌝ }
     ensures { λ r. ⌜ TimesOf t list r ⌝ }
 {
     let program = program_of(t, list);
@@ -63,7 +64,7 @@ pub fn lend_times(t: Table, list: JobList) -> LentTimes
 
 // What is lent of a table and its jobs to steps.
 pub fn lend(t: Table, list: JobList) -> Lent
-    requires { ⌜ Shaped t × (list .count ≤ 32) ⌝ }
+    requires { ⌜ Shaped t × (list .count ≤ mostJobs) ⌝ }
     ensures { λ r. ⌜ LentOf t list r ⌝ }
 {
     let program = program_of(t, list);

@@ -1,5 +1,5 @@
 // The wait table of an accepted table's jobs.
-use order_states::OWNERS;
+use order_states::OWNERS_AT;
 use order_states::PROGRAM;
 use order_states::TIMES;
 use order_states::WAITS;
@@ -12,10 +12,13 @@ ghost use Prim.Native.Nat.{ℕ, _≤_, _<_};
 ghost use lib.ListN.{length};
 ghost use Rattle.order_states.specs.Code.Lent.{precedes, RowFilled, WaitsTo};
 ghost use Rattle.order_states.specs.Code.SnapshotSteps.{waitIn};
+ghost use Rattle.timing.specs.Accepted.{mostJobs};
+ghost use Rattle.taskfile.specs.Chains.{mostTasks};
+ghost use Rattle.order_states.specs.Code.Sizes.{waitBytes};
 
 // Is x another job than y, and does it come before y?
 pub fn goes_first(program: &[u8; PROGRAM], times: &[u64; TIMES], x: Job, y: Job) -> bool
-    requires { ⌜ (x .0 < 32) × (y .0 < 32) ⌝ }
+    requires { ⌜ (x .0 < mostJobs) × (y .0 < mostJobs) ⌝ }
     ensures { λ b. ⌜ b ≡ precedes (now (program .entry)) (now (times .entry)) (x .0) (y .0) ⌝ }
 {
     if x.0 == y.0 {
@@ -32,14 +35,14 @@ pub fn fill_row(
     y: Job,
     waits: &mut [u8; WAITS],
 )
-    requires { ⌜ (count ≤ 32) × (y .0 < 32) × (length (now waits) ≡ 256)
-        × ((k : ℕ) → k < 8 → waitIn (now waits) (y .0) k ≡ 0) ⌝ }
+    requires { ⌜ (count ≤ mostJobs) × (y .0 < mostJobs) × (length (now waits) ≡ waitBytes)
+        × ((k : ℕ) → k < mostTasks → waitIn (now waits) (y .0) k ≡ 0) ⌝ }
     ensures { λ _. ⌜ RowFilled (now (program .entry)) (now (times .entry)) (y .0) count
         (now (waits .entry)) (now (waits .exit)) ⌝ }
 {
     let mut x: u8 = 0;
     while x < count {
-        let k = program[OWNERS + (x as usize)];
+        let k = program[OWNERS_AT + (x as usize)];
         if k < MOST_TASKS {
             if goes_first(program, times, Job(x), y) {
                 waits[TASKS * (y.0 as usize) + (k as usize)] = x + 1;
@@ -51,7 +54,7 @@ pub fn fill_row(
 
 // The wait table of the first `count` jobs.
 pub fn waits_of(program: &[u8; PROGRAM], times: &[u64; TIMES], count: u8) -> [u8; WAITS]
-    requires { ⌜ count ≤ 32 ⌝ }
+    requires { ⌜ count ≤ mostJobs ⌝ }
     ensures { λ r. ⌜ WaitsTo (now (program .entry)) (now (times .entry)) count count r ⌝ }
 {
     let mut waits = [0u8; WAITS];

@@ -1,9 +1,9 @@
 // How a run stands at a state: whether all jobs have ended, and which have failed.
-use order_states::DEPTH;
-use order_states::FAILED;
+use order_states::DEPTH_AT;
+use order_states::FAILED_AT;
 use order_states::PROGRAM;
 use order_states::STATE;
-use order_states::UNENDED;
+use order_states::UNENDED_AT;
 use order_turns::programs::owned_by;
 use taskfile::Task;
 use taskfile::limits::JOBS;
@@ -21,7 +21,7 @@ pub fn some_unended(program: &[u8; PROGRAM], s: &[u8; STATE]) -> bool
 {
     let mut k: u8 = 0;
     while k < MOST_TASKS {
-        let x = Job(s[UNENDED + (k as usize)]);
+        let x = Job(s[UNENDED_AT + (k as usize)]);
         if owned_by(program, Task(k), x) {
             return true;
         }
@@ -34,7 +34,7 @@ pub fn some_unended(program: &[u8; PROGRAM], s: &[u8; STATE]) -> bool
 pub fn finished(program: &[u8; PROGRAM], s: &[u8; STATE]) -> bool
     ensures { λ b. ⌜ b ≡ finishedIn (now (program .entry)) (snapshotIn (now (s .entry))) ⌝ }
 {
-    if s[DEPTH] != 0 {
+    if s[DEPTH_AT] != 0 {
         return false;
     }
     !some_unended(program, s)
@@ -47,7 +47,7 @@ pub fn failed_in(s: &[u8; STATE]) -> [bool; JOBS]
     let mut failed = [false; JOBS];
     let mut x: usize = 0;
     while x < JOBS {
-        failed[x] = s[FAILED + x] != 0;
+        failed[x] = s[FAILED_AT + x] != 0;
         x += 1;
     }
     failed
@@ -59,7 +59,7 @@ pub fn some_failed(s: &[u8; STATE]) -> bool
 {
     let mut k: usize = 0;
     while k < JOBS {
-        if s[FAILED + k] != 0 {
+        if s[FAILED_AT + k] != 0 {
             return true;
         }
         k += 1;

@@ -14,10 +14,11 @@ ghost use Prim.Native.Nat.{_≤_};
 ghost use Rattle.taskfile.specs.Code.JudgingParts.{Shaped};
 ghost use Rattle.order.specs.Replay.{replayAnswer};
 ghost use Rattle.order_states.specs.Code.ReplayParts.{ReplayOf};
+ghost use Rattle.timing.specs.Accepted.{mostJobs};
 
 // The replay of an order of a table's jobs.
 pub fn replay_table(t: Table, list: JobList, order: &[u8]) -> Replayed
-    requires { ⌜ Shaped t × (list .count ≤ 32) ⌝ }
+    requires { ⌜ Shaped t × (list .count ≤ mostJobs) ⌝ }
     ensures { λ r. ⌜ ReplayOf t list (now (order .entry)) r ⌝ }
 {
     let l = lend(t, list);

@@ -4,7 +4,7 @@ use crate::ends::finished;
 use order_states::PROGRAM;
 use order_states::Replayed;
 use order_states::STATE;
-use order_states::STORE;
+use order_states::STORE_AT;
 use order_states::VALUES;
 use order_states::WAITS;
 use order_states::states::eight_at;
@@ -22,12 +22,13 @@ ghost use Prim.Native.Nat.{_≤_};
 ghost use Rattle.order_states.specs.Code.ReplayParts.{replayEndAt, replayedOf};
 ghost use Rattle.order_states.specs.Code.SnapshotSteps.{slipIn, replayIn};
 ghost use Rattle.order_states.specs.Code.StateBytes.{snapshotIn, IsState};
+ghost use Rattle.taskfile.specs.Chains.{mostLocks};
 
 // What a replay comes to at a state.
 fn outcome(number: u8, index: usize, s: &[u8; STATE]) -> Replayed
     ensures { λ r. ⌜ r ≡ replayedOf (replayEndAt number index (snapshotIn (now (s .entry)))) ⌝ }
 {
-    let store = eight_at(s, STORE);
+    let store = eight_at(s, STORE_AT);
     let failed = failed_in(s);
     Replayed {
         number: number,
@@ -47,7 +48,7 @@ fn slip(
     s: &[u8; STATE],
     byte: u8,
 ) -> u8
-    requires { ⌜ (locks .count ≤ 8) × IsState (now s) ⌝ }
+    requires { ⌜ (locks .count ≤ mostLocks) × IsState (now s) ⌝ }
     ensures { λ n. ⌜ n ≡ slipIn (now (program .entry)) (now (waits .entry)) locks tasks
         (snapshotIn (now (s .entry))) byte ⌝ }
 {
@@ -71,7 +72,7 @@ pub fn replay_from(
     start: [u8; STATE],
     order: &[u8],
 ) -> Replayed
-    requires { ⌜ (locks .count ≤ 8) × IsState start ⌝ }
+    requires { ⌜ (locks .count ≤ mostLocks) × IsState start ⌝ }
     ensures { λ r. ⌜ r ≡ replayedOf (replayIn (now (program .entry)) (now (waits .entry)) locks tasks
         (snapshotIn start) 0 (now (order .entry))) ⌝ }
 {

@@ -27,51 +27,51 @@ pub const LAST_VALUE: u8 = VALUES - 1;
 // ---- A state in bytes.
 
 // Where the store stands.
-pub const STORE: usize = 0;
+pub const STORE_AT: usize = 0;
 
 // Where the first job not yet ended of each task stands.
-pub const UNENDED: usize = STORE + VARIABLES;
+pub const UNENDED_AT: usize = STORE_AT + VARIABLES;
 
 // Where the flag of each job stands, 1 if it has failed.
-pub const FAILED: usize = UNENDED + TASKS;
+pub const FAILED_AT: usize = UNENDED_AT + TASKS;
 
 // Where the number of active jobs stands.
-pub const DEPTH: usize = FAILED + JOBS;
+pub const DEPTH_AT: usize = FAILED_AT + JOBS;
 
 // Where the active jobs stand, in the order in which they started.
-pub const STACK: usize = 64;
+pub const STACK_AT: usize = 64;
 
 // Bytes of an active job.
-pub const FRAME: usize = 16;
+pub const FRAME_BYTES: usize = 16;
 
 // Where the held locks stand among them.
-pub const HELD: usize = 8;
+pub const HELD_AT: usize = 8;
 
 // Bytes of a state.
-pub const STATE: usize = STACK + FRAME * TASKS;
+pub const STATE: usize = STACK_AT + FRAME_BYTES * TASKS;
 
 // ---- A table in the arrays that are lent to the steps.
 
 // Bytes of an instruction.
-pub const INSTRUCTION: usize = 4;
+pub const INSTRUCTION_BYTES: usize = 4;
 
 // Bytes of a task's body.
-pub const BODY: usize = INSTRUCTION * INSTRUCTIONS;
+pub const BODY_BYTES: usize = INSTRUCTION_BYTES * INSTRUCTIONS;
 
 // Where the task of each job stands in a program.
-pub const OWNERS: usize = BODY * TASKS;
+pub const OWNERS_AT: usize = BODY_BYTES * TASKS;
 
 // Bytes of a program.
-pub const PROGRAM: usize = OWNERS + JOBS;
+pub const PROGRAM: usize = OWNERS_AT + JOBS;
 
 // Bytes of a wait table: one for each job and task.
 pub const WAITS: usize = JOBS * TASKS;
 
 // Where the latest finish of each job stands among the times, after the arrivals.
-pub const LATEST: usize = JOBS;
+pub const LATEST_AT: usize = JOBS;
 
 // How many times there are.
-pub const TIMES: usize = LATEST + JOBS;
+pub const TIMES: usize = LATEST_AT + JOBS;
 
 // ---- What stands for nothing.
 

@@ -1,7 +1,7 @@
 // The bytes of a state, read and written.
-use crate::FRAME;
-use crate::HELD;
-use crate::STACK;
+use crate::FRAME_BYTES;
+use crate::HELD_AT;
+use crate::STACK_AT;
 use crate::STATE;
 use machine::Local;
 use order::Frame;
@@ -11,6 +11,8 @@ ghost use Prim.Native.Nat.{_+_, _*_, _≤_, _<_};
 ghost use lib.ListN.{length};
 ghost use Rattle.order_states.specs.Code.StateBytes.{frameIn, Replaced, FrameReplaced};
 ghost use Rattle.notation.specs.Lists.{bytesAt};
+ghost use Rattle.order_states.specs.Code.Sizes.{stateBytes};
+ghost use Rattle.taskfile.specs.Chains.{mostTasks};
 
 // Eight bytes of a state.
 pub fn eight_at(s: &[u8; STATE], at: usize) -> [u8; 8]
@@ -38,13 +40,13 @@ pub fn number_of(low: u8, high: u8) -> u16
 
 // The active job at position k: its number, a byte that is not used, its next position, its registers, its held locks.
 pub fn frame_at(s: &[u8; STATE], k: u8) -> Frame
-    requires { ⌜ k < 8 ⌝ }
+    requires { ⌜ k < mostTasks ⌝ }
     ensures { λ f. ⌜ f ≡ frameIn (now (s .entry)) k ⌝ }
 {
-    let at = STACK + FRAME * (k as usize);
+    let at = STACK_AT + FRAME_BYTES * (k as usize);
     let next = number_of(s[at + 2], s[at + 3]);
     let registers = [s[at + 4], s[at + 5], s[at + 6], s[at + 7]];
-    let held = eight_at(s, at + HELD);
+    let held = eight_at(s, at + HELD_AT);
     Frame {
         job: Job(s[at]),
         local: Local {
@@ -57,7 +59,7 @@ pub fn frame_at(s: &[u8; STATE], k: u8) -> Frame
 
 // Replaces eight bytes of a state.
 pub fn put_eight(s: &mut [u8; STATE], at: usize, new: [u8; 8])
-    requires { ⌜ (length (now s) ≡ 192) × (at ≤ 184) ⌝ }
+    requires { ⌜ (length (now s) ≡ stateBytes) × (at ≤ 184) ⌝ }
     ensures { λ _. ⌜ Replaced (now (s .entry)) (now (s .exit)) at new ⌝ }
 {
     let mut k: usize = 0;
@@ -69,10 +71,10 @@ pub fn put_eight(s: &mut [u8; STATE], at: usize, new: [u8; 8])
 
 // Makes job x, with this state of its own, the active job at position k.
 pub fn put_frame(s: &mut [u8; STATE], k: u8, x: Job, local: Local)
-    requires { ⌜ (length (now s) ≡ 192) × (k < 8) ⌝ }
+    requires { ⌜ (length (now s) ≡ stateBytes) × (k < mostTasks) ⌝ }
     ensures { λ _. ⌜ FrameReplaced (now (s .entry)) (now (s .exit)) k (record { job = x; local = local }) ⌝ }
 {
-    let at = STACK + FRAME * (k as usize);
+    let at = STACK_AT + FRAME_BYTES * (k as usize);
     let registers = local.registers;
     let held = local.held;
     let own = [
@@ -86,5 +88,5 @@ pub fn put_frame(s: &mut [u8; STATE], k: u8, x: Job, local: Local)
         registers[3],
     ];
     put_eight(s, at, own);
-    put_eight(s, at + HELD, held);
+    put_eight(s, at + HELD_AT, held);
 }

@@ -4,13 +4,13 @@ use machine_performing::ends;
 use machine_performing::parts::next_in;
 use machine_performing::perform_in;
 use order::Frame;
-use order_states::DEPTH;
-use order_states::FAILED;
-use order_states::FRAME;
+use order_states::DEPTH_AT;
+use order_states::FAILED_AT;
+use order_states::FRAME_BYTES;
 use order_states::PROGRAM;
-use order_states::STACK;
+use order_states::STACK_AT;
 use order_states::STATE;
-use order_states::UNENDED;
+use order_states::UNENDED_AT;
 use order_states::VALUES;
 use order_states::WAITS;
 use order_states::states::put_frame;
@@ -29,34 +29,37 @@ ghost use Rattle.order_states.specs.Code.SnapshotSteps.{stepIn, madeIn};
 ghost use Rattle.order_states.specs.Code.StateBytes.{frameIn, snapshotIn, IsState, FrameReplaced};
 ghost use Rattle.order_steps.specs.Code.Moving.{Steppable, moverIn, Movable, movedIn};
 ghost use Rattle.order_steps.specs.Code.Noted.{Noted};
+ghost use Rattle.taskfile.specs.Chains.{mostInstructions, mostLocks, mostTasks};
+ghost use Rattle.timing.specs.Accepted.{mostJobs};
+ghost use Rattle.order_states.specs.Code.Sizes.{stateBytes};
 
 // Notes what came of a step of job x of task i, with so many active jobs under it: a failed assertion, and whether the
 // job has ended or is active on.
 pub fn note(s: &mut [u8; STATE], x: Job, under: u8, i: Task, failed: bool, ended: bool)
-    requires { ⌜ (length (now s) ≡ 192) × (x .0 < 32) × (under < 8) × (i .0 < 8) ⌝ }
+    requires { ⌜ (length (now s) ≡ stateBytes) × (x .0 < mostJobs) × (under < mostTasks) × (i .0 < mostTasks) ⌝ }
     ensures { λ _. ⌜ Noted (now (s .entry)) (now (s .exit)) (x .0) under (i .0) failed ended ⌝ }
 {
     if failed {
-        s[FAILED + (x.0 as usize)] = 1;
+        s[FAILED_AT + (x.0 as usize)] = 1;
     }
     if ended {
-        s[UNENDED + (i.0 as usize)] = x.0 + 1;
-        s[DEPTH] = under;
+        s[UNENDED_AT + (i.0 as usize)] = x.0 + 1;
+        s[DEPTH_AT] = under;
         return;
     }
-    s[DEPTH] = under + 1;
+    s[DEPTH_AT] = under + 1;
 }
 
 // Makes the step of the active job at position `under`, of task i, with the value v: it performs its instruction, and
 // what came of that is noted. It is the step of every state that is this one but for the job placed there.
 pub fn step_placed(program: &[u8; PROGRAM], s: &mut [u8; STATE], under: u8, i: Task, v: u8)
-    requires bounds { ⌜ (length (now s) ≡ 192) × (under < 8) × (i .0 < 8) ⌝ }
+    requires bounds { ⌜ (length (now s) ≡ stateBytes) × (under < mostTasks) × (i .0 < mostTasks) ⌝ }
     requires placed { ⌜ Steppable (frameIn (now s) under) ⌝ }
     ensures { λ _. ⌜ ((before : List ℕ) (f : Frame) → IsState before → FrameReplaced before (now (s .entry)) under f
         → (snapshotIn (now (s .exit)) ≡ madeIn (now (program .entry)) (snapshotIn before) f under (i .0) v)
         × IsState (now (s .exit))) ⌝ }
 {
-    let x = Job(s[STACK + FRAME * (under as usize)]);
+    let x = Job(s[STACK_AT + FRAME_BYTES * (under as usize)]);
     let instruction = instruction_at(program, i, next_in(s, under));
     let failed = perform_in(s, under, instruction, v);
     note(s, x, under, i, failed, ends(instruction));
@@ -64,7 +67,7 @@ pub fn step_placed(program: &[u8; PROGRAM], s: &mut [u8; STATE], under: u8, i: T
 
 // Makes the step of the job in the frame, of task i, with the value v: it is placed, and steps there.
 pub fn step_with(program: &[u8; PROGRAM], s: &mut [u8; STATE], f: Frame, under: u8, i: Task, v: u8)
-    requires bounds { ⌜ (f .job .0 < 32) × (f .local .next < 16) × (under < 8) × (i .0 < 8) ⌝ }
+    requires bounds { ⌜ (f .job .0 < mostJobs) × (f .local .next < mostInstructions) × (under < mostTasks) × (i .0 < mostTasks) ⌝ }
     requires states { ⌜ IsState (now s) × LocksWithin (f .local) ⌝ }
     ensures made { λ _. ⌜ snapshotIn (now (s .exit))
         ≡ madeIn (now (program .entry)) (snapshotIn (now (s .entry))) f under (i .0) v ⌝ }
@@ -78,17 +81,17 @@ pub fn step_with(program: &[u8; PROGRAM], s: &mut [u8; STATE], f: Frame, under: 
 // Places the job whose turn task i's is, if it starts, and says its position. The running job, if `top` is that task,
 // stands there already.
 pub fn place(s: &mut [u8; STATE], top: u8, i: Task) -> u8
-    requires { ⌜ IsState (now s) × (i .0 < 8) × (i .0 ≡ top → 1 ≤ snapshotIn (now s) .depth)
-        × (moverIn (snapshotIn (now s)) top (i .0) .under < 8) ⌝ }
+    requires { ⌜ IsState (now s) × (i .0 < mostTasks) × (i .0 ≡ top → 1 ≤ snapshotIn (now s) .depth)
+        × (moverIn (snapshotIn (now s)) top (i .0) .under < mostTasks) ⌝ }
     ensures { λ k. ⌜ (k ≡ moverIn (snapshotIn (now (s .entry))) top (i .0) .under)
         × FrameReplaced (now (s .entry)) (now (s .exit)) k
         (moverIn (snapshotIn (now (s .entry))) top (i .0) .frame) ⌝ }
 {
-    let depth = s[DEPTH];
+    let depth = s[DEPTH_AT];
     if i.0 == top {
         return depth - 1;
     }
-    let y = Job(s[UNENDED + (i.0 as usize)]);
+    let y = Job(s[UNENDED_AT + (i.0 as usize)]);
     put_frame(s, depth, y, fresh_local());
     depth
 }
@@ -114,7 +117,7 @@ pub fn step(
     s: &mut [u8; STATE],
     byte: u8,
 ) -> bool
-    requires { ⌜ (locks .count ≤ 8) × IsState (now s) ⌝ }
+    requires { ⌜ (locks .count ≤ mostLocks) × IsState (now s) ⌝ }
     ensures allowed { λ b. ⌜ b ≡ stepIn (now (program .entry)) (now (waits .entry)) locks
         (snapshotIn (now (s .entry))) byte .allowed ⌝ }
     ensures made { λ _. ⌜ snapshotIn (now (s .exit))

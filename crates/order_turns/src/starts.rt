@@ -4,11 +4,11 @@ use crate::precedence::must_wait;
 use crate::programs::owned_by;
 use machine_locals::registers::fresh_local;
 use order::Frame;
-use order_states::DEPTH;
+use order_states::DEPTH_AT;
 use order_states::Due;
 use order_states::PROGRAM;
 use order_states::STATE;
-use order_states::UNENDED;
+use order_states::UNENDED_AT;
 use order_states::WAITS;
 use taskfile::Ceilings;
 use taskfile::Task;
@@ -18,6 +18,7 @@ ghost use mathlib.Core.Path.{_≡_};
 ghost use Prim.Native.Nat.{_≤_, _<_};
 ghost use Rattle.order_states.specs.Code.SnapshotSteps.{nobody, startsAbove, startTurn, startIn};
 ghost use Rattle.order_states.specs.Code.StateBytes.{snapshotIn, IsState};
+ghost use Rattle.taskfile.specs.Chains.{mostLocks, mostTasks};
 
 // May task i's first job not yet ended start, if its base is not below the level `low`?
 pub fn may_start(
@@ -37,10 +38,10 @@ pub fn may_start(
     if i.0 < low {
         return false;
     }
-    if MOST_TASKS <= s[DEPTH] {
+    if MOST_TASKS <= s[DEPTH_AT] {
         return false;
     }
-    let y = Job(s[UNENDED + (i.0 as usize)]);
+    let y = Job(s[UNENDED_AT + (i.0 as usize)]);
     if !owned_by(program, i, y) {
         return false;
     }
@@ -63,17 +64,17 @@ pub fn no_turn() -> Due
 
 // The turn of task i's first job not yet ended, which starts.
 pub fn start_turn(s: &[u8; STATE], i: Task) -> Due
-    requires { ⌜ i .0 < 8 ⌝ }
+    requires { ⌜ i .0 < mostTasks ⌝ }
     ensures { λ d. ⌜ d ≡ startTurn (snapshotIn (now (s .entry))) (i .0) ⌝ }
 {
-    let y = Job(s[UNENDED + (i.0 as usize)]);
+    let y = Job(s[UNENDED_AT + (i.0 as usize)]);
     Due {
         due: true,
         frame: Frame {
             job: y,
             local: fresh_local(),
         },
-        under: s[DEPTH],
+        under: s[DEPTH_AT],
     }
 }
 
@@ -85,7 +86,7 @@ pub fn start_of(
     s: &[u8; STATE],
     i: Task,
 ) -> Due
-    requires { ⌜ (locks .count ≤ 8) × IsState (now s) ⌝ }
+    requires { ⌜ (locks .count ≤ mostLocks) × IsState (now s) ⌝ }
     ensures { λ d. ⌜ d ≡ startIn (now (program .entry)) (now (waits .entry)) locks
         (snapshotIn (now (s .entry))) (i .0) ⌝ }
 {

@@ -5,11 +5,11 @@ use crate::starts::start_of;
 use machine::POSITIONS;
 use machine_locals::values::on_offer;
 use order::Frame;
-use order_states::DEPTH;
+use order_states::DEPTH_AT;
 use order_states::Due;
-use order_states::FRAME;
+use order_states::FRAME_BYTES;
 use order_states::PROGRAM;
-use order_states::STACK;
+use order_states::STACK_AT;
 use order_states::STATE;
 use order_states::WAITS;
 use order_states::states::frame_at;
@@ -22,6 +22,8 @@ ghost use Prim.Native.Nat.{_≤_, _<_};
 ghost use mathlib.Core.Bool.{true};
 ghost use Rattle.order_states.specs.Code.SnapshotSteps.{topTurn, turnIn, runsIn, offeredIn};
 ghost use Rattle.order_states.specs.Code.StateBytes.{snapshotIn, IsState};
+ghost use Rattle.taskfile.specs.Chains.{mostLocks, mostTasks};
+ghost use Rattle.timing.specs.Accepted.{mostJobs};
 
 // Is the active job started last one of task i? Tasks are below 8, so that no other number is taken for an index.
 pub fn runs(program: &[u8; PROGRAM], s: &[u8; STATE], i: Task) -> bool
@@ -31,12 +33,12 @@ pub fn runs(program: &[u8; PROGRAM], s: &[u8; STATE], i: Task) -> bool
     if MOST_TASKS <= i.0 {
         return false;
     }
-    let depth = s[DEPTH];
+    let depth = s[DEPTH_AT];
     if depth == 0 {
         return false;
     }
     let top = (depth - 1) as usize;
-    owned_by(program, i, Job(s[STACK + FRAME * top]))
+    owned_by(program, i, Job(s[STACK_AT + FRAME_BYTES * top]))
 }
 
 // The turn of the active job started last.
@@ -44,7 +46,7 @@ pub fn top_turn(s: &[u8; STATE]) -> Due
     requires { ⌜ IsState (now s) × (1 ≤ snapshotIn (now s) .depth) ⌝ }
     ensures { λ d. ⌜ d ≡ topTurn (snapshotIn (now (s .entry))) ⌝ }
 {
-    let top = s[DEPTH] - 1;
+    let top = s[DEPTH_AT] - 1;
     Due {
         due: true,
         frame: frame_at(s, top),
@@ -60,10 +62,10 @@ pub fn turn_of(
     s: &[u8; STATE],
     i: Task,
 ) -> Due
-    requires { ⌜ (locks .count ≤ 8) × IsState (now s) ⌝ }
+    requires { ⌜ (locks .count ≤ mostLocks) × IsState (now s) ⌝ }
     ensures turn { λ d. ⌜ d ≡ turnIn (now (program .entry)) (now (waits .entry)) locks
         (snapshotIn (now (s .entry))) (i .0) ⌝ }
-    ensures bounds { λ d. ⌜ (d .due ≡ true → (d .under < 8) × (d .frame .job .0 < 32)) ⌝ }
+    ensures bounds { λ d. ⌜ (d .due ≡ true → (d .under < mostTasks) × (d .frame .job .0 < mostJobs)) ⌝ }
 {
     if runs(program, s, i) {
         return top_turn(s);
@@ -73,7 +75,7 @@ pub fn turn_of(
 
 // May the job in the frame, of task i, take a step with the value v?
 pub fn offered(program: &[u8; PROGRAM], f: Frame, i: Task, v: u8) -> bool
-    requires { ⌜ i .0 < 8 ⌝ }
+    requires { ⌜ i .0 < mostTasks ⌝ }
     ensures { λ b. ⌜ b ≡ offeredIn (now (program .entry)) f (i .0) v ⌝ }
 {
     let local = f.local;

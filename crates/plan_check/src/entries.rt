@@ -16,10 +16,11 @@ ghost use Prim.Native.Nat.{_≤_};
 ghost use Rattle.taskfile.specs.Code.JudgingParts.{Shaped};
 ghost use Rattle.plan.specs.Plans.{planAnswer};
 ghost use Rattle.plan_marks.specs.Code.TableParts.{PlanCheckedOf};
+ghost use Rattle.timing.specs.Accepted.{mostJobs};
 
 // The check of a plan of a table's jobs: its fault, or its end and the marks of its steps.
 pub fn check_table(t: Table, list: JobList, plan: &[u8]) -> PlanChecked
-    requires { ⌜ Shaped t × (list .count ≤ 32) ⌝ }
+    requires { ⌜ Shaped t × (list .count ≤ mostJobs) ⌝ }
     ensures { λ r. ⌜ PlanCheckedOf t list (now (plan .entry)) r ⌝ }
 {
     let l = lend_times(t, list);

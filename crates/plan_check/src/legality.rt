@@ -20,10 +20,11 @@ ghost use Rattle.notation.specs.Lists.{lastOr};
 ghost use Rattle.plan.specs.Runs.{guess};
 ghost use Rattle.plan_marks.specs.Code.Marks.{faultOf, storesIn, IsMarks};
 ghost use Rattle.plan_marks.specs.Code.PairParts.{dueStoreIn, guessFaultIn, legalityIn};
+ghost use Rattle.timing.specs.Accepted.{mostJobs};
 
 // The guess of round r.
 pub fn guess_of(plan: &[u8], r: Round) -> [u8; VARIABLES]
-    requires { ⌜ (r .0 < 32) × (9 + 8 * r .0 ≤ length (now plan)) ⌝ }
+    requires { ⌜ (r .0 < mostJobs) × (9 + 8 * r .0 ≤ length (now plan)) ⌝ }
     ensures { λ s. ⌜ s ≡ guess (now (plan .entry)) r ⌝ }
 {
     let at = GUESSES + VARIABLES * (r.0 as usize);
@@ -41,7 +42,7 @@ pub fn guess_of(plan: &[u8], r: Round) -> [u8; VARIABLES]
 
 // The store that round r must start from, of k rounds: the initial store, then the store left in the round before.
 pub fn due_store(store: [u8; VARIABLES], stores: &[u8; STORES], k: u8, r: Round) -> [u8; VARIABLES]
-    requires { ⌜ (k ≤ 32) × (r .0 ≤ k) ⌝ }
+    requires { ⌜ (k ≤ mostJobs) × (r .0 ≤ k) ⌝ }
     ensures { λ s. ⌜ s ≡ dueStoreIn store (now (stores .entry)) k (r .0) ⌝ }
 {
     if r.0 == 0 {
@@ -52,7 +53,7 @@ pub fn due_store(store: [u8; VARIABLES], stores: &[u8; STORES], k: u8, r: Round)
 
 // The lowest of k rounds whose guess is wrong.
 pub fn guess_fault(plan: &[u8], store: [u8; VARIABLES], stores: &[u8; STORES], k: u8) -> Fault
-    requires { ⌜ (k ≤ 32) × (1 + 8 * k ≤ length (now plan)) ⌝ }
+    requires { ⌜ (k ≤ mostJobs) × (1 + 8 * k ≤ length (now plan)) ⌝ }
     ensures { λ r. ⌜ r ≡ faultOf (guessFaultIn (now (plan .entry)) store (now (stores .entry)) k) ⌝ }
 {
     let mut r: u8 = 0;
@@ -85,7 +86,7 @@ pub fn legality_fault(
     marks: &[u8; MARKS],
     k: u8,
 ) -> Fault
-    requires { ⌜ IsMarks (now marks) × (k ≤ 32) × (1 + 8 * k ≤ length (now plan)) ⌝ }
+    requires { ⌜ IsMarks (now marks) × (k ≤ mostJobs) × (1 + 8 * k ≤ length (now plan)) ⌝ }
     ensures { λ r. ⌜ r ≡ faultOf (legalityIn (now (program .entry)) (now (times .entry)) (now (plan .entry)) store
         (now (stores .entry)) (now (marks .entry)) k) ⌝ }
 {
@@ -102,7 +103,7 @@ pub fn legality_fault(
 
 // The end store: that of the last round, or the initial store if there are none.
 pub fn end_store(store: [u8; VARIABLES], stores: &[u8; STORES], k: u8) -> [u8; VARIABLES]
-    requires { ⌜ k ≤ 32 ⌝ }
+    requires { ⌜ k ≤ mostJobs ⌝ }
     ensures { λ s. ⌜ s ≡ lastOr store (storesIn (now (stores .entry)) k) ⌝ }
 {
     due_store(store, stores, k, Round(k))

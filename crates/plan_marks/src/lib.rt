@@ -14,10 +14,10 @@ pub const STEPS: usize = INSTRUCTIONS * JOBS;
 pub const GUESSES: usize = 1;
 
 // Bytes of a step: its round and its value.
-pub const STEP: usize = 2;
+pub const STEP_BYTES: usize = 2;
 
 // Bytes of a plan, at most: the room that a buffer has for one.
-pub const PLAN_ROOM: usize = GUESSES + VARIABLES * JOBS + STEP * STEPS;
+pub const PLAN_ROOM: usize = GUESSES + VARIABLES * JOBS + STEP_BYTES * STEPS;
 
 // ---- The stores of the rounds, eight bytes each.
 

@@ -14,10 +14,13 @@ ghost use Prim.Native.Nat.{_<_};
 ghost use lib.ListN.{length};
 ghost use Rattle.notation.specs.Lists.{same};
 ghost use Rattle.plan_marks.specs.Code.Marks.{storeAt, withStore, stepMarked, stepCount, withMark};
+ghost use Rattle.taskfile.specs.Chains.{mostInstructions};
+ghost use Rattle.timing.specs.Accepted.{mostJobs};
+ghost use Rattle.plan_marks.specs.Code.Marks.{storesBytes};
 
 // The store of round r.
 pub fn store_of(stores: &[u8; STORES], r: Round) -> [u8; VARIABLES]
-    requires { ⌜ r .0 < 32 ⌝ }
+    requires { ⌜ r .0 < mostJobs ⌝ }
     ensures { λ s. ⌜ s ≡ storeAt (now (stores .entry)) (r .0) ⌝ }
 {
     let at = VARIABLES * (r.0 as usize);
@@ -35,7 +38,7 @@ pub fn store_of(stores: &[u8; STORES], r: Round) -> [u8; VARIABLES]
 
 // Replaces the store of round r.
 pub fn put_store(stores: &mut [u8; STORES], r: Round, store: [u8; VARIABLES])
-    requires { ⌜ (length (now stores) ≡ 256) × (r .0 < 32) ⌝ }
+    requires { ⌜ (length (now stores) ≡ storesBytes) × (r .0 < mostJobs) ⌝ }
     ensures { λ _. ⌜ now (stores .exit) ≡ withStore (now (stores .entry)) (r .0) store ⌝ }
 {
     let at = VARIABLES * (r.0 as usize);
@@ -62,7 +65,7 @@ pub fn same_store(x: [u8; VARIABLES], y: [u8; VARIABLES]) -> bool
 
 // Makes step n, with its round, its value and the priority after it, the last of job x.
 pub fn put_mark(marks: &mut [u8; MARKS], x: Job, n: u8, r: Round, value: u8, priority: u8)
-    requires { ⌜ (length (now marks) ≡ 1568) × (x .0 < 32) × (n < 16) ⌝ }
+    requires { ⌜ (length (now marks) ≡ 1568) × (x .0 < mostJobs) × (n < mostInstructions) ⌝ }
     ensures { λ _. ⌜ now (marks .exit) ≡ withMark (now (marks .entry)) (x .0) n
         (record { round = r; value = value; priorityAfter = priority }) ⌝ }
 {
@@ -75,7 +78,7 @@ pub fn put_mark(marks: &mut [u8; MARKS], x: Job, n: u8, r: Round, value: u8, pri
 
 // How many steps job x has.
 pub fn count_at(marks: &[u8; MARKS], x: Job) -> u8
-    requires { ⌜ x .0 < 32 ⌝ }
+    requires { ⌜ x .0 < mostJobs ⌝ }
     ensures { λ n. ⌜ n ≡ stepCount (now (marks .entry)) (x .0) ⌝ }
 {
     marks[COUNTS + (x.0 as usize)]
@@ -83,7 +86,7 @@ pub fn count_at(marks: &[u8; MARKS], x: Job) -> u8
 
 // The round of step n of job x.
 pub fn round_at(marks: &[u8; MARKS], x: Job, n: u8) -> Round
-    requires { ⌜ (x .0 < 32) × (n < 16) ⌝ }
+    requires { ⌜ (x .0 < mostJobs) × (n < mostInstructions) ⌝ }
     ensures { λ r. ⌜ r ≡ stepMarked (now (marks .entry)) (x .0) n .round ⌝ }
 {
     Round(marks[ROUNDS + (INSTRUCTIONS * (x.0 as usize) + (n as usize))])
@@ -91,7 +94,7 @@ pub fn round_at(marks: &[u8; MARKS], x: Job, n: u8) -> Round
 
 // The value of step n of job x.
 pub fn value_at(marks: &[u8; MARKS], x: Job, n: u8) -> u8
-    requires { ⌜ (x .0 < 32) × (n < 16) ⌝ }
+    requires { ⌜ (x .0 < mostJobs) × (n < mostInstructions) ⌝ }
     ensures { λ v. ⌜ v ≡ stepMarked (now (marks .entry)) (x .0) n .value ⌝ }
 {
     marks[CHOICES + (INSTRUCTIONS * (x.0 as usize) + (n as usize))]
@@ -99,7 +102,7 @@ pub fn value_at(marks: &[u8; MARKS], x: Job, n: u8) -> u8
 
 // The priority of job x after its step n.
 pub fn priority_after(marks: &[u8; MARKS], x: Job, n: u8) -> u8
-    requires { ⌜ (x .0 < 32) × (n < 16) ⌝ }
+    requires { ⌜ (x .0 < mostJobs) × (n < mostInstructions) ⌝ }
     ensures { λ p. ⌜ p ≡ stepMarked (now (marks .entry)) (x .0) n .priorityAfter ⌝ }
 {
     marks[PRIORITIES + (INSTRUCTIONS * (x.0 as usize) + (n as usize))]

@@ -1,5 +1,5 @@
 // The rules of legal plans for two jobs, over the marks of their steps.
-use order_states::OWNERS;
+use order_states::OWNERS_AT;
 use order_states::PROGRAM;
 use order_states::TIMES;
 use order_turns::programs::comes_before;
@@ -15,10 +15,11 @@ ghost use Prim.Native.Nat.{_<_};
 ghost use Rattle.plan_marks.specs.Code.Marks.{IsMarks};
 ghost use Rattle.plan_marks.specs.Code.PairParts.{roundOfStart, roundOfEnd, beforeKept, roundsApart, roundsNested, noneWithin};
 ghost use Rattle.plan_marks.specs.Code.PairParts.{preemptKept, priorityReached, lockKept, orderFaulty, lockFaulty};
+ghost use Rattle.timing.specs.Accepted.{mostJobs};
 
 // The round of job x's first step.
 pub fn start_round(marks: &[u8; MARKS], x: Job) -> Round
-    requires { ⌜ x .0 < 32 ⌝ }
+    requires { ⌜ x .0 < mostJobs ⌝ }
     ensures { λ r. ⌜ r ≡ roundOfStart (now (marks .entry)) (x .0) ⌝ }
 {
     if count_at(marks, x) == 0 {
@@ -29,7 +30,7 @@ pub fn start_round(marks: &[u8; MARKS], x: Job) -> Round
 
 // The round of job x's last step.
 pub fn end_round(marks: &[u8; MARKS], x: Job) -> Round
-    requires { ⌜ IsMarks (now marks) × (x .0 < 32) ⌝ }
+    requires { ⌜ IsMarks (now marks) × (x .0 < mostJobs) ⌝ }
     ensures { λ r. ⌜ r ≡ roundOfEnd (now (marks .entry)) (x .0) ⌝ }
 {
     let count = count_at(marks, x);
@@ -41,7 +42,7 @@ pub fn end_round(marks: &[u8; MARKS], x: Job) -> Round
 
 // Has job x no step in rounds r + 1 to q?
 pub fn none_within(marks: &[u8; MARKS], x: Job, r: Round, q: Round) -> bool
-    requires { ⌜ IsMarks (now marks) × (x .0 < 32) ⌝ }
+    requires { ⌜ IsMarks (now marks) × (x .0 < mostJobs) ⌝ }
     ensures { λ b. ⌜ b ≡ noneWithin (now (marks .entry)) (x .0) r q ⌝ }
 {
     let count = count_at(marks, x);
@@ -58,7 +59,7 @@ pub fn none_within(marks: &[u8; MARKS], x: Job, r: Round, q: Round) -> bool
 
 // Job x's priority after its steps up to round r, where its base is this.
 pub fn priority_up_to(marks: &[u8; MARKS], base: u8, x: Job, r: Round) -> u8
-    requires { ⌜ IsMarks (now marks) × (x .0 < 32) ⌝ }
+    requires { ⌜ IsMarks (now marks) × (x .0 < mostJobs) ⌝ }
     ensures { λ p. ⌜ p ≡ priorityReached (now (marks .entry)) base (x .0) r ⌝ }
 {
     let count = count_at(marks, x);
@@ -82,7 +83,7 @@ pub fn before_kept(
     x: Job,
     y: Job,
 ) -> bool
-    requires { ⌜ IsMarks (now marks) × (x .0 < 32) × (y .0 < 32) ⌝ }
+    requires { ⌜ IsMarks (now marks) × (x .0 < mostJobs) × (y .0 < mostJobs) ⌝ }
     ensures { λ b. ⌜ b ≡ beforeKept (now (program .entry)) (now (times .entry)) (now (marks .entry)) (x .0) (y .0) ⌝ }
 {
     if !comes_before(program, times, x, y) {
@@ -93,7 +94,7 @@ pub fn before_kept(
 
 // Does one of the two end before the other starts?
 pub fn rounds_apart(marks: &[u8; MARKS], x: Job, y: Job) -> bool
-    requires { ⌜ IsMarks (now marks) × (x .0 < 32) × (y .0 < 32) ⌝ }
+    requires { ⌜ IsMarks (now marks) × (x .0 < mostJobs) × (y .0 < mostJobs) ⌝ }
     ensures { λ b. ⌜ b ≡ roundsApart (now (marks .entry)) (x .0) (y .0) ⌝ }
 {
     if end_round(marks, x).0 < start_round(marks, y).0 {
@@ -104,7 +105,7 @@ pub fn rounds_apart(marks: &[u8; MARKS], x: Job, y: Job) -> bool
 
 // Is y nested in x?
 pub fn rounds_nested(marks: &[u8; MARKS], y: Job, x: Job) -> bool
-    requires { ⌜ IsMarks (now marks) × (x .0 < 32) × (y .0 < 32) ⌝ }
+    requires { ⌜ IsMarks (now marks) × (x .0 < mostJobs) × (y .0 < mostJobs) ⌝ }
     ensures { λ b. ⌜ b ≡ roundsNested (now (marks .entry)) (y .0) (x .0) ⌝ }
 {
     if start_round(marks, y).0 < start_round(marks, x).0 {
@@ -121,7 +122,7 @@ pub fn preempt_kept(
     y: Job,
     x: Job,
 ) -> bool
-    requires { ⌜ IsMarks (now marks) × (x .0 < 32) × (y .0 < 32) ⌝ }
+    requires { ⌜ IsMarks (now marks) × (x .0 < mostJobs) × (y .0 < mostJobs) ⌝ }
     ensures { λ b. ⌜ b ≡ preemptKept (now (program .entry)) (now (times .entry)) (now (marks .entry)) (y .0) (x .0) ⌝ }
 {
     if !may_preempt(program, times, y, x) {
@@ -144,7 +145,7 @@ pub fn lock_kept(
     y: Job,
     x: Job,
 ) -> bool
-    requires { ⌜ IsMarks (now marks) × (x .0 < 32) × (y .0 < 32) ⌝ }
+    requires { ⌜ IsMarks (now marks) × (x .0 < mostJobs) × (y .0 < mostJobs) ⌝ }
     ensures { λ b. ⌜ b ≡ lockKept (now (program .entry)) (now (times .entry)) (now (marks .entry)) (y .0) (x .0) ⌝ }
 {
     if !may_preempt(program, times, y, x) {
@@ -153,9 +154,9 @@ pub fn lock_kept(
     if !rounds_nested(marks, y, x) {
         return true;
     }
-    let base = program[OWNERS + (x.0 as usize)];
+    let base = program[OWNERS_AT + (x.0 as usize)];
     let priority = priority_up_to(marks, base, x, start_round(marks, y));
-    priority < program[OWNERS + (y.0 as usize)]
+    priority < program[OWNERS_AT + (y.0 as usize)]
 }
 
 // Does the pair break the round rules, locks aside?
@@ -166,7 +167,7 @@ pub fn order_faulty(
     x: Job,
     y: Job,
 ) -> bool
-    requires { ⌜ IsMarks (now marks) × (x .0 < 32) × (y .0 < 32) ⌝ }
+    requires { ⌜ IsMarks (now marks) × (x .0 < mostJobs) × (y .0 < mostJobs) ⌝ }
     ensures { λ b. ⌜ b ≡ orderFaulty (now (program .entry)) (now (times .entry)) (now (marks .entry)) (x .0) (y .0) ⌝ }
 {
     if !before_kept(program, times, marks, x, y) {
@@ -189,7 +190,7 @@ pub fn lock_faulty(
     x: Job,
     y: Job,
 ) -> bool
-    requires { ⌜ IsMarks (now marks) × (x .0 < 32) × (y .0 < 32) ⌝ }
+    requires { ⌜ IsMarks (now marks) × (x .0 < mostJobs) × (y .0 < mostJobs) ⌝ }
     ensures { λ b. ⌜ b ≡ lockFaulty (now (program .entry)) (now (times .entry)) (now (marks .entry)) (x .0) (y .0) ⌝ }
 {
     if !lock_kept(program, times, marks, y, x) {

@@ -12,6 +12,7 @@ ghost use Prim.Native.Nat.{suc, _-_, _≤_, _<_};
 ghost use Rattle.notation.specs.Lists.{any, from};
 ghost use Rattle.plan_marks.specs.Code.Marks.{faultOf, IsMarks};
 ghost use Rattle.plan_marks.specs.Code.PairParts.{pairFaulty, pairFaultIn};
+ghost use Rattle.timing.specs.Accepted.{mostJobs};
 
 // Has the pair the fault of number 43, or else that of 44?
 pub fn pair_faulty(
@@ -22,7 +23,7 @@ pub fn pair_faulty(
     x: Job,
     y: Job,
 ) -> bool
-    requires { ⌜ IsMarks (now marks) × (x .0 < 32) × (y .0 < 32) ⌝ }
+    requires { ⌜ IsMarks (now marks) × (x .0 < mostJobs) × (y .0 < mostJobs) ⌝ }
     ensures { λ b. ⌜ b ≡ pairFaulty number (now (program .entry)) (now (times .entry)) (now (marks .entry))
         (x .0) (y .0) ⌝ }
 {
@@ -41,7 +42,7 @@ pub fn faulty_with(
     k: u8,
     x: Job,
 ) -> bool
-    requires { ⌜ IsMarks (now marks) × (k ≤ 32) × (x .0 < k) ⌝ }
+    requires { ⌜ IsMarks (now marks) × (k ≤ mostJobs) × (x .0 < k) ⌝ }
     ensures { λ b. ⌜ b ≡ any (pairFaulty number (now (program .entry)) (now (times .entry)) (now (marks .entry)) (x .0))
         (from (suc (x .0)) (k - suc (x .0))) ⌝ }
 {
@@ -63,7 +64,7 @@ pub fn pair_fault(
     marks: &[u8; MARKS],
     k: u8,
 ) -> Fault
-    requires { ⌜ IsMarks (now marks) × (k ≤ 32) ⌝ }
+    requires { ⌜ IsMarks (now marks) × (k ≤ mostJobs) ⌝ }
     ensures { λ r. ⌜ r ≡ faultOf (pairFaultIn number (now (program .entry)) (now (times .entry))
         (now (marks .entry)) k) ⌝ }
 {

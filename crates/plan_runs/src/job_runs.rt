@@ -3,7 +3,7 @@ use crate::plan_steps::make_step;
 use crate::plan_steps::step_fault;
 use machine::POSITIONS;
 use machine_locals::registers::fresh_local;
-use order_states::OWNERS;
+use order_states::OWNERS_AT;
 use order_states::PROGRAM;
 use order_turns::programs::instruction_at;
 use plan::Round;
@@ -12,7 +12,7 @@ use plan_marks::GUESSES;
 use plan_marks::JobRan;
 use plan_marks::JobsRan;
 use plan_marks::MARKS;
-use plan_marks::STEP;
+use plan_marks::STEP_BYTES;
 use plan_marks::STORES;
 use taskfile::Ceilings;
 use taskfile::Task;
@@ -26,8 +26,11 @@ ghost use Prim.Native.Nat.{_+_, _*_, _≤_, _<_};
 ghost use mathlib.Core.Bool.{_||_};
 ghost use lib.ListN.{length};
 ghost use Rattle.machine.specs.Ends.{flagged};
-ghost use Rattle.plan_marks.specs.Code.Marks.{IsMarks};
+ghost use Rattle.plan_marks.specs.Code.Marks.{IsMarks, storesBytes};
 ghost use Rattle.plan_marks.specs.Code.RunParts.{JobRanOf, JobsRanOf};
+ghost use Rattle.taskfile.specs.Chains.{mostInstructions, mostLocks};
+ghost use Rattle.machine.specs.Buffers.{planRoom};
+ghost use Rattle.timing.specs.Accepted.{mostJobs};
 
 // Does one of two tests hold?
 fn either(x: bool, y: bool) -> bool
@@ -38,7 +41,7 @@ fn either(x: bool, y: bool) -> bool
 
 // Raises job x's flag if the test holds.
 pub fn flag_job(test: bool, x: Job, failed: &mut [bool; JOBS])
-    requires { ⌜ (length (now failed) ≡ 32) × (x .0 < 32) ⌝ }
+    requires { ⌜ (length (now failed) ≡ mostJobs) × (x .0 < mostJobs) ⌝ }
     ensures { λ _. ⌜ now (failed .exit) ≡ flagged test (x .0) (now (failed .entry)) ⌝ }
 {
     if test {
@@ -79,12 +82,12 @@ pub fn run_job(
     stores: &mut [u8; STORES],
     marks: &mut [u8; MARKS],
 ) -> JobRan
-    requires bounds { ⌜ (locks .count ≤ 8) × (k ≤ 32) × (x .0 < 32) × (start + 32 ≤ 1281) ⌝ }
-    requires arrays { ⌜ (length (now stores) ≡ 256) × IsMarks (now marks) ⌝ }
+    requires bounds { ⌜ (locks .count ≤ mostLocks) × (k ≤ mostJobs) × (x .0 < mostJobs) × (start + 2 * mostInstructions ≤ planRoom) ⌝ }
+    requires arrays { ⌜ (length (now stores) ≡ storesBytes) × IsMarks (now marks) ⌝ }
     ensures { λ r. ⌜ JobRanOf (now (program .entry)) locks (now (plan .entry)) k (x .0) start
         (now (stores .entry)) (now (marks .entry)) (now (stores .exit)) (now (marks .exit)) r ⌝ }
 {
-    let base = program[OWNERS + (x.0 as usize)];
+    let base = program[OWNERS_AT + (x.0 as usize)];
     let mut local = fresh_local();
     let mut previous = Round(0);
     let mut failed = false;
@@ -106,7 +109,7 @@ pub fn run_job(
         let effect = make_step(plan, offset, i, locks, base, x, n, local, stores, marks);
         previous = Round(plan[offset]);
         failed = either(failed, effect.failed);
-        offset += STEP;
+        offset += STEP_BYTES;
         if effect.ended {
             return job_ran(no_fault(), offset, failed);
         }
@@ -125,8 +128,8 @@ pub fn run_jobs(
     stores: &mut [u8; STORES],
     marks: &mut [u8; MARKS],
 ) -> JobsRan
-    requires bounds { ⌜ (locks .count ≤ 8) × (k ≤ 32) ⌝ }
-    requires arrays { ⌜ (length (now stores) ≡ 256) × IsMarks (now marks) ⌝ }
+    requires bounds { ⌜ (locks .count ≤ mostLocks) × (k ≤ mostJobs) ⌝ }
+    requires arrays { ⌜ (length (now stores) ≡ storesBytes) × IsMarks (now marks) ⌝ }
     ensures { λ r. ⌜ JobsRanOf (now (program .entry)) locks (now (plan .entry)) k
         (now (stores .entry)) (now (stores .exit)) (now (marks .exit)) r ⌝ }
 {

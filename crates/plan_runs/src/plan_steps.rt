@@ -24,13 +24,16 @@ ghost use Rattle.machine.specs.Code.Within.{LocksWithin};
 ghost use Rattle.machine.specs.Held.{priority};
 ghost use Rattle.machine.specs.Instructions.{perform};
 ghost use Rattle.plan.specs.Runs.{roundAt};
-ghost use Rattle.plan_marks.specs.Code.Marks.{faultOf, storeAt, withStore, withMark};
+ghost use Rattle.plan_marks.specs.Code.Marks.{faultOf, storeAt, withStore, withMark, storesBytes};
 ghost use Rattle.plan.specs.Runs.{stepBytesFor};
+ghost use Rattle.taskfile.specs.Chains.{mostInstructions, mostLocks};
+ghost use Rattle.timing.specs.Accepted.{mostJobs};
+ghost use Rattle.machine.specs.Buffers.{planRoom};
 
 // The fault of the step whose bytes are at an offset, for its instruction and the round of the job's previous step: 40,
 // 42 or 41.
 pub fn step_fault(plan: &[u8], k: u8, i: Instruction, previous: Round, offset: usize) -> Fault
-    requires { ⌜ offset ≤ 1281 ⌝ }
+    requires { ⌜ offset ≤ planRoom ⌝ }
     ensures { λ r. ⌜ r ≡ faultOf (stepBytesFor k i (now (plan .entry)) previous offset) ⌝ }
 {
     if plan.len() <= offset + 1 {
@@ -78,9 +81,9 @@ pub fn make_step(
     stores: &mut [u8; STORES],
     marks: &mut [u8; MARKS],
 ) -> Effect
-    requires bytes { ⌜ (offset + 1 < length (now plan)) × (roundAt (now plan) offset .0 < 32) ⌝ }
-    requires bounds { ⌜ (locks .count ≤ 8) × (x .0 < 32) × (n < 16) × (local .next < 16) × LocksWithin local ⌝ }
-    requires arrays { ⌜ (length (now stores) ≡ 256) × (length (now marks) ≡ 1568) ⌝ }
+    requires bytes { ⌜ (offset + 1 < length (now plan)) × (roundAt (now plan) offset .0 < mostJobs) ⌝ }
+    requires bounds { ⌜ (locks .count ≤ mostLocks) × (x .0 < mostJobs) × (n < mostInstructions) × (local .next < mostInstructions) × LocksWithin local ⌝ }
+    requires arrays { ⌜ (length (now stores) ≡ storesBytes) × (length (now marks) ≡ 1568) ⌝ }
     ensures effect { λ e. ⌜ e ≡ perform i (getD (now (plan .entry)) (offset + 1) 0) local
         (storeAt (now (stores .entry)) (roundAt (now (plan .entry)) offset .0)) ⌝ }
     ensures stores { λ e. ⌜ now (stores .exit)

@@ -15,12 +15,15 @@ ghost use mathlib.Core.Path.{_≡_};
 ghost use Prim.Native.Nat.{_+_, _*_, _≤_, _<_};
 ghost use lib.ListN.{length, drop};
 ghost use lib.Seq.{paste};
-ghost use Rattle.plan_marks.specs.Code.Marks.{IsMarks};
+ghost use Rattle.plan_marks.specs.Code.Marks.{IsMarks, storesBytes};
 ghost use Rattle.plan_marks.specs.Code.RunParts.{leftoverFault, PlanRanOf};
+ghost use Rattle.taskfile.specs.Chains.{mostLocks};
+ghost use Rattle.machine.specs.Buffers.{planRoom};
+ghost use Rattle.timing.specs.Accepted.{mostJobs};
 
 // The guesses of k rounds, copied from a plan into the rounds' stores.
 pub fn copy_guesses(plan: &[u8], k: u8, stores: &mut [u8; STORES])
-    requires { ⌜ (k ≤ 32) × (1 + 8 * k ≤ length (now plan)) × (length (now stores) ≡ 256) ⌝ }
+    requires { ⌜ (k ≤ mostJobs) × (1 + 8 * k ≤ length (now plan)) × (length (now stores) ≡ storesBytes) ⌝ }
     ensures { λ _. ⌜ now (stores .exit) ≡ paste (now (stores .entry)) 0 (drop 1 (now (plan .entry))) (8 * k) ⌝ }
 {
     let most = VARIABLES * (k as usize);
@@ -49,7 +52,7 @@ pub fn misshapen(place: u32) -> PlanRan
 
 // The fault that is left when the jobs have run: theirs, or bytes left over.
 pub fn leftover_fault(plan: &[u8], fault: Fault, offset: usize) -> Fault
-    requires { ⌜ offset ≤ 1281 ⌝ }
+    requires { ⌜ offset ≤ planRoom ⌝ }
     ensures { λ r. ⌜ r ≡ leftoverFault (length (now (plan .entry))) fault offset ⌝ }
 {
     if fault.number != 0 {
@@ -66,7 +69,7 @@ pub fn leftover_fault(plan: &[u8], fault: Fault, offset: usize) -> Fault
 
 // The run of a plan of k jobs: 40 to 42, or the steps, the stores left in the rounds and the failed jobs.
 pub fn run_plan(program: &[u8; PROGRAM], locks: Ceilings, plan: &[u8], k: u8) -> PlanRan
-    requires { ⌜ (locks .count ≤ 8) × (k ≤ 32) ⌝ }
+    requires { ⌜ (locks .count ≤ mostLocks) × (k ≤ mostJobs) ⌝ }
     ensures { λ r. ⌜ PlanRanOf (now (program .entry)) locks (now (plan .entry)) k r ⌝ }
 {
     if plan.len() == 0 {

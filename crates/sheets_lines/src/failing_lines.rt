@@ -20,6 +20,7 @@ ghost use Rattle.sheets.specs.SheetWords.{failedWord};
 ghost use Rattle.sheets.specs.Sheets.{orderLine};
 ghost use Rattle.sheets_printing.specs.Code.Puts.{PutsText};
 ghost use Rattle.sheets_lines.specs.Code.LineParts.{failedPart, jobLine};
+ghost use Rattle.timing.specs.Accepted.{mostJobs};
 
 // Writes a space and a job's number, if the job has failed.
 pub fn then_failed(flag: bool, x: u8, at: usize, out: &mut [u8]) -> usize
@@ -42,7 +43,7 @@ pub fn put_order(order: &[u8], at: usize, out: &mut [u8]) -> usize
 
 // Writes the line of failed jobs, of k jobs: `failed 0`.
 pub fn put_failed(failed: [bool; JOBS], k: u8, at: usize, out: &mut [u8]) -> usize
-    requires { ⌜ k ≤ 32 ⌝ }
+    requires { ⌜ k ≤ mostJobs ⌝ }
     ensures { λ n. ⌜ PutsText (now (out .entry)) at
         (line failedWord (map decimal (only (λ x. getD failed x false) (upTo k)))) (now (out .exit)) n ⌝ }
 {
@@ -57,7 +58,7 @@ pub fn put_failed(failed: [bool; JOBS], k: u8, at: usize, out: &mut [u8]) -> usi
 
 // Writes a job's line of rounds: `job 0 rounds 0 1 1 1 1`.
 pub fn put_job_rounds(marks: &[u8; MARKS], x: Job, at: usize, out: &mut [u8]) -> usize
-    requires { ⌜ IsMarks (now marks) × (x .0 < 32) ⌝ }
+    requires { ⌜ IsMarks (now marks) × (x .0 < mostJobs) ⌝ }
     ensures { λ n. ⌜ PutsText (now (out .entry)) at (jobLine (now (marks .entry)) (x .0)) (now (out .exit)) n ⌝ }
 {
     let word = put_word(b"job", at, out);
@@ -74,7 +75,7 @@ pub fn put_job_rounds(marks: &[u8; MARKS], x: Job, at: usize, out: &mut [u8]) ->
 
 // Writes the lines of rounds of k jobs.
 pub fn put_jobs_rounds(marks: &[u8; MARKS], k: u8, at: usize, out: &mut [u8]) -> usize
-    requires { ⌜ IsMarks (now marks) × (k ≤ 32) ⌝ }
+    requires { ⌜ IsMarks (now marks) × (k ≤ mostJobs) ⌝ }
     ensures { λ n. ⌜ PutsText (now (out .entry)) at
         (each (upTo k) (jobLine (now (marks .entry)))) (now (out .exit)) n ⌝ }
 {

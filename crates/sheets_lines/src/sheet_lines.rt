@@ -34,6 +34,7 @@ ghost use Rattle.sheets.specs.Sheets.{sheetOf, sheetAnswer, sheetAfter};
 ghost use Rattle.sheets_printing.specs.Code.Puts.{PutsText};
 ghost use Rattle.sheets_lines.specs.Code.SheetParts.{taskText, Parts, MarksOf};
 ghost use Rattle.sheets_lines.specs.Code.SheetParts.{PutsFailure, PutsFindings};
+ghost use Rattle.timing.specs.Accepted.{mostJobs};
 
 // Writes each task's line.
 pub fn put_tasks(t: Table, responses: [u64; TASKS], at: usize, out: &mut [u8]) -> usize
@@ -54,7 +55,7 @@ pub fn put_tasks(t: Table, responses: [u64; TASKS], at: usize, out: &mut [u8]) -
 
 // The marks of the steps of a complete order's plan.
 pub fn plan_marks(t: Table, list: JobList, order: &[u8]) -> [u8; MARKS]
-    requires { ⌜ Shaped t × (list .count ≤ 32) ⌝ }
+    requires { ⌜ Shaped t × (list .count ≤ mostJobs) ⌝ }
     ensures { λ m. ⌜ MarksOf t list (now (order .entry)) m ⌝ }
 {
     let mut plan = [0u8; PLAN_ROOM];
@@ -72,7 +73,7 @@ pub fn put_failure(
     at: usize,
     out: &mut [u8],
 ) -> usize
-    requires { ⌜ Shaped t × (list .count ≤ 32) ⌝ }
+    requires { ⌜ Shaped t × (list .count ≤ mostJobs) ⌝ }
     ensures { λ n. ⌜ PutsFailure t list w (now (order .entry)) (now (out .entry)) at (now (out .exit)) n ⌝ }
 {
     let verdict = put_verdict(b"fails", w.count, at, out);
@@ -85,7 +86,7 @@ pub fn put_failure(
 
 // Writes what the walk found.
 pub fn put_findings(t: Table, list: JobList, at: usize, out: &mut [u8]) -> usize
-    requires { ⌜ Shaped t × (list .count ≤ 32) × Parts t list ⌝ }
+    requires { ⌜ Shaped t × (list .count ≤ mostJobs) × Parts t list ⌝ }
     ensures { λ n. ⌜ PutsFindings t list (now (out .entry)) at (now (out .exit)) n ⌝ }
 {
     let mut order = [0u8; ORDER_ROOM];

@@ -1,4 +1,7 @@
 // Words, numbers and lines, written into a lent text, whose room is its length.
+use notation::characters::NEWLINE;
+use notation::characters::SPACE;
+use notation::characters::ZERO;
 use notation_buffers::write_byte;
 use notation_buffers::write_bytes;
 ghost use mathlib.Core.List.{[], _∷_};
@@ -8,13 +11,6 @@ ghost use Rattle.sheets.specs.SheetWords.{tasksWord, taskWord, jobsWord, respon
 ghost use Rattle.sheets.specs.Sheets.{refusedLine};
 ghost use Rattle.sheets_printing.specs.Code.Puts.{PutsText};
 ghost use Rattle.sheets_printing.specs.Code.Spaced.{spacedNumbers};
-
-// The bytes between two words and after a line, and the first digit.
-const SPACE: u8 = 32;
-
-const NEWLINE: u8 = 10;
-
-const ZERO: u8 = 48;
 
 // Writes a byte.
 pub fn put_byte(byte: u8, at: usize, out: &mut [u8]) -> usize

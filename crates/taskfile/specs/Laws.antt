@@ -9,7 +9,7 @@ pub mod JudgingLaws
 pub mod LinkedLaws
 pub mod LoadLaws
 pub mod LoadedLaws
-pub mod MarksLaws
+pub mod SeenLaws
 pub mod NumberLaws
 pub mod RecordLaws
 pub mod SmallTables

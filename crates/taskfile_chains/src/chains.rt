@@ -1,8 +1,8 @@
 // Chains of records: a body, the tasks, each followed by its body, and the locks. Each reader calls itself on the next
-// index, and the marks of the records reached are lent to it. Document 01: "The chain reader keeps the lent file
-// together with its present index". A function over a struct that holds a slice is not covered, so the three over a
-// `ChainReader`, and `index_at` and `next_at`, which make one, are proved by walks of their code, by hand. Here and in
-// `record_walk`, `tables` and `sites` each index that is followed is read by one of the last two.
+// index, and a flag for each record, whether it was reached, is lent to it. Document 01: "The chain reader keeps the
+// lent file together with its present index". A function over a struct that holds a slice is not covered, so the three
+// over a `ChainReader`, and `index_at` and `next_at`, which make one, are proved by walks of their code, by hand. Here
+// and in `every_record`, `tables` and `sites` each index that is followed is read by one of the last two.
 use crate::links::follow_index;
 use taskfile::Check;
 use taskfile::Kind;
@@ -15,7 +15,7 @@ ghost use mathlib.Core.Path.{_≡_};
 ghost use mathlib.Core.List.{List};
 ghost use Prim.Native.Nat.{ℕ};
 ghost use Rattle.taskfile.specs.Chains.{chain, bodyChain, taskChains, recordsOf};
-ghost use Rattle.taskfile.specs.Code.Reading.{marks, ChainedAs};
+ghost use Rattle.taskfile.specs.Code.Reading.{seenOf, ChainedAs};
 ghost use Rattle.taskfile.specs.Records.{byteAt, next};
 
 // The lent file together with the present index in it.
@@ -64,8 +64,8 @@ pub fn next_at(file: &[u8], index: u8) -> u8
     reader.index
 }
 
-// Reads a chain of records of one kind from an index that `holder` holds, and marks its records. It calls itself on
-// the next index, and the records still allowed fall. What a refusal leaves of the marks is not said.
+// Reads a chain of records of one kind from an index that `holder` holds, and notes its records. It calls itself on
+// the next index, and the records still allowed fall. What a refusal leaves of these flags is not said.
 pub fn read_chain(
     file: &[u8],
     kind: Kind,
@@ -74,7 +74,7 @@ pub fn read_chain(
     holder: u8,
     index: u8,
 ) -> Check
-    ensures { λ x. ⌜ ((reached : List ℕ) → now (seen .entry) ≡ marks reached
+    ensures { λ x. ⌜ ((reached : List ℕ) → now (seen .entry) ≡ seenOf reached
         → ChainedAs (λ l. l) x (now (seen .exit)) reached
         (chain kind allowed (now (file .entry)) reached holder index)) ⌝ }
 {
@@ -92,7 +92,7 @@ pub fn read_chain(
 
 // The body of the task whose record is `holder`.
 pub fn read_body(file: &[u8], seen: &mut [bool; RECORDS], holder: u8) -> Check
-    ensures { λ x. ⌜ ((reached : List ℕ) → now (seen .entry) ≡ marks reached
+    ensures { λ x. ⌜ ((reached : List ℕ) → now (seen .entry) ≡ seenOf reached
         → ChainedAs (λ l. l) x (now (seen .exit)) reached (bodyChain (now (file .entry)) reached holder)) ⌝ }
 {
     let first = index_at(file, holder, offsets::FIRST_INSTRUCTION);
@@ -109,7 +109,7 @@ pub fn read_body(file: &[u8], seen: &mut [bool; RECORDS], holder: u8) -> Check
     )
 }
 
-// Reads the tasks' chain, each task followed by its body, and marks their records.
+// Reads the tasks' chain, each task followed by its body, and notes their records.
 pub fn read_tasks(
     file: &[u8],
     allowed: u8,
@@ -117,7 +117,7 @@ pub fn read_tasks(
     holder: u8,
     index: u8,
 ) -> Check
-    ensures { λ x. ⌜ ((reached : List ℕ) → now (seen .entry) ≡ marks reached
+    ensures { λ x. ⌜ ((reached : List ℕ) → now (seen .entry) ≡ seenOf reached
         → ChainedAs recordsOf x (now (seen .exit)) reached
         (taskChains allowed (now (file .entry)) reached holder index)) ⌝ }
 {

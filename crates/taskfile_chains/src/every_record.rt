@@ -20,13 +20,13 @@ ghost use lib.ListN.{length};
 ghost use Rattle.taskfile.specs.Chains.{chainsOf};
 ghost use Rattle.notation.specs.Checked.{noneOf};
 ghost use Rattle.notation.specs.Lists.{upTo, member};
-ghost use Rattle.taskfile.specs.Code.Reading.{checkOf, marks};
+ghost use Rattle.taskfile.specs.Code.Reading.{checkOf, seenOf};
 ghost use Rattle.taskfile.specs.Records.{records};
 
 // 6: the lowest record that was never reached.
 pub fn no_stray(file: &[u8], seen: &[bool; RECORDS]) -> Check
     requires { ⌜ length (now file) ≤ 4096 ⌝ }
-    ensures { λ x. ⌜ ((reached : List ℕ) → now (seen .entry) ≡ marks reached
+    ensures { λ x. ⌜ ((reached : List ℕ) → now (seen .entry) ≡ seenOf reached
         → x ≡ checkOf (noneOf 6 (λ r. not (member r reached)) (upTo (records (now (file .entry)))))) ⌝ }
 {
     let mut r = 0;

@@ -11,6 +11,7 @@ ghost use lib.ListN.{length, getD, take};
 ghost use Rattle.taskfile.specs.Code.JudgingParts.{ShapedEntry, foundOf, bodyFaultIn, ceilingFaultIn};
 ghost use Rattle.notation.specs.Lists.{firstWith, upTo};
 ghost use Rattle.taskfile.specs.Tables.{bodyOf, endInstruction};
+ghost use Rattle.taskfile.specs.Chains.{mostLocks};
 
 // Is the instruction at position p the last and not End, or a skip beyond the last?
 pub fn body_fault(e: TaskEntry, p: u8) -> bool
@@ -46,7 +47,7 @@ pub fn first_body_fault(e: TaskEntry) -> Found
 // Is the instruction an Acquire or Release of a lock that is not there, or an Acquire of one with a ceiling below
 // the task's base i?
 pub fn ceiling_fault(locks: u8, ceilings: [u8; LOCKS], i: Task, here: Instruction) -> bool
-    requires { ⌜ (locks ≤ 8) × (length ceilings ≡ 8) ⌝ }
+    requires { ⌜ (locks ≤ mostLocks) × (length ceilings ≡ mostLocks) ⌝ }
     ensures { λ b. ⌜ b ≡ ceilingFaultIn (take locks ceilings) (i .0) here ⌝ }
 {
     if here.operation != operations::ACQUIRE && here.operation != operations::RELEASE {
@@ -64,7 +65,7 @@ pub fn ceiling_fault(locks: u8, ceilings: [u8; LOCKS], i: Task, here: Instructio
 
 // The first position of the body of task i with a fault of 9.
 pub fn first_ceiling_fault(locks: u8, ceilings: [u8; LOCKS], i: Task, e: TaskEntry) -> Found
-    requires { ⌜ (locks ≤ 8) × (length ceilings ≡ 8) × ShapedEntry e ⌝ }
+    requires { ⌜ (locks ≤ mostLocks) × (length ceilings ≡ mostLocks) × ShapedEntry e ⌝ }
     ensures { λ x. ⌜ x ≡ foundOf (firstWith
         (λ p. ceilingFaultIn (take locks ceilings) (i .0) (getD (bodyOf e) p endInstruction)) (upTo (e .length))) ⌝ }
 {

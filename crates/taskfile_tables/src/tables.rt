@@ -26,10 +26,11 @@ ghost use lib.ListN.{length, take, drop};
 ghost use Rattle.taskfile.specs.Code.Reading.{linkedTask, linkedChains};
 ghost use Rattle.taskfile.specs.Code.ReadingParts.{chainAt, bodyAt, entriesAt, locksRead};
 ghost use Rattle.taskfile.specs.Tables.{entryAt, tableAt};
+ghost use Rattle.taskfile.specs.Chains.{mostInstructions};
 
 // The records of the chain from the record `first` on, at most `most`.
 pub fn chain_at(file: &[u8], first: u8, most: u8) -> Chain
-    requires { ⌜ most ≤ 16 ⌝ }
+    requires { ⌜ most ≤ mostInstructions ⌝ }
     ensures { λ x. ⌜ x ≡ chainAt (now (file .entry)) first most ⌝ }
 {
     let mut records = [0u8; INSTRUCTIONS];

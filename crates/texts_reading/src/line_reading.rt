@@ -5,6 +5,7 @@ use crate::line_forms::may_come;
 use crate::line_forms::numbers_fit;
 use crate::numerals::numerals_past;
 use crate::numerals::part_end;
+use notation::characters::SPACE;
 use taskfile::numbers::LARGE;
 use taskfile::numbers::LINE;
 use texts::Form;
@@ -17,9 +18,6 @@ ghost use Rattle.texts.specs.Reading.{lineRead};
 ghost use Rattle.texts.specs.Code.LineParts.{wordsPast, lineAnswer};
 ghost use Rattle.texts_reading.specs.Code.NumeralParts.{PartEnds};
 ghost use Rattle.texts_reading.specs.Code.FormReading.{wellShaped, formRead};
-
-// The byte between two words.
-const SPACE: u8 = 32;
 
 // The answer of a line that is refused.
 pub fn refused_line(number: u8) -> LineRead

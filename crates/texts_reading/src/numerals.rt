@@ -1,4 +1,6 @@
 // The parts of a text between separators, and the numerals among a line's words.
+use notation::characters::SPACE;
+use notation::characters::ZERO;
 use texts::NUMBERS;
 use texts::Numerals;
 ghost use mathlib.Core.Path.{_≡_};
@@ -10,12 +12,6 @@ ghost use Rattle.texts.specs.Grammar.{wideField};
 ghost use Rattle.texts.specs.Reading.{isDigit, isNumeral, valueOf};
 ghost use Rattle.texts.specs.Code.LineParts.{partEnd, wordsPast, cappedValue, numeralsOf};
 ghost use Rattle.texts_reading.specs.Code.NumeralParts.{PartEnds, withNumeral};
-
-// The byte between two words.
-const SPACE: u8 = 32;
-
-// The digits 0 and 9.
-const ZERO: u8 = 48;
 
 const NINE: u8 = 57;
 

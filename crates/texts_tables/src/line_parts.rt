@@ -25,10 +25,11 @@ ghost use Rattle.texts.specs.Code.AddedLines.{longerTask, addInstruction, addLo
 ghost use Rattle.texts.specs.TextTables.{instructionWith, taskWith, lockWith};
 ghost use Rattle.texts_tables.specs.Code.Overfull.{bodyOver, addsNothing};
 ghost use Rattle.texts_tables.specs.Code.PartFields.{PartFits};
+ghost use Rattle.taskfile.specs.Chains.{mostInstructions};
 
 // One more, and never more than one too many.
 pub fn one_more(count: u8, most: u8) -> u8
-    requires { ⌜ most ≤ 16 ⌝ }
+    requires { ⌜ most ≤ mostInstructions ⌝ }
     ensures { λ n. ⌜ n ≡ counted most count ⌝ }
 {
     if count < most { count + 1 } else { most + 1 }

@@ -1,6 +1,7 @@
 // Reading a text: the table that its lines spell, or its first fault. Document 02, E5.
 use crate::line_parts::add_part;
 use crate::line_parts::adds_nothing;
+use notation::characters::NEWLINE;
 use taskfile::numbers::LINE;
 use taskfile_reader::empty_table;
 use texts::TextRead;
@@ -16,9 +17,6 @@ ghost use Rattle.taskfile.specs.Tables.{emptyTable};
 ghost use Rattle.texts.specs.Code.LineParts.{textAnswer};
 ghost use Rattle.texts.specs.Reading.{textRead};
 ghost use Rattle.texts.specs.TextEntries.{textRoom};
-
-// The byte that ends a line.
-const NEWLINE: u8 = 10;
 
 // The answer of a text that is refused at a line.
 pub fn refused_text(number: u8, line: u32) -> TextRead

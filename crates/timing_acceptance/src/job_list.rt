@@ -13,6 +13,7 @@ ghost use Prim.Native.Nat.{_≤_, _<_};
 ghost use lib.ListN.{length};
 ghost use Rattle.timing.specs.ReadEntries.{listAnswer, listAfter};
 ghost use Rattle.timing_acceptance.specs.Code.Filled.{jobRecordOf, listFilled, ListedAs};
+ghost use Rattle.timing.specs.Accepted.{mostJobs};
 
 // What the entry answers, and the records that go into the list: the first of the 32, as many as the answer says.
 pub struct Listed {
@@ -76,7 +77,7 @@ pub fn count_of(from: Listed) -> usize
 
 // One record.
 pub fn record_of(from: Listed, i: usize) -> JobRecord
-    requires { ⌜ i < 32 ⌝ }
+    requires { ⌜ i < mostJobs ⌝ }
     ensures { λ r. ⌜ r ≡ jobRecordOf from i ⌝ }
 {
     from.jobs[i]
@@ -84,7 +85,7 @@ pub fn record_of(from: Listed, i: usize) -> JobRecord
 
 // The first `count` records into the list, each at its own place.
 pub fn fill(list: &mut [JobRecord], from: Listed, count: usize)
-    requires { ⌜ (count ≤ 32) × (count ≤ length (now list)) ⌝ }
+    requires { ⌜ (count ≤ mostJobs) × (count ≤ length (now list)) ⌝ }
     ensures { λ _. ⌜ now (list .exit) ≡ listFilled from count (now (list .entry)) ⌝ }
 {
     let mut i = 0;

@@ -16,6 +16,7 @@ ghost use Rattle.timing.specs.declared.JobRecord.{JobRecord};
 ghost use Rattle.timing.specs.Jobs.{jobsWithin, jobCount, jobOf, jobsOf};
 ghost use Rattle.timing.specs.Code.JobParts.{jobListOf, WithinPeriods};
 ghost use Rattle.timing.specs.Code.ResponseParts.{Timeable};
+ghost use Rattle.timing.specs.Accepted.{mostJobs};
 
 // How many jobs of a task arrive before the window ends.
 pub fn jobs_within(window: u32, e: TaskEntry) -> u64
@@ -61,7 +62,7 @@ pub fn no_jobs() -> JobList
 // The list with the first n jobs of task i at its end, whose response time is `response`. Each is stored in place: a
 // function for one job took the list and gave it back, which copied it for each.
 pub fn with_jobs(list: JobList, i: Task, e: TaskEntry, response: u64, n: u64) -> JobList
-    requires { ⌜ (list .count + n ≤ 32) × (response ≤ e .period) ⌝ }
+    requires { ⌜ (list .count + n ≤ mostJobs) × (response ≤ e .period) ⌝ }
     ensures counted { λ x. ⌜ x .count ≡ list .count + n ⌝ }
     ensures added { λ x. ⌜ ((l : List JobRecord) → list ≡ jobListOf l
         → x ≡ jobListOf (l ++ map (jobOf i e response) (upTo n))) ⌝ }
@@ -86,7 +87,7 @@ pub fn with_jobs(list: JobList, i: Task, e: TaskEntry, response: u64, n: u64) ->
 
 // All jobs of the table, where `times` are the response times.
 pub fn jobs_of(t: Table, times: [u64; TASKS]) -> JobList
-    requires { ⌜ Timeable t × (jobCount t ≤ 32) × WithinPeriods t times ⌝ }
+    requires { ⌜ Timeable t × (jobCount t ≤ mostJobs) × WithinPeriods t times ⌝ }
     ensures { λ x. ⌜ x ≡ jobListOf (jobsOf t times) ⌝ }
 {
     let mut list = no_jobs();

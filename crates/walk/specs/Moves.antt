@@ -1,7 +1,7 @@
 -- The moves of a state, in the walk's order. Document 01, "Orders of steps": "at a state it tries the running job's
 -- step, then each start by ascending task, and Pick values ascending."
 -- Assumes nothing.
-use Prim.Native.Nat.{ℕ, _+_, _*_}
+use Prim.Native.Nat.{ℕ}
 use mathlib.Core.List.{List, [], _∷_, _++_, map}
 use mathlib.Core.Option.{Option, none, some}
 use Rattle.taskfile.specs.Judgement.{taskNumbers}
@@ -9,6 +9,7 @@ use Rattle.notation.specs.Lists.{each}
 use Rattle.timing.specs.Accepted.{Accepted}
 use Rattle.timing.specs.Relations.{base}
 use Rattle.machine.specs.Instructions.{values}
+use Rattle.order.specs.OrderBytes.{orderByte}
 use Rattle.order.specs.declared.Frame.{Frame}
 use Rattle.order.specs.Orders.{Turn, startOf, nextOf, performed}
 use Rattle.order.specs.States.{State}
@@ -21,7 +22,7 @@ pub record Move : Type 0 where
 -- the moves of one turn, values ascending
 unfoldable pub turnMoves : Accepted → State → Turn → List Move
 turnMoves a s turn =
-    map (λ v. record { byte = 16 * base a (turn .frame .job) + v; after = performed a s v turn })
+    map (λ v. record { byte = orderByte (base a (turn .frame .job)) v; after = performed a s v turn })
     (values (nextOf a (turn .frame)))
 
 -- the running job, the active job started last

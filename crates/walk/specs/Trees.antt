@@ -7,9 +7,9 @@ use mathlib.Core.Bool.{true, false}
 use mathlib.Core.List.{List, [], _∷_}
 use Rattle.notation.specs.Lists.{if_then_else_}
 use Rattle.timing.specs.Accepted.{Accepted}
-use Rattle.machine.specs.Buffers.{orderRoom}
 use Rattle.order.specs.States.{State, initial, allEnded}
 use Rattle.walk.specs.Moves.{Move, moves}
+use Rattle.order.specs.Orders.{mostSteps}
 
 pub data Tree : Type 0 where
   -- all jobs have ended: no move is left, and the order is complete
@@ -30,4 +30,4 @@ treeFrom a (suc left) s =
     elim (allEnded a s) [ true ↦ ended s | false ↦ through (λ next. treeFrom a left next) (moves a s) ]
 
 abbrev pub tree : Accepted → Tree
-tree a = treeFrom a orderRoom (initial a)
+tree a = treeFrom a mostSteps (initial a)

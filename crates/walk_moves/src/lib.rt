@@ -3,14 +3,14 @@ use machine::POSITIONS;
 use machine_locals::values::highest;
 use machine_locals::values::lowest;
 use machine_performing::parts::next_in;
-use order_states::DEPTH;
-use order_states::FRAME;
+use order_states::DEPTH_AT;
+use order_states::FRAME_BYTES;
 use order_states::LAST_VALUE;
 use order_states::NO_MOVE;
 use order_states::NO_TASK;
-use order_states::OWNERS;
+use order_states::OWNERS_AT;
 use order_states::PROGRAM;
-use order_states::STACK;
+use order_states::STACK_AT;
 use order_states::STATE;
 use order_states::VALUES;
 use order_states::WAITS;
@@ -28,6 +28,7 @@ ghost use Rattle.taskfile.specs.declared.Ceilings.{Ceilings};
 ghost use Rattle.order_states.specs.Code.SnapshotSteps.{levelIn, stepIn};
 ghost use Rattle.order_states.specs.Code.StateBytes.{snapshotIn, IsState};
 ghost use Rattle.walk_moves.specs.Code.MoveParts.{NextStep, FirstStart, StepOf, firstFrom, positionIn, runningTask};
+ghost use Rattle.taskfile.specs.Chains.{mostTasks};
 
 // The first value from v on that is on offer at an instruction, or `VALUES`. None above 15 fits an order's byte.
 pub fn first_from(o: Instruction, v: u8) -> u8
@@ -47,7 +48,7 @@ pub fn first_from(o: Instruction, v: u8) -> u8
 // The first byte of task i from the value v on that is a step, where its job whose turn it is stands at this position;
 // or `NO_MOVE`, where none of the task's is.
 pub fn byte_from(program: &[u8; PROGRAM], i: Task, position: u16, v: u8) -> u8
-    requires { ⌜ i .0 < 8 ⌝ }
+    requires { ⌜ i .0 < mostTasks ⌝ }
     ensures { λ m. ⌜ StepOf (now (program .entry)) (i .0) position v m ⌝ }
 {
     if POSITIONS <= position {
@@ -65,15 +66,15 @@ pub fn running_task(program: &[u8; PROGRAM], s: &[u8; STATE]) -> u8
     requires { ⌜ IsState (now s) ⌝ }
     ensures { λ n. ⌜ n ≡ runningTask (now (program .entry)) (snapshotIn (now (s .entry))) ⌝ }
 {
-    let depth = s[DEPTH];
+    let depth = s[DEPTH_AT];
     if depth == 0 {
         return NO_TASK;
     }
-    let x = s[STACK + FRAME * ((depth - 1) as usize)];
+    let x = s[STACK_AT + FRAME_BYTES * ((depth - 1) as usize)];
     if MOST_JOBS <= x {
         return NO_TASK;
     }
-    program[OWNERS + (x as usize)]
+    program[OWNERS_AT + (x as usize)]
 }
 
 // Where the job stands whose turn task i's is: the running job, if `top` is that task, or else one that starts.
@@ -82,7 +83,7 @@ pub fn position_of(s: &[u8; STATE], top: u8, i: u8) -> u16
     ensures { λ n. ⌜ n ≡ positionIn (snapshotIn (now (s .entry))) top i ⌝ }
 {
     if i == top {
-        return next_in(s, s[DEPTH] - 1);
+        return next_in(s, s[DEPTH_AT] - 1);
     }
     0
 }
@@ -95,7 +96,7 @@ pub fn start_from(
     low: u8,
     i: u8,
 ) -> u8
-    requires { ⌜ IsState (now s) × (i ≤ 8) ⌝ }
+    requires { ⌜ IsState (now s) × (i ≤ mostTasks) ⌝ }
     ensures { λ m. ⌜ ((locks : Ceilings) → low ≡ levelIn (now (program .entry)) locks (snapshotIn (now (s .entry)))
         → low ≤ i
         → NextStep (now (program .entry)) (now (waits .entry)) locks (snapshotIn (now (s .entry))) (16 * i) m) ⌝ }

@@ -24,12 +24,14 @@ ghost use lib.ListN.{length};
 ghost use Rattle.taskfile.specs.Code.JudgingParts.{Shaped};
 ghost use Rattle.walk.specs.WalkEntry.{walkAnswer, walkAfter};
 ghost use Rattle.walk_trials.specs.Code.WalkParts.{WalkOf};
+ghost use Rattle.order.specs.Orders.{mostSteps};
+ghost use Rattle.timing.specs.Accepted.{mostJobs};
 
 // The walk of a table's jobs. The bytes of an order found stand at the front of the path. The first state's moves are
 // tried from here, so that the compiler keeps `trial` a function and makes a jump of its last call.
 pub fn walk_table(t: Table, list: JobList, allowance: u64, path: &mut [u8; ORDER_ROOM]) -> Outcome
-    requires { ⌜ Shaped t × (list .count ≤ 32) × (length (now path) ≡ 512) ⌝ }
-    ensures room { λ r. ⌜ length (now (path .exit)) ≡ 512 ⌝ }
+    requires { ⌜ Shaped t × (list .count ≤ mostJobs) × (length (now path) ≡ mostSteps) ⌝ }
+    ensures room { λ r. ⌜ length (now (path .exit)) ≡ mostSteps ⌝ }
     ensures walked { λ r. ⌜ WalkOf t list allowance (now (path .entry)) (now (path .exit)) r ⌝ }
 {
     let l = lend(t, list);

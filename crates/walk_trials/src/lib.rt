@@ -6,7 +6,7 @@ use order_replay::ends::failed_in;
 use order_replay::ends::some_failed;
 use order_states::ORDER_ROOM;
 use order_states::STATE;
-use order_states::STORE;
+use order_states::STORE_AT;
 use order_states::states::eight_at;
 use taskfile::limits::JOBS;
 use taskfile::limits::VARIABLES;
@@ -35,10 +35,10 @@ pub struct Outcome {
 // which no length is. That is a number and no struct, so that it is handed up in a register.
 
 // No order failed.
-pub const HELD: usize = ORDER_ROOM + 1;
+pub const WALK_HELD: usize = ORDER_ROOM + 1;
 
 // The allowance did not suffice.
-pub const STOPPED: usize = ORDER_ROOM + 2;
+pub const WALK_STOPPED: usize = ORDER_ROOM + 2;
 
 // The answer at a complete order of this length, which fails if a job has.
 pub fn ended(s: &[u8; STATE], length: usize) -> usize
@@ -47,18 +47,18 @@ pub fn ended(s: &[u8; STATE], length: usize) -> usize
     if some_failed(s) {
         return length;
     }
-    HELD
+    WALK_HELD
 }
 
 // What a walk comes to that answered r after so many moves, and left this state: an order found ends in it.
 pub fn outcome_of(r: usize, count: u64, s: &[u8; STATE]) -> Outcome
     ensures { λ x. ⌜ x ≡ outcomeOf r count (snapshotIn (now (s .entry))) ⌝ }
 {
-    let store = eight_at(s, STORE);
+    let store = eight_at(s, STORE_AT);
     let failed = failed_in(s);
     Outcome {
-        found: r < HELD,
-        stopped: HELD < r,
+        found: r < WALK_HELD,
+        stopped: WALK_HELD < r,
         count: count,
         length: r as u64,
         store: store,

@@ -1,6 +1,6 @@
 // The walk of a state and the trial of its moves, which call each other.
-use crate::HELD;
-use crate::STOPPED;
+use crate::WALK_HELD;
+use crate::WALK_STOPPED;
 use crate::ended;
 use order_replay::ends::finished;
 use order_states::LAST_STEP;
@@ -23,6 +23,8 @@ ghost use lib.ListN.{length};
 ghost use Rattle.walk_trials.specs.Code.Outcomes.{outcomeOf};
 ghost use Rattle.order_states.specs.Code.StateBytes.{snapshotIn, IsState};
 ghost use Rattle.walk_trials.specs.Code.Trials.{ceilingsOf, Left, WalksAs, TriesAs};
+ghost use Rattle.taskfile.specs.Chains.{mostLocks};
+ghost use Rattle.order.specs.Orders.{mostSteps};
 
 // The walk of a state, on a path with room for `left` more bytes, when `count` moves were made before. It answers the
 // length of the failing order found, `HELD` or `STOPPED`, and leaves the moves made and the order's end state.
@@ -37,9 +39,9 @@ pub fn walk(
     count: &mut u64,
     path: &mut [u8; ORDER_ROOM],
 ) -> usize
-    requires { ⌜ (locks ≤ 8) × IsState (now s) × (left ≤ 512) × (now count ≤ allowance)
-        × (length (now path) ≡ 512) ⌝ }
-    ensures room { λ r. ⌜ Left (512 - left) allowance (now (path .entry)) (now (path .exit))
+    requires { ⌜ (locks ≤ mostLocks) × IsState (now s) × (left ≤ mostSteps) × (now count ≤ allowance)
+        × (length (now path) ≡ mostSteps) ⌝ }
+    ensures room { λ r. ⌜ Left (mostSteps - left) allowance (now (path .entry)) (now (path .exit))
         (outcomeOf r (now (count .exit)) (snapshotIn (now (s .exit)))) ⌝ }
     ensures came { λ r. ⌜ WalksAs (now (program .entry)) (now (waits .entry))
         (ceilingsOf (now (ceilings .entry)) locks) (snapshotIn (now (s .entry)))
@@ -50,7 +52,7 @@ pub fn walk(
         return ended(s, ORDER_ROOM - left);
     }
     if left == 0 {
-        return HELD;
+        return WALK_HELD;
     }
     trial(
         program,
@@ -78,8 +80,8 @@ pub fn trial(
     count: &mut u64,
     path: &mut [u8; ORDER_ROOM],
 ) -> usize
-    requires { ⌜ (locks ≤ 8) × IsState (now s) × (left < 512) × (now count ≤ allowance)
-        × (length (now path) ≡ 512) ⌝ }
+    requires { ⌜ (locks ≤ mostLocks) × IsState (now s) × (left < mostSteps) × (now count ≤ allowance)
+        × (length (now path) ≡ mostSteps) ⌝ }
     ensures room { λ r. ⌜ Left (511 - left) allowance (now (path .entry)) (now (path .exit))
         (outcomeOf r (now (count .exit)) (snapshotIn (now (s .exit)))) ⌝ }
     ensures came { λ r. ⌜ TriesAs (now (program .entry)) (now (waits .entry))
@@ -101,7 +103,7 @@ pub fn trial(
     let mut at = first_move(program, s, top, start);
     while at < NO_MOVE {
         if allowance <= *count {
-            return STOPPED;
+            return WALK_STOPPED;
         }
         *count += 1;
         path[LAST_STEP - left] = at;
@@ -133,11 +135,11 @@ pub fn trial(
             count,
             path,
         );
-        if r != HELD {
+        if r != WALK_HELD {
             *s = next;
             return r;
         }
         at = after;
     }
-    HELD
+    WALK_HELD
 }

@@ -16,10 +16,11 @@ ghost use Rattle.taskfile.specs.Tables.{endInstruction, noTask};
 ghost use Rattle.writer.specs.Claims.{claimedTasks, claimedBody, lockArray, noLock, claimedLocks};
 ghost use Rattle.writer.specs.Sites.{locksAt};
 ghost use Rattle.writer_layout.specs.Code.ClaimedParts.{linkAt};
+ghost use Rattle.taskfile.specs.Chains.{mostInstructions};
 
 // As many as the count says, and never more than one too many.
 pub fn claimed_count(count: u8, most: u8) -> u8
-    requires { ⌜ most ≤ 16 ⌝ }
+    requires { ⌜ most ≤ mostInstructions ⌝ }
     ensures { λ n. ⌜ n ≡ min count (most + 1) ⌝ }
 {
     if count <= most { count } else { most + 1 }

@@ -12,6 +12,7 @@ use Rattle.machine.specs.declared.Local.{Local}
 use Rattle.machine.specs.declared.Effect.{Effect}
 use Rattle.machine.specs.Instructions.{Operation, goesOn}
 use Rattle.order_states.specs.Code.StateBytes.{frameAt, frameIn}
+use Rattle.order_states.specs.Code.Sizes.{stateBytes}
 
 -- performing an instruction makes the store and the active job at position k what the effect says, and changes no
 -- other byte
@@ -44,4 +45,4 @@ pub record Done (operation : Operation) (before after : List ℕ) (k : ℕ) (o :
 
 -- the array is whole, and the job at position k has an instruction to perform
 abbrev pub Running : List ℕ → ℕ → Type 0
-Running bytes k = (length bytes ≡ 192) × (k < 8) × (frameIn bytes k .local .next < 16)
+Running bytes k = (length bytes ≡ stateBytes) × (k < 8) × (frameIn bytes k .local .next < 16)

@@ -9,13 +9,13 @@ use Rattle.order_states.specs.Code.SnapshotSteps.{Program, ownerIn}
 use Rattle.plan_marks.specs.Code.Marks.{stepsMarked}
 
 -- the byte of a task and a value, where both are below 16
-unfoldable pub orderByte : ℕ → ℕ → ℕ
-orderByte task value = if ltb task 16 && ltb value 16 then 16 * task + value else 0
+unfoldable pub writtenByte : ℕ → ℕ → ℕ
+writtenByte task value = if ltb task 16 && ltb value 16 then 16 * task + value else 0
 
 -- the bytes of job x in round r
 unfoldable pub jobRow : Program → List ℕ → ℕ → ℕ → List ℕ
 jobRow program marks r x =
-    map (λ step. orderByte (ownerIn program x) (step .value))
+    map (λ step. writtenByte (ownerIn program x) (step .value))
     (only (λ step. eqb (step .round .0) r) (stepsMarked marks x))
 
 -- the bytes of round r, of k jobs

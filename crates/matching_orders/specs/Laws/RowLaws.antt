@@ -19,24 +19,24 @@ use Rattle.plan_marks.specs.Code.Marks.{stepMarked, stepCount, stepsMarked}
 use Rattle.notation.specs.Laws.TabulateLaws.{values-snoc}
 use Rattle.notation_buffers.specs.Code.Writing.{Appends}
 use Rattle.notation_buffers.specs.Laws.WritingLaws.{appends-none, appends-more, appends-length}
-use Rattle.matching_orders.specs.Code.Rows.{orderByte, jobRow}
+use Rattle.matching_orders.specs.Code.Rows.{writtenByte, jobRow}
 
 -- ---- one byte
 
-pub byte-no-task : (task value : ℕ) → 16 ≤ task → orderByte task value ≡ 0
-unfolding orderByte if_then_else_
+pub byte-no-task : (task value : ℕ) → 16 ≤ task → writtenByte task value ≡ 0
+unfolding writtenByte if_then_else_
 byte-no-task task value high = rw (le-ltb task 16 high) refl
 
-pub byte-no-value : (task value : ℕ) → 16 ≤ value → orderByte task value ≡ 0
-unfolding orderByte if_then_else_
+pub byte-no-value : (task value : ℕ) → 16 ≤ value → writtenByte task value ≡ 0
+unfolding writtenByte if_then_else_
 byte-no-value task value high = go (ltb task 16)
   where
     go : (b : Bool) → (if b && ltb value 16 then 16 * task + value else 0) ≡ 0
     go true = rw (le-ltb value 16 high) refl
     go false = refl
 
-pub byte-small : (task value : ℕ) → task < 16 → value < 16 → orderByte task value ≡ 16 * task + value
-unfolding orderByte if_then_else_
+pub byte-small : (task value : ℕ) → task < 16 → value < 16 → writtenByte task value ≡ 16 * task + value
+unfolding writtenByte if_then_else_
 byte-small task value low few = rw (lt-ltb task 16 low, lt-ltb value 16 few) refl
 
 -- ---- the steps of a job
@@ -44,7 +44,7 @@ byte-small task value low few = rw (lt-ltb task 16 low, lt-ltb value 16 few) ref
 -- the bytes of the first n steps of job x in round r
 unfoldable pub rowTo : Program → List ℕ → ℕ → ℕ → ℕ → List ℕ
 rowTo program marks r x n =
-    map (λ step. orderByte (ownerIn program x) (step .value))
+    map (λ step. writtenByte (ownerIn program x) (step .value))
     (only (λ step. eqb (step .round .0) r) (map (stepMarked marks x) (upTo n)))
 
 -- those of the first n of a job's `count` steps were written
@@ -79,7 +79,7 @@ module _ {program : Program} {marks : List ℕ} {r x at : ℕ} {before : List �
       let test : Step → Bool = λ step. eqb (step .round .0) r in
       let fails : test (stepMarked marks x n) ≡ false =
       ne-eqb (stepMarked marks x n .round .0) r (λ e. other (ap (λ (q : Round). q .0) read ∙ e)) in
-      ap (map (λ step. orderByte (ownerIn program x) (step .value)))
+      ap (map (λ step. writtenByte (ownerIn program x) (step .value)))
       (ap (only test) (values-snoc (stepMarked marks x) n)
       ∙ only-drops test (map (stepMarked marks x) (upTo n)) (stepMarked marks x n) fails)
 
@@ -100,11 +100,11 @@ module _ {program : Program} {marks : List ℕ} {r x at : ℕ} {before : List �
   -- and one of the round adds its byte
   row-byte : round .0 ≡ r
       → rowTo program marks r x (n + 1)
-      ≡ rowTo program marks r x n ++ (orderByte (ownerIn program x) (stepMarked marks x n .value) ∷ [])
+      ≡ rowTo program marks r x n ++ (writtenByte (ownerIn program x) (stepMarked marks x n .value) ∷ [])
   unfolding rowTo only
   row-byte here =
       let test : Step → Bool = λ step. eqb (step .round .0) r in
-      let byte : Step → ℕ = λ step. orderByte (ownerIn program x) (step .value) in
+      let byte : Step → ℕ = λ step. writtenByte (ownerIn program x) (step .value) in
       let earlier = map (stepMarked marks x) (upTo n) in
       let holds : test (stepMarked marks x n) ≡ true =
       eq-eqb (stepMarked marks x n .round .0) r (sym (ap (λ (q : Round). q .0) read) ∙ here) in
@@ -114,11 +114,11 @@ module _ {program : Program} {marks : List ℕ} {r x at : ℕ} {before : List �
       ∙ map-snoc byte (only test earlier) (stepMarked marks x n)
 
   written-too : {value byte : ℕ} {after : List ℕ} {m : ℕ} → 512 ≤ length before → round .0 ≡ r
-      → value ≡ stepMarked marks x n .value → byte ≡ orderByte task value → Appends 512 now next (byte ∷ []) after m
+      → value ≡ stepMarked marks x n .value → byte ≡ writtenByte task value → Appends 512 now next (byte ∷ []) after m
       → RowTo program marks r x at before task count after m (n + 1)
   written-too {value} {byte} {after} {m} room here taken made appends =
-      let same : byte ≡ orderByte (ownerIn program x) (stepMarked marks x n .value) =
-      made ∙ ap (λ (t : ℕ). orderByte t value) (row .owner) ∙ ap (orderByte (ownerIn program x)) taken in
+      let same : byte ≡ writtenByte (ownerIn program x) (stepMarked marks x n .value) =
+      made ∙ ap (λ (t : ℕ). writtenByte t value) (row .owner) ∙ ap (writtenByte (ownerIn program x)) taken in
       let bytes : rowTo program marks r x n ++ (byte ∷ []) ≡ rowTo program marks r x (n + 1) =
       ap (λ (b : ℕ). rowTo program marks r x n ++ (b ∷ [])) same ∙ sym (row-byte here) in
       record {
@@ -130,7 +130,7 @@ module _ {program : Program} {marks : List ℕ} {r x at : ℕ} {before : List �
       }
 
   pub row-more : {value byte : ℕ} {after : List ℕ} {m : ℕ} {out : List ℕ} {to : ℕ} → 512 ≤ length before → round .0 ≡ r
-      → value ≡ stepMarked marks x n .value → byte ≡ orderByte task value → Appends 512 now next (byte ∷ []) after m
+      → value ≡ stepMarked marks x n .value → byte ≡ writtenByte task value → Appends 512 now next (byte ∷ []) after m
       → out ≡ after → to ≡ m → RowTo program marks r x at before task count out to (n + 1)
   row-more room here taken made appends same goes = rw (same, goes) (written-too room here taken made appends)
 

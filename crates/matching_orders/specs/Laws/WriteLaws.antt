@@ -1,5 +1,6 @@
 -- The bytes that are written of a legal plan's marks are those of its order, and they fit the room.
 -- Assumes nothing.
+use Rattle.order.specs.OrderBytes.{orderByte}
 use mathlib.Core.Path.{_≡_, refl, sym, ap, subst, _∙_}
 use Prim.Native.Nat.{ℕ, _+_, _*_, _≤_, _<_}
 use native.Mathlib.Omega.{arith}
@@ -35,7 +36,7 @@ use Rattle.matching.specs.Laws.ConversionLaws.{plan-complete}
 use Rattle.plan_marks.specs.Code.Marks.{stepsMarked, stepsIn}
 use Rattle.notation_buffers.specs.Code.Writing.{Appends, clearedFrom}
 use Rattle.notation_buffers.specs.Laws.WritingLaws.{appends-within, appends-count, appends-filled}
-use Rattle.matching_orders.specs.Code.Rows.{orderByte, jobRow, roundRow, rowsIn}
+use Rattle.matching_orders.specs.Code.Rows.{writtenByte, jobRow, roundRow, rowsIn}
 use Rattle.matching_orders.specs.Code.OrderWritten.{OrderWritten}
 use Rattle.matching_orders.specs.Laws.RowLaws.{byte-small}
 use Rattle.matching_orders.specs.Laws.StepValueLaws.{Small, steps-small}
@@ -86,14 +87,14 @@ module _ {a : Accepted} (ok : IsAccepted a) (program : Program)
   row-is r x isX =
       let job : Job = record { 0 = x } in
       let test : Step → Bool = λ step. eqb (step .round .0) r in
-      let byte : (step : Step) → Small step → orderByte (ownerIn program x) (step .value) ≡ 16 * base a job + step .value =
+      let byte : (step : Step) → Small step → writtenByte (ownerIn program x) (step .value) ≡ orderByte (base a job) (step .value) =
       λ step small. byte-small (ownerIn program x) (step .value) (omega (arith, owner job isX, base-small ok job isX)) small
       ∙ ap (λ (b : ℕ). 16 * b + step .value) (owner job isX) in
-      map-alike (λ step. orderByte (ownerIn program x) (step .value)) (λ step. 16 * base a job + step .value)
+      map-alike (λ step. writtenByte (ownerIn program x) (step .value)) (λ step. orderByte (base a job) (step .value))
       (only test (stepsMarked marks x))
-      (every-imp Small (λ step. orderByte (ownerIn program x) (step .value) ≡ 16 * base a job + step .value) byte
+      (every-imp Small (λ step. writtenByte (ownerIn program x) (step .value) ≡ orderByte (base a job) (step .value)) byte
       (only test (stepsMarked marks x)) (every-only Small test (stepsMarked marks x) (marks-small x isX)))
-      ∙ ap (λ (l : List Step). map (λ step. 16 * base a job + step .value) (only test l)) (sym (marks-are x isX))
+      ∙ ap (λ (l : List Step). map (λ step. orderByte (base a job) (step .value)) (only test l)) (sym (marks-are x isX))
 
   -- one round
   round-is : (r : ℕ) → roundRow program marks (jobTotal a) r ≡ each (jobNumbers a) (stepBytesIn a runs r)

@@ -1,7 +1,8 @@
 -- The run of a complete order, as its functions note it: each step in its round, and each round's first store.
 -- Assumes nothing.
+use Rattle.order.specs.OrderBytes.{taskOfByte, valueOfByte}
 use mathlib.Core.Path.{_≡_}
-use Prim.Native.Nat.{ℕ, _+_, _/_, _%_}
+use Prim.Native.Nat.{ℕ, _+_}
 use mathlib.Core.Bool.{Bool, _&&_}
 use mathlib.Core.List.{List, [], _∷_}
 use lib.ListN.{length}
@@ -15,7 +16,7 @@ use Rattle.order_states.specs.declared.Due.{Due}
 use Rattle.order_states.specs.Code.Snapshots.{Snapshot}
 use Rattle.order_states.specs.Code.SnapshotSteps.{Program, LentTimes, turnIn, madeIn}
 use Rattle.order_states.specs.Code.StateBytes.{snapshotIn, IsState}
-use Rattle.plan_marks.specs.Code.Marks.{stepCount, withMark, withStore, IsMarks}
+use Rattle.plan_marks.specs.Code.Marks.{stepCount, withMark, withStore, IsMarks, storesBytes}
 
 -- where a traced order stands: its state, its round, the marks of its steps and the guesses so far
 pub record TraceState : Type 0 where
@@ -59,7 +60,7 @@ dueNoted program i value d n =
 -- after the step that a byte asks for
 unfoldable pub stepNoted : Program → LentTimes → Ceilings → TraceState → ℕ → TraceState
 stepNoted program waits locks n byte =
-    dueNoted program (byte / 16) (byte % 16) (turnIn program waits locks (n .state) (byte / 16)) n
+    dueNoted program (taskOfByte byte) (valueOfByte byte) (turnIn program waits locks (n .state) (taskOfByte byte)) n
 
 -- after the steps of an order's bytes
 unfoldable pub orderNoted : Program → LentTimes → Ceilings → TraceState → List ℕ → TraceState
@@ -76,7 +77,7 @@ notedOf s r marks guesses = record { state = snapshotIn s; round = r .0; marks =
 pub record AreNoted (s marks guesses : List ℕ) : Type 0 where
   pub isState : IsState s
   pub isMarks : IsMarks marks
-  pub room : length guesses ≡ 256
+  pub room : length guesses ≡ storesBytes
 
 -- what a byte's step leaves
 pub record NotedStep (program waits : List ℕ) (locks : Ceilings) (n : TraceState) (byte : ℕ) (s marks guesses : List ℕ)
@@ -88,6 +89,6 @@ pub record NotedStep (program waits : List ℕ) (locks : Ceilings) (n : TraceSta
 pub record NotedOrder (program waits : List ℕ) (locks : Ceilings) (n : TraceState) (order marks guesses : List ℕ)
     : Type 0 where
   pub isMarks : IsMarks marks
-  pub room : length guesses ≡ 256
+  pub room : length guesses ≡ storesBytes
   pub marks-are : marks ≡ orderNoted program waits locks n order .marks
   pub guesses-are : guesses ≡ orderNoted program waits locks n order .guesses

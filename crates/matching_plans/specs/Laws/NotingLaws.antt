@@ -1,7 +1,8 @@
 -- Laws of a traced order on arrays, a case of its definition each: what the tests that the code has made come to.
 -- Assumes nothing.
+use Rattle.order.specs.OrderBytes.{taskOfByte, valueOfByte}
 use mathlib.Core.Path.{_≡_, refl, sym, ap, subst, _∙_}
-use Prim.Native.Nat.{ℕ, suc, _+_, _/_, _%_, _≤_, _<_}
+use Prim.Native.Nat.{ℕ, suc, _+_, _≤_, _<_}
 use native.Mathlib.Decide.{decLt}
 use native.Mathlib.Omega.{arith}
 use native.Mathlib.Numerals.{add-one}
@@ -75,14 +76,14 @@ guess-room guesses room r store eight =
 -- ---- a step
 
 module _ (program waits : List ℕ) (locks : Ceilings) (s : List ℕ) (r : Round) (marks guesses : List ℕ) (byte : ℕ)
-    {d : Due} (is : d ≡ turnIn program waits locks (snapshotIn s) (byte / 16)) where
+    {d : Due} (is : d ≡ turnIn program waits locks (snapshotIn s) (taskOfByte byte)) where
   abbrev n : TraceState
   n = notedOf s r marks guesses
 
-  of-due : {after : TraceState} → after ≡ dueNoted program (byte / 16) (byte % 16) d n
+  of-due : {after : TraceState} → after ≡ dueNoted program (taskOfByte byte) (valueOfByte byte) d n
       → after ≡ stepNoted program waits locks n byte
   unfolding stepNoted
-  of-due e = e ∙ ap (λ (t : Due). dueNoted program (byte / 16) (byte % 16) t n) is
+  of-due e = e ∙ ap (λ (t : Due). dueNoted program (taskOfByte byte) (valueOfByte byte) t n) is
 
   -- nobody is due
   pub noting-idle : not (d .due) ≡ true → n ≡ stepNoted program waits locks n byte
@@ -97,13 +98,13 @@ module _ (program waits : List ℕ) (locks : Ceilings) (s : List ℕ) (r : Round
 
     -- a step is made
     module _ (lt : d .frame .local .next < 16) (s′ : List ℕ)
-        (made : snapshotIn s′ ≡ madeIn program (snapshotIn s) (d .frame) (d .under) (byte / 16) (byte % 16))
-        {marks′ : List ℕ} (marked : marks′ ≡ noteIn marks (d .frame .job .0) r (byte % 16)) where
-      step-is : stepNoted program waits locks n byte ≡ notedIn (snapshotIn s′) (d .under) (d .frame .job) (byte % 16) n
+        (made : snapshotIn s′ ≡ madeIn program (snapshotIn s) (d .frame) (d .under) (taskOfByte byte) (valueOfByte byte))
+        {marks′ : List ℕ} (marked : marks′ ≡ noteIn marks (d .frame .job .0) r (valueOfByte byte)) where
+      step-is : stepNoted program waits locks n byte ≡ notedIn (snapshotIn s′) (d .under) (d .frame .job) (valueOfByte byte) n
       unfolding dueNoted if_then_else_
       step-is =
           sym (of-due
-          (ap (λ (p : Snapshot). notedIn p (d .under) (d .frame .job) (byte % 16) n) made
+          (ap (λ (p : Snapshot). notedIn p (d .under) (d .frame .job) (valueOfByte byte) n) made
           ∙ rw (not-false (d .due) due, lt-ltb (d .frame .local .next) 16 lt) refl))
 
       -- which ends its job

@@ -3,7 +3,7 @@
 -- Assumes nothing.
 use mathlib.Core.Path.{_≡_, refl, sym, ap, subst, _∙_}
 use mathlib.Core.Logic.{inl, inr}
-use Prim.Native.Nat.{ℕ, suc, _+_, _/_, _%_, _≤_, _<_}
+use Prim.Native.Nat.{ℕ, suc, _+_, _≤_, _<_}
 use native.Mathlib.Omega.{arith}
 use mathlib.Core.Bool.{Bool, true, false}
 use mathlib.Core.List.{List, [], _∷_, _++_, reverse}
@@ -23,6 +23,7 @@ use Rattle.timing.specs.Laws.JobFacts.{jobs-few}
 use Rattle.timing.specs.Relations.{base}
 use Rattle.machine.specs.declared.Effect.{Effect}
 use Rattle.machine.specs.Instructions.{Store, perform}
+use Rattle.order.specs.OrderBytes.{taskOfByte, valueOfByte}
 use Rattle.order.specs.Code.Invariant.{Invariant}
 use Rattle.order.specs.Orders.{Turn, nextOf, run}
 use Rattle.order.specs.States.{State, hasEnded}
@@ -58,10 +59,10 @@ module _ {a : Accepted} (ok : IsAccepted a) {program waits : List ℕ} {locks : 
   module _ {s : State} (inv : Invariant a s) {r : ℕ} {t : Trace} {done : List ℕ} (kept : OrderKept a s r t done) {n : TraceState}
       (held : HeldTrace a s r t n) {byte : ℕ} {next : State} (said : AllowedStep a s byte next) where
     abbrev i : ℕ
-    i = byte / 16
+    i = taskOfByte byte
 
     abbrev v : ℕ
-    v = byte % 16
+    v = valueOfByte byte
 
     abbrev turn : Turn
     turn = said .turn
@@ -183,7 +184,7 @@ module _ {a : Accepted} (ok : IsAccepted a) {program waits : List ℕ} {locks : 
       let first = trace-run-first a s byte bytes ran in
       let said = step-says a s byte (first .1) in
       let x = said .turn .frame .job .0 in
-      let isX = good-turn ok inv (byte / 16) (said .due) .0 .running .job in
+      let isX = good-turn ok inv (taskOfByte byte) (said .due) .0 .running .job in
       let keeps = kept-next inv kept held said in
       let on = trace-first a s r t byte bytes said in
       let more = one-more inv kept held said in

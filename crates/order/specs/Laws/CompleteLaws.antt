@@ -15,10 +15,9 @@ use Rattle.timing.specs.Accepted.{Accepted}
 use Rattle.timing.specs.Code.IsAccepted.{IsAccepted}
 use Rattle.timing.specs.Laws.JobFacts.{jobs-few}
 use Rattle.machine.specs.Ends.{End}
-use Rattle.machine.specs.Buffers.{orderRoom}
 use Rattle.order.specs.Code.Invariant.{Invariant}
 use Rattle.order.specs.Laws.LengthLaws.{order-short}
-use Rattle.order.specs.Orders.{step, run, orderEnd, Complete}
+use Rattle.order.specs.Orders.{step, run, orderEnd, Complete, mostSteps}
 use Rattle.order.specs.Replay.{stepAt, replayFrom, replay}
 use Rattle.order.specs.States.{State, initial, allEnded}
 use Rattle.order.specs.Laws.SlipLaws.{stepAt-passed, byte-steps}
@@ -75,5 +74,5 @@ module _ {a : Accepted} (ok : IsAccepted a) where
   replay-complete order h =
       let parts = bind-passed (replayFrom a (initial a) 0 order) (λ s. passed (orderEnd s)) h in
       let runs = replay-runs a order (initial a) 0 (parts .1) in
-      let few : length order ≤ orderRoom = omega (arith, order-short ok order (runs .0), jobs-few (ok .isTimed)) in
+      let few : length order ≤ mostSteps = omega (arith, order-short ok order (runs .0), jobs-few (ok .isTimed)) in
       (parts .0, record { allowed = runs .0; finished = runs .1; short = few }, passed-same (parts .2))

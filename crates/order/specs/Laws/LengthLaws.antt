@@ -4,7 +4,7 @@
 -- Assumes nothing.
 use mathlib.Core.Path.{_≡_, refl, sym, ap, subst, _∙_}
 use mathlib.Core.Logic.{inl, inr}
-use Prim.Native.Nat.{ℕ, suc, _+_, _-_, _*_, _/_, _%_, _≤_, _<_}
+use Prim.Native.Nat.{ℕ, suc, _+_, _-_, _*_, _≤_, _<_}
 use native.Mathlib.Decide.{ℕ-discrete}
 use native.Mathlib.Omega.{arith}
 use mathlib.Core.Bool.{Bool, true, false, _&&_}
@@ -26,6 +26,7 @@ use Rattle.timing.specs.Relations.{base, jobAt, jobNumbers}
 use Rattle.machine.specs.Laws.BodyLaws.{perform-onward}
 use Rattle.machine.specs.declared.Effect.{Effect}
 use Rattle.machine.specs.Instructions.{fresh}
+use Rattle.order.specs.OrderBytes.{taskOfByte, valueOfByte}
 use Rattle.order.specs.declared.Frame.{Frame}
 use Rattle.order.specs.Code.Invariant.{hasBegun, Invariant}
 use Rattle.timing.specs.Laws.JobFacts.{job-task}
@@ -189,12 +190,12 @@ unfolding base
 step-left {a} ok {s} inv byte {after} e =
     let made = step-says a s byte e in
     let turn : Turn = made .turn in
-    let good = good-turn ok inv (byte / 16) (made .due) .0 in
+    let good = good-turn ok inv (taskOfByte byte) (made .due) .0 in
     let known = job-task (ok .isTimed) (turn .frame .job) (good .running .job) in
     let short = body-short (ok .isMade .shaped) (jobAt a (turn .frame .job) .task) known in
-    let onward = perform-onward (nextOf a (turn .frame)) (byte % 16) (turn .frame .local) (s .store) in
-    subst (λ (t : State). left a t < left a s) (sym (performed-is a s (byte % 16) turn) ∙ made .made)
-    (left-falls ok inv good (turn-placed a s (byte / 16) (made .due)) _ (omega (arith, good .running .inside)) (onward .forward))
+    let onward = perform-onward (nextOf a (turn .frame)) (valueOfByte byte) (turn .frame .local) (s .store) in
+    subst (λ (t : State). left a t < left a s) (sym (performed-is a s (valueOfByte byte) turn) ∙ made .made)
+    (left-falls ok inv good (turn-placed a s (taskOfByte byte) (made .due)) _ (omega (arith, good .running .inside)) (onward .forward))
 
 -- the bytes of an order and the steps left after them are no more than the steps left before
 pub run-left : {a : Accepted} → IsAccepted a → {s : State} → Invariant a s → (bytes : List ℕ) {after : State}

@@ -3,7 +3,7 @@
 -- Assumes nothing.
 use mathlib.Core.Path.{_≡_, refl, sym, ap, subst, _∙_}
 use mathlib.Core.Logic.{inl, inr}
-use Prim.Native.Nat.{ℕ, zero, suc, _+_, _/_, _%_, _≤_}
+use Prim.Native.Nat.{ℕ, zero, suc, _+_, _≤_}
 use native.Mathlib.Omega.{arith}
 use mathlib.Core.Bool.{true, false, false≢true, not}
 use mathlib.Core.List.{List, [], _∷_}
@@ -20,6 +20,7 @@ use Rattle.timing.specs.Code.IsAccepted.{IsAccepted}
 use Rattle.timing.specs.Laws.AcceptedLaws.{file-accepted}
 use Rattle.timing.specs.Laws.JobFacts.{job-task}
 use Rattle.timing.specs.Laws.JobNumberLaws.{all-jobs}
+use Rattle.order.specs.OrderBytes.{taskOfByte, valueOfByte}
 use Rattle.order.specs.Code.Invariant.{Invariant}
 use Rattle.order.specs.Orders.{Turn, turnOf, isOffered, performed, step, run, orderEnd}
 use Rattle.order.specs.Replay.{isTask, stepAt, replayFrom, replay}
@@ -31,32 +32,32 @@ use Rattle.order.specs.Laws.StepLaws.{good-turn, step-says, offered-step
 
 -- how a byte comes out of them
 data Tested (a : Accepted) (s : State) (byte : ℕ) : Type 0 where
-  no-task : isTask a (byte / 16) ≡ false → Tested a s byte
-  no-turn : isTask a (byte / 16) ≡ true → turnOf a s (byte / 16) ≡ none → Tested a s byte
-  no-offer : isTask a (byte / 16) ≡ true → {turn : Turn} → turnOf a s (byte / 16) ≡ some turn
-      → isOffered a turn (byte % 16) ≡ false → Tested a s byte
-  all-hold : isTask a (byte / 16) ≡ true → {turn : Turn} → turnOf a s (byte / 16) ≡ some turn
-      → isOffered a turn (byte % 16) ≡ true → Tested a s byte
+  no-task : isTask a (taskOfByte byte) ≡ false → Tested a s byte
+  no-turn : isTask a (taskOfByte byte) ≡ true → turnOf a s (taskOfByte byte) ≡ none → Tested a s byte
+  no-offer : isTask a (taskOfByte byte) ≡ true → {turn : Turn} → turnOf a s (taskOfByte byte) ≡ some turn
+      → isOffered a turn (valueOfByte byte) ≡ false → Tested a s byte
+  all-hold : isTask a (taskOfByte byte) ≡ true → {turn : Turn} → turnOf a s (taskOfByte byte) ≡ some turn
+      → isOffered a turn (valueOfByte byte) ≡ true → Tested a s byte
 
 tested : (a : Accepted) (s : State) (byte : ℕ) → Tested a s byte
 tested a s byte =
-    elim (test-decided (isTask a (byte / 16))) [ inl e ↦ go e (turnOf a s (byte / 16)) refl | inr e ↦ no-task e ]
+    elim (test-decided (isTask a (taskOfByte byte))) [ inl e ↦ go e (turnOf a s (taskOfByte byte)) refl | inr e ↦ no-task e ]
   where
-    go : isTask a (byte / 16) ≡ true → (o : Option Turn) → turnOf a s (byte / 16) ≡ o → Tested a s byte
+    go : isTask a (taskOfByte byte) ≡ true → (o : Option Turn) → turnOf a s (taskOfByte byte) ≡ o → Tested a s byte
     go e none due = no-turn e due
     go e (some turn) due =
-        elim (test-decided (isOffered a turn (byte % 16))) [ inl offered ↦ all-hold e due offered | inr other ↦ no-offer e due other ]
+        elim (test-decided (isOffered a turn (valueOfByte byte))) [ inl offered ↦ all-hold e due offered | inr other ↦ no-offer e due other ]
 
 module _ (a : Accepted) (s : State) (index byte : ℕ) where
   -- a byte that passes the tests is a step
   pub stepAt-passed : {next : State} → stepAt a s index byte ≡ passed next → step a s byte ≡ some next
   unfolding stepAt
   stepAt-passed e =
-      let task = then-passed (require (isTask a (byte / 16)) _ index) _ e in
-      let found = bind-passed (given (turnOf a s (byte / 16)) _ index) _ (task .2) in
+      let task = then-passed (require (isTask a (taskOfByte byte)) _ index) _ e in
+      let found = bind-passed (given (turnOf a s (taskOfByte byte)) _ index) _ (task .2) in
       let turn : Turn = found .0 in
-      let offer = then-passed (require (isOffered a turn (byte % 16)) _ index) (passed (performed a s (byte % 16) turn)) (found .2) in
-      let offered = test-holds (isOffered a turn (byte % 16)) (require-passed _ _ index (offer .1)) in
+      let offer = then-passed (require (isOffered a turn (valueOfByte byte)) _ index) (passed (performed a s (valueOfByte byte) turn)) (found .2) in
+      let offered = test-holds (isOffered a turn (valueOfByte byte)) (require-passed _ _ index (offer .1)) in
       offered-steps a s byte turn (given-passed _ _ index (found .1)) offered ∙ ap some (passed-same (offer .2))
 
   -- one that is no step is refused by the first that fails
@@ -76,9 +77,9 @@ module _ (a : Accepted) (s : State) (index byte : ℕ) where
   unfolding stepAt isTask require given _>>=_ _>>_
   step-passes ok inv e =
       let made = step-says a s byte e in
-      let good = good-turn ok inv (byte / 16) (made .due) in
+      let good = good-turn ok inv (taskOfByte byte) (made .due) in
       let known = job-task (ok .isTimed) (made .turn .frame .job) (good .0 .running .job) in
-      let listed : isTask a (byte / 16) ≡ true = lt-ltb (byte / 16) _ (omega (arith, good .1)) in
+      let listed : isTask a (taskOfByte byte) ≡ true = lt-ltb (taskOfByte byte) _ (omega (arith, good .1)) in
       rw (listed, made .due, made .offered) (ap passed (made .made))
 
 -- the number of a slip is one of the three
@@ -122,7 +123,7 @@ module _ {a : Accepted} (ok : IsAccepted a) where
   unfolding allEnded
   step-unended {s} inv byte e =
       let made = step-says a s byte e in
-      let running = good-turn ok inv (byte / 16) (made .due) .0 .running in
+      let running = good-turn ok inv (taskOfByte byte) (made .due) .0 .running in
       elim (test-decided (allEnded a s)) [
         | inl ended ↦ absurd (not-both (hasEnded s (made .turn .frame .job)) (all-jobs a (hasEnded s) ended (made .turn .frame .job) (running .job)) (running .unended))
         | inr going ↦ going

@@ -3,7 +3,7 @@
 -- Assumes nothing.
 use mathlib.Core.Path.{_≡_, refl, sym, ap, subst, _∙_}
 use mathlib.Core.Logic.{inl, inr}
-use Prim.Native.Nat.{ℕ, zero, suc, _/_, _%_, _<_}
+use Prim.Native.Nat.{ℕ, zero, suc, _<_}
 use native.Mathlib.Decide.{ℕ-discrete}
 use native.Mathlib.Omega.{arith}
 use mathlib.Core.Bool.{Bool, true, false, true≢false, not, _&&_, _||_}
@@ -28,6 +28,7 @@ use Rattle.machine.specs.declared.Effect.{Effect}
 use Rattle.machine.specs.declared.Local.{Local}
 use Rattle.machine.specs.Ends.{Flags, flagged, noFlags}
 use Rattle.machine.specs.Instructions.{fresh, perform, values}
+use Rattle.order.specs.OrderBytes.{taskOfByte, valueOfByte}
 use Rattle.order.specs.declared.Frame.{Frame}
 use Rattle.order.specs.Code.Invariant.{Over, IsRunning, hasBegun, Invariant}
 use Rattle.timing.specs.Laws.JobFacts.{job-task, jobs-few}
@@ -361,32 +362,32 @@ module _ {a : Accepted} (ok : IsAccepted a) {s : State} (inv : Invariant a s) wh
 -- what an allowed step is: a turn with a value on offer
 pub record AllowedStep (a : Accepted) (s : State) (byte : ℕ) (after : State) : Type 0 where
   pub turn : Turn
-  pub due : turnOf a s (byte / 16) ≡ some turn
-  pub offered : member (byte % 16) (values (nextOf a (turn .frame))) ≡ true
-  pub made : performed a s (byte % 16) turn ≡ after
+  pub due : turnOf a s (taskOfByte byte) ≡ some turn
+  pub offered : member (valueOfByte byte) (values (nextOf a (turn .frame))) ≡ true
+  pub made : performed a s (valueOfByte byte) turn ≡ after
 
 module _ {a : Accepted} {s : State} {byte : ℕ} {after : State} where
-  offered-says : (turn : Turn) → turnOf a s (byte / 16) ≡ some turn → (b : Bool)
-      → member (byte % 16) (values (nextOf a (turn .frame))) ≡ b
-      → (if b then some (performed a s (byte % 16) turn) else none) ≡ some after → AllowedStep a s byte after
+  offered-says : (turn : Turn) → turnOf a s (taskOfByte byte) ≡ some turn → (b : Bool)
+      → member (valueOfByte byte) (values (nextOf a (turn .frame))) ≡ b
+      → (if b then some (performed a s (valueOfByte byte) turn) else none) ≡ some after → AllowedStep a s byte after
   unfolding if_then_else_
   offered-says turn due true o h = record { turn = turn; due = due; offered = o; made = cc }
   offered-says turn due false o h = absurd (let z : _≡_ {A = ℕ} 0 1 = cc in omega arith)
 
-  turn-says : (o : Option Turn) → turnOf a s (byte / 16) ≡ o → bind o (stepWith a s (byte % 16)) ≡ some after
+  turn-says : (o : Option Turn) → turnOf a s (taskOfByte byte) ≡ o → bind o (stepWith a s (valueOfByte byte)) ≡ some after
       → AllowedStep a s byte after
   unfolding stepWith bind
   turn-says none due h = absurd (let z : _≡_ {A = ℕ} 0 1 = cc in omega arith)
-  turn-says (some turn) due h = offered-says turn due (member (byte % 16) (values (nextOf a (turn .frame)))) refl h
+  turn-says (some turn) due h = offered-says turn due (member (valueOfByte byte) (values (nextOf a (turn .frame)))) refl h
 
 pub step-says : (a : Accepted) (s : State) (byte : ℕ) {after : State} → step a s byte ≡ some after
     → AllowedStep a s byte after
 unfolding step
-step-says a s byte e = turn-says (turnOf a s (byte / 16)) refl e
+step-says a s byte e = turn-says (turnOf a s (taskOfByte byte)) refl e
 
 -- and such a turn is one
-pub offered-steps : (a : Accepted) (s : State) (byte : ℕ) (turn : Turn) → turnOf a s (byte / 16) ≡ some turn
-    → isOffered a turn (byte % 16) ≡ true → step a s byte ≡ some (performed a s (byte % 16) turn)
+pub offered-steps : (a : Accepted) (s : State) (byte : ℕ) (turn : Turn) → turnOf a s (taskOfByte byte) ≡ some turn
+    → isOffered a turn (valueOfByte byte) ≡ true → step a s byte ≡ some (performed a s (valueOfByte byte) turn)
 unfolding step stepWith bind if_then_else_
 offered-steps a s byte turn due offered = rw (due, offered) refl
 
@@ -395,7 +396,7 @@ pub step-keeps : {a : Accepted} → IsAccepted a → {s : State} → Invariant a
     → step a s byte ≡ some after → Invariant a after
 step-keeps {a} ok {s} inv byte e =
     let made = step-says a s byte e in
-    subst (Invariant a) (made .made) (performed-keeps ok inv (byte % 16) (good-turn ok inv (byte / 16) (made .due) .0))
+    subst (Invariant a) (made .made) (performed-keeps ok inv (valueOfByte byte) (good-turn ok inv (taskOfByte byte) (made .due) .0))
 
 -- an order starts from a state that has it
 pub no-flag : (n x : ℕ) → getD (replicate n false) x false ≡ false

@@ -12,13 +12,14 @@ use Rattle.taskfile.specs.Tables.{noTask, endInstruction}
 use Rattle.timing.specs.declared.JobList.{JobList}
 use Rattle.timing.specs.Relations.{noJob}
 use Rattle.order_states.specs.Code.SnapshotSteps.{ownerIn, instructionIn, arrivalIn, latestIn, beforeIn, waitIn}
+use Rattle.order_states.specs.Code.Sizes.{programBytes, waitBytes}
 
 -- the first n instructions, of sixteen for each task, are the table's
 pub record BodiesTo (t : Table) (n : ℕ) (program : List ℕ) : Type 0 where
   pub held : (i p : ℕ) → p < 16 → 16 * i + p < n
       → instructionIn program i p ≡ getD (getD (t .entries) i noTask .body) p endInstruction
   pub unowned : (x : ℕ) → x < 32 → ownerIn program x ≡ 8
-  pub room : length program ≡ 544
+  pub room : length program ≡ programBytes
 
 -- the bodies of its tasks are the table's, and the first n owners are the listed jobs'
 pub record OwnersTo (t : Table) (list : JobList) (n : ℕ) (program : List ℕ) : Type 0 where
@@ -26,7 +27,7 @@ pub record OwnersTo (t : Table) (list : JobList) (n : ℕ) (program : List ℕ) 
       → instructionIn program i p ≡ getD (getD (t .entries) i noTask .body) p endInstruction
   pub owned : (x : ℕ) → x < n → ownerIn program x ≡ getD (list .jobs) x noJob .task .0
   pub unowned : (x : ℕ) → n ≤ x → x < 32 → ownerIn program x ≡ 8
-  pub room : length program ≡ 544
+  pub room : length program ≡ programBytes
 
 -- the first n jobs' times are the listed jobs'
 pub record TimesTo (list : JobList) (n : ℕ) (times : List ℕ) : Type 0 where
@@ -62,4 +63,4 @@ pub record RowFilled (program times : List ℕ) (y n : ℕ) (before after : List
 pub record WaitsTo (program times : List ℕ) (n m : ℕ) (waits : List ℕ) : Type 0 where
   pub rows : (y : ℕ) → y < m → RowTo program times y n waits
   pub blank : (y k : ℕ) → m ≤ y → y < 32 → k < 8 → waitIn waits y k ≡ 0
-  pub room : length waits ≡ 256
+  pub room : length waits ≡ waitBytes

@@ -4,7 +4,7 @@
 -- each task that it need not wait for. The wait table is made from the times, which are the arrival of each of 32
 -- jobs, and from 32 on each one's latest finish. `SnapshotLaws` says that this is the step of `Orders`.
 -- Assumes nothing.
-use Prim.Native.Nat.{ℕ, zero, suc, _+_, _-_, _*_, _/_, _%_}
+use Prim.Native.Nat.{ℕ, zero, suc, _+_, _-_, _*_}
 use mathlib.Core.Bool.{Bool, true, false, not, _&&_, _||_}
 use mathlib.Core.List.{List, [], _∷_, map}
 use lib.ListN.{getD, set, take, replicate}
@@ -18,6 +18,7 @@ use Rattle.machine.specs.Ends.{flagged, noFlags}
 use Rattle.machine.specs.Held.{priority}
 use Rattle.machine.specs.Instructions.{Store, fresh, values, perform}
 use Rattle.order_states.specs.declared.Due.{Due}
+use Rattle.order.specs.OrderBytes.{taskOfByte, valueOfByte}
 use Rattle.order.specs.declared.Frame.{Frame}
 use Rattle.order_states.specs.Code.Snapshots.{Snapshot, Stepped, ReplayEnd}
 
@@ -184,7 +185,7 @@ dueStep program p i v d =
     if d .due then stepWithIn program p (d .frame) (d .under) i v else record { allowed = false; state = p }
 
 unfoldable pub stepIn : Program → WaitTable → Ceilings → Snapshot → ℕ → Stepped
-stepIn program waits locks p byte = dueStep program p (byte / 16) (byte % 16) (turnIn program waits locks p (byte / 16))
+stepIn program waits locks p byte = dueStep program p (taskOfByte byte) (valueOfByte byte) (turnIn program waits locks p (taskOfByte byte))
 
 -- ---- the replay
 
@@ -199,8 +200,8 @@ finishedIn program p = eqb (p .depth) 0 && not (any (hasUnended program (p .unen
 -- value
 unfoldable pub slipIn : Program → WaitTable → Ceilings → ℕ → Snapshot → ℕ → ℕ
 slipIn program waits locks tasks p byte =
-    if ltb (byte / 16) tasks
-    then if turnIn program waits locks p (byte / 16) .due then 34 else 30
+    if ltb (taskOfByte byte) tasks
+    then if turnIn program waits locks p (taskOfByte byte) .due then 34 else 30
     else 33
 
 -- the bytes from `index` on

@@ -15,6 +15,7 @@ use Rattle.notation.specs.Lists.{upTo, bytesAt}
 use Rattle.order.specs.declared.Frame.{Frame}
 use Rattle.order_states.specs.Code.Snapshots.{Snapshot}
 use Rattle.order_states.specs.Code.SnapshotWithin.{AllWithin}
+use Rattle.order_states.specs.Code.Sizes.{stateBytes}
 
 -- where the bytes of the active job at position k start
 unfoldable pub frameAt : ℕ → ℕ
@@ -48,7 +49,7 @@ snapshotIn bytes =
 
 -- the array is whole, at most eight jobs are active, and none holds more than it can by its position
 pub record IsState (bytes : List ℕ) : Type 0 where
-  pub whole : length bytes ≡ 192
+  pub whole : length bytes ≡ stateBytes
   pub few : getD bytes 48 0 ≤ 8
   pub within : AllWithin (snapshotIn bytes)
 

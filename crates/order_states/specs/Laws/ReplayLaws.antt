@@ -3,7 +3,7 @@
 -- Assumes nothing.
 use mathlib.Core.Path.{_≡_, refl, sym, ap, _∙_}
 use mathlib.Core.Logic.{inl, inr}
-use Prim.Native.Nat.{ℕ, zero, suc, _+_, _/_, _≤_, _<_}
+use Prim.Native.Nat.{ℕ, zero, suc, _+_, _≤_, _<_}
 use native.Mathlib.Decide.{ℕ-discrete, decLt}
 use native.Mathlib.Omega.{arith}
 use mathlib.Core.Bool.{true, false}
@@ -23,6 +23,7 @@ use Rattle.timing.specs.Accepted.{Accepted}
 use Rattle.timing.specs.Relations.{IsJob, base}
 use Rattle.machine.specs.Ends.{noFlags}
 use Rattle.order_states.specs.Code.Snapshots.{Snapshot, ReplayEnd}
+use Rattle.order.specs.OrderBytes.{taskOfByte}
 use Rattle.order.specs.Code.Invariant.{Invariant}
 use Rattle.timing.specs.Laws.JobFacts.{jobs-few}
 use Rattle.order.specs.Laws.LengthLaws.{left, step-left}
@@ -161,9 +162,9 @@ module _ {a : Accepted} (ok : IsAccepted a) {program waits : List ℕ} {locks : 
       → slipIn program waits locks (a .table .tasks) p byte ≡ slipOf a s byte
   unfolding slipIn slipOf isTask if_then_else_
   slip-agreed {p} {s} inv shows byte =
-      let turned = turn-turned ok lends inv shows (byte / 16) in
+      let turned = turn-turned ok lends inv shows (taskOfByte byte) in
       let tasks = tasks-length _ (ok .isMade .shaped) in
-      elim (test-decided (turnIn program waits locks p (byte / 16) .due)) [
+      elim (test-decided (turnIn program waits locks p (taskOfByte byte) .due)) [
         | inl e ↦ rw (tasks, e, turned .0 e .due) refl
         | inr e ↦ rw (tasks, e, turned .1 e) refl
       ]

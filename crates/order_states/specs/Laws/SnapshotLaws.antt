@@ -3,7 +3,7 @@
 -- Assumes nothing.
 use mathlib.Core.Path.{_≡_, refl, sym, ap, subst, _∙_}
 use mathlib.Core.Logic.{inl, inr}
-use Prim.Native.Nat.{ℕ, _+_, _/_, _%_, _≤_, _<_}
+use Prim.Native.Nat.{ℕ, _+_, _≤_, _<_}
 use native.Mathlib.Decide.{ℕ-discrete, decLt}
 use native.Mathlib.Omega.{arith}
 use native.Mathlib.Numerals.{add-one}
@@ -26,6 +26,7 @@ use Rattle.machine.specs.declared.Effect.{Effect}
 use Rattle.machine.specs.Ends.{flagged}
 use Rattle.machine.specs.Instructions.{perform, values}
 use Rattle.order_states.specs.declared.Due.{Due}
+use Rattle.order.specs.OrderBytes.{taskOfByte, valueOfByte}
 use Rattle.order.specs.declared.Frame.{Frame}
 use Rattle.order_states.specs.Code.Snapshots.{Snapshot, Stepped}
 use Rattle.order.specs.Code.Invariant.{IsRunning, hasBegun, Invariant}
@@ -185,57 +186,57 @@ module _ {a : Accepted} (ok : IsAccepted a) {program waits : List ℕ} {locks : 
       (r .allowed ≡ true → (after : State) × (step a s byte ≡ some after) × Shows a (r .state) after)
       × (r .allowed ≡ false → step a s byte ≡ none)
 
-  module _ (byte : ℕ) (turn : Turn) (due : turnOf a s (byte / 16) ≡ some turn) (under : ℕ)
+  module _ (byte : ℕ) (turn : Turn) (due : turnOf a s (taskOfByte byte) ≡ some turn) (under : ℕ)
       (below : turn .under ≡ reverse (take under (p .stack))) (room : under < 8) where
-    abbrev good : GoodTurn a s turn × (base a (turn .frame .job) ≡ byte / 16)
-    good = good-turn ok inv (byte / 16) due
+    abbrev good : GoodTurn a s turn × (base a (turn .frame .job) ≡ taskOfByte byte)
+    good = good-turn ok inv (taskOfByte byte) due
 
     abbrev offered : Bool
-    offered = member (byte % 16) (values (nextOf a (turn .frame)))
+    offered = member (valueOfByte byte) (values (nextOf a (turn .frame)))
 
-    step-of : step a s byte ≡ (if offered then some (performed a s (byte % 16) turn) else none)
+    step-of : step a s byte ≡ (if offered then some (performed a s (valueOfByte byte) turn) else none)
     unfolding step stepWith bind
     step-of = rw due refl
 
-    with-of : stepWithIn program p (turn .frame) under (byte / 16) (byte % 16)
+    with-of : stepWithIn program p (turn .frame) under (taskOfByte byte) (valueOfByte byte)
         ≡ (if offered
-        then record { allowed = true; state = afterIn p (turn .frame .job) under (byte / 16) (perform (nextOf a (turn .frame)) (byte % 16) (turn .frame .local) (s .store)) }
+        then record { allowed = true; state = afterIn p (turn .frame .job) under (taskOfByte byte) (perform (nextOf a (turn .frame)) (valueOfByte byte) (turn .frame .local) (s .store)) }
         else record { allowed = false; state = p })
     unfolding stepWithIn offeredIn madeIn
     with-of =
-        let lent = instruction-lent (good .0) (byte / 16) (good .1) under below room in
+        let lent = instruction-lent (good .0) (taskOfByte byte) (good .1) under below room in
         rw (lent .1, lt-ltb (turn .frame .local .next) 16 (lent .0), shows .store) refl
 
-    pub with-agreed : Agreed byte (stepWithIn program p (turn .frame) under (byte / 16) (byte % 16))
+    pub with-agreed : Agreed byte (stepWithIn program p (turn .frame) under (taskOfByte byte) (valueOfByte byte))
     unfolding if_then_else_
     with-agreed =
         elim (test-decided offered) [
           | inl e ↦
-              let effect = perform (nextOf a (turn .frame)) (byte % 16) (turn .frame .local) (s .store) in
-              let is : stepWithIn program p (turn .frame) under (byte / 16) (byte % 16)
-              ≡ record { allowed = true; state = afterIn p (turn .frame .job) under (byte / 16) effect } = with-of ∙ rw e refl in
-              let steps : step a s byte ≡ some (afterEffect s turn effect) = step-of ∙ rw e (ap some (performed-is a s (byte % 16) turn)) in
+              let effect = perform (nextOf a (turn .frame)) (valueOfByte byte) (turn .frame .local) (s .store) in
+              let is : stepWithIn program p (turn .frame) under (taskOfByte byte) (valueOfByte byte)
+              ≡ record { allowed = true; state = afterIn p (turn .frame .job) under (taskOfByte byte) effect } = with-of ∙ rw e refl in
+              let steps : step a s byte ≡ some (afterEffect s turn effect) = step-of ∙ rw e (ap some (performed-is a s (valueOfByte byte) turn)) in
               subst (Agreed byte) (sym is) (
-                λ h. (afterEffect s turn effect, steps, after-shown (good .0) (byte / 16) (good .1) under below room effect),
+                λ h. (afterEffect s turn effect, steps, after-shown (good .0) (taskOfByte byte) (good .1) under below room effect),
                 λ h. absurd (true≢false h),
               )
           | inr e ↦
-              let is : stepWithIn program p (turn .frame) under (byte / 16) (byte % 16) ≡ record { allowed = false; state = p } = with-of ∙ rw e refl in
+              let is : stepWithIn program p (turn .frame) under (taskOfByte byte) (valueOfByte byte) ≡ record { allowed = false; state = p } = with-of ∙ rw e refl in
               subst (Agreed byte) (sym is) (λ h. absurd (true≢false (sym h)), λ h. step-of ∙ rw e refl)
         ]
 
-  due-agreed : (byte : ℕ) (d : Due) → Turned ok lends inv shows (byte / 16) d
-      → Agreed byte (dueStep program p (byte / 16) (byte % 16) d)
+  due-agreed : (byte : ℕ) (d : Due) → Turned ok lends inv shows (taskOfByte byte) d
+      → Agreed byte (dueStep program p (taskOfByte byte) (valueOfByte byte) d)
   unfolding dueStep if_then_else_ step bind
   due-agreed byte d turned =
       elim (test-decided (d .due)) [
         | inl e ↦
             let shown = turned .0 e in
-            let is : stepWithIn program p (shown .turn .frame) (d .under) (byte / 16) (byte % 16) ≡ dueStep program p (byte / 16) (byte % 16) d =
+            let is : stepWithIn program p (shown .turn .frame) (d .under) (taskOfByte byte) (valueOfByte byte) ≡ dueStep program p (taskOfByte byte) (valueOfByte byte) d =
             rw (e, shown .frame) refl in
             subst (Agreed byte) is (with-agreed byte (shown .turn) (shown .due) (d .under) (shown .under) (shown .room))
         | inr e ↦
-            let is : dueStep program p (byte / 16) (byte % 16) d ≡ record { allowed = false; state = p } = rw e refl in
+            let is : dueStep program p (taskOfByte byte) (valueOfByte byte) d ≡ record { allowed = false; state = p } = rw e refl in
             subst (Agreed byte) (sym is) (λ h. absurd (true≢false (sym h)), λ h. rw (turned .1 e) refl)
       ]
 
@@ -243,7 +244,7 @@ module _ {a : Accepted} (ok : IsAccepted a) {program waits : List ℕ} {locks : 
   -- state after it
   pub step-agreed : (byte : ℕ) → Agreed byte (stepIn program waits locks p byte)
   unfolding stepIn
-  step-agreed byte = due-agreed byte (turnIn program waits locks p (byte / 16)) (turn-turned ok lends inv shows (byte / 16))
+  step-agreed byte = due-agreed byte (turnIn program waits locks p (taskOfByte byte)) (turn-turned ok lends inv shows (taskOfByte byte))
 
   -- ---- the end
 

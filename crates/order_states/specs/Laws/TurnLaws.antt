@@ -1,9 +1,10 @@
 -- Laws of the turn and the step on a snapshot, a case of their definitions each: what the tests that the code has
 -- made come to, and what a turn that is due says of its numbers.
 -- Assumes nothing.
+use Rattle.order.specs.OrderBytes.{taskOfByte, valueOfByte}
 use mathlib.Core.Path.{_≡_, refl, sym, ap, subst, _∙_}
 use mathlib.Core.Logic.{inl, inr}
-use Prim.Native.Nat.{ℕ, _-_, _/_, _%_, _≤_, _<_}
+use Prim.Native.Nat.{ℕ, _-_, _≤_, _<_}
 use native.Mathlib.Omega.{arith}
 use mathlib.Core.Bool.{Bool, true, false, true≢false, not, _&&_}
 use mathlib.Core.List.{List}
@@ -108,23 +109,23 @@ module _ (program waits : List ℕ) (locks : Ceilings) (p : Snapshot) (i : ℕ) 
 -- ---- the step
 
 module _ (program waits : List ℕ) (locks : Ceilings) (p : Snapshot) (byte : ℕ) {d : Due}
-    (is : d ≡ turnIn program waits locks p (byte / 16)) where
-  step-of : dueStep program p (byte / 16) (byte % 16) d ≡ stepIn program waits locks p byte
+    (is : d ≡ turnIn program waits locks p (taskOfByte byte)) where
+  step-of : dueStep program p (taskOfByte byte) (valueOfByte byte) d ≡ stepIn program waits locks p byte
   unfolding stepIn
-  step-of = ap (dueStep program p (byte / 16) (byte % 16)) is
+  step-of = ap (dueStep program p (taskOfByte byte) (valueOfByte byte)) is
 
   -- where nobody is due, there is no step
   pub step-none : not (d .due) ≡ true → record { allowed = false; state = p } ≡ stepIn program waits locks p byte
   unfolding dueStep if_then_else_
   step-none h =
-      let stays : dueStep program p (byte / 16) (byte % 16) d ≡ record { allowed = false; state = p } = rw (not-true (d .due) h) refl in
+      let stays : dueStep program p (taskOfByte byte) (valueOfByte byte) d ≡ record { allowed = false; state = p } = rw (not-true (d .due) h) refl in
       sym stays ∙ step-of
 
   -- else the job that is due steps
   pub step-due : not (d .due) ≡ false → {r : Stepped}
-      → r ≡ stepWithIn program p (d .frame) (d .under) (byte / 16) (byte % 16) → r ≡ stepIn program waits locks p byte
+      → r ≡ stepWithIn program p (d .frame) (d .under) (taskOfByte byte) (valueOfByte byte) → r ≡ stepIn program waits locks p byte
   unfolding dueStep if_then_else_
   step-due h made =
-      let goes : dueStep program p (byte / 16) (byte % 16) d ≡ stepWithIn program p (d .frame) (d .under) (byte / 16) (byte % 16) =
+      let goes : dueStep program p (taskOfByte byte) (valueOfByte byte) d ≡ stepWithIn program p (d .frame) (d .under) (taskOfByte byte) (valueOfByte byte) =
       rw (not-false (d .due) h) refl in
       made ∙ sym goes ∙ step-of

@@ -2,11 +2,12 @@
 -- makes.
 -- Assumes nothing.
 use mathlib.Core.Path.{_≡_}
-use Prim.Native.Nat.{ℕ, _/_, _%_, _≤_, _<_}
+use Prim.Native.Nat.{ℕ, _≤_, _<_}
 use mathlib.Core.List.{List}
 use lib.Dec.{eqb}
 use Rattle.notation.specs.Lists.{if_then_else_}
 use Rattle.machine.specs.Code.Within.{LocksWithin}
+use Rattle.order.specs.OrderBytes.{taskOfByte, valueOfByte}
 use Rattle.order.specs.declared.Frame.{Frame}
 use Rattle.order_states.specs.declared.Due.{Due}
 use Rattle.order_states.specs.Code.Snapshots.{Snapshot}
@@ -24,11 +25,11 @@ moverIn p top i = if eqb i top then topTurn p else startTurn p i
 -- what a move asks of the state that the bytes hold: whose turn it is has a place among the active jobs, and can step
 abbrev pub Movable : List ℕ → ℕ → ℕ → Type 0
 Movable bytes top byte =
-    IsState bytes × (byte < 128) × (byte / 16 ≡ top → 1 ≤ snapshotIn bytes .depth)
-    × (moverIn (snapshotIn bytes) top (byte / 16) .under < 8)
-    × Steppable (moverIn (snapshotIn bytes) top (byte / 16) .frame)
+    IsState bytes × (byte < 128) × (taskOfByte byte ≡ top → 1 ≤ snapshotIn bytes .depth)
+    × (moverIn (snapshotIn bytes) top (taskOfByte byte) .under < 8)
+    × Steppable (moverIn (snapshotIn bytes) top (taskOfByte byte) .frame)
 
 -- the snapshot after the move
 unfoldable pub movedIn : Program → Snapshot → ℕ → ℕ → Snapshot
 movedIn program p top byte =
-    let d = moverIn p top (byte / 16) in madeIn program p (d .frame) (d .under) (byte / 16) (byte % 16)
+    let d = moverIn p top (taskOfByte byte) in madeIn program p (d .frame) (d .under) (taskOfByte byte) (valueOfByte byte)

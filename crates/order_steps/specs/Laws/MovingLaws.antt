@@ -1,13 +1,14 @@
 -- Laws of a move on a state's bytes: the job that has the turn is placed, or stands there already, and then steps.
 -- Assumes nothing.
 use mathlib.Core.Path.{_≡_, refl, sym, ap, subst, _∙_}
-use Prim.Native.Nat.{ℕ, _+_, _-_, _/_, _%_, _≤_, _<_}
+use Prim.Native.Nat.{ℕ, _+_, _-_, _≤_, _<_}
 use mathlib.Core.List.{List}
 use lib.ListN.{getD}
 use borrow.Author.Tests.{eq-eqb, ne-eqb}
 use Rattle.notation.specs.Lists.{if_then_else_}
 use Rattle.machine.specs.declared.Local.{Local}
 use Rattle.machine.specs.Instructions.{fresh}
+use Rattle.order.specs.OrderBytes.{taskOfByte, valueOfByte}
 use Rattle.order.specs.declared.Frame.{Frame}
 use Rattle.order_states.specs.declared.Due.{Due}
 use Rattle.order_states.specs.Code.Snapshots.{Snapshot}
@@ -77,9 +78,9 @@ module _ (before : List ℕ) (top i : ℕ) where
 -- ---- the move
 
 -- the step of the job of this turn is the move
-pub move-made : (program : List ℕ) (p : Snapshot) (top byte : ℕ) {k : ℕ} → k ≡ moverIn p top (byte / 16) .under
-    → {q : Snapshot} → q ≡ madeIn program p (moverIn p top (byte / 16) .frame) k (byte / 16) (byte % 16)
+pub move-made : (program : List ℕ) (p : Snapshot) (top byte : ℕ) {k : ℕ} → k ≡ moverIn p top (taskOfByte byte) .under
+    → {q : Snapshot} → q ≡ madeIn program p (moverIn p top (taskOfByte byte) .frame) k (taskOfByte byte) (valueOfByte byte)
     → q ≡ movedIn program p top byte
 unfolding movedIn
 move-made program p top byte position made =
-    made ∙ ap (λ (n : ℕ). madeIn program p (moverIn p top (byte / 16) .frame) n (byte / 16) (byte % 16)) position
+    made ∙ ap (λ (n : ℕ). madeIn program p (moverIn p top (taskOfByte byte) .frame) n (taskOfByte byte) (valueOfByte byte)) position

@@ -72,7 +72,15 @@ withMark marks x n step =
     set (set (set (set marks (16 * x + n) (step .round .0)) (512 + (16 * x + n)) (step .value))
     (1024 + (16 * x + n)) (step .priorityAfter)) (1536 + x) (n + 1)
 
+-- the array of the rounds' stores: eight bytes for each round
+abbrev pub storesBytes : ℕ
+storesBytes = 256
+
+-- the array of marks: a round, a value and a priority for each step of each job, and each job's number of steps
+abbrev pub markBytes : ℕ
+markBytes = 1568
+
 -- the array of marks is whole, and no job has more than sixteen steps
 pub record IsMarks (marks : List ℕ) : Type 0 where
-  pub whole : length marks ≡ 1568
+  pub whole : length marks ≡ markBytes
   pub few : (x : ℕ) → x < 32 → stepCount marks x ≤ 16

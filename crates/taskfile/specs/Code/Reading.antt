@@ -1,5 +1,5 @@
 -- What the functions of the reader yield, in terms of the definitions: a check as the declared enum, the records
--- reached as marks, and chains by following indices.
+-- reached as flags, and chains by following indices.
 -- Assumes nothing.
 use mathlib.Core.Path.{_≡_}
 use Prim.Native.Nat.{ℕ, zero, suc}
@@ -26,14 +26,14 @@ unfoldable pub judgedOf : {A : Type 0} → Checked Site A → Judged
 judgedOf (refused number site) = Faulty number site
 judgedOf (passed value) = Sound
 
--- a mark for each of 256 records: was it reached?
-unfoldable pub marks : List ℕ → List Bool
-marks reached = map (λ r. member r reached) (upTo 256)
+-- a flag for each of 256 records: was it reached?
+unfoldable pub seenOf : List ℕ → List Bool
+seenOf reached = map (λ r. member r reached) (upTo 256)
 
--- a chain that was read: its check and, if it passed, the marks with its records (`all` of them) added
+-- a chain that was read: its check and, if it passed, the flags with its records (`all` of them) added
 abbrev pub ChainedAs : {A : Type 0} → (A → List ℕ) → Check → List Bool → List ℕ → Checked ℕ A → Type 0
 ChainedAs all check seen reached (refused number place) = check ≡ Refused number place
-ChainedAs all check seen reached (passed a) = (check ≡ Passed) × (seen ≡ marks (all a ++ reached))
+ChainedAs all check seen reached (passed a) = (check ≡ Passed) × (seen ≡ seenOf (all a ++ reached))
 
 -- the records of a chain by following indices, at most n
 unfoldable pub linked : File → ℕ → ℕ → List ℕ

@@ -16,14 +16,14 @@ use Rattle.taskfile.specs.Laws.CheckSteps.{noneOf-upTo, noneOf-upTo-none
 use Rattle.notation.specs.Laws.CheckedLaws.{require-holds, require-fails, then-passed, require-passed}
 use Rattle.notation.specs.Checked.{refused, passed, require, noneOf, _>>=_, _>>_}
 use Rattle.notation.specs.Lists.{upTo, member}
-use Rattle.taskfile.specs.Laws.MarksLaws.{marks-at}
-use Rattle.taskfile.specs.Code.Reading.{marks}
+use Rattle.taskfile.specs.Laws.SeenLaws.{seen-at}
+use Rattle.taskfile.specs.Code.Reading.{seenOf}
 use Rattle.taskfile.specs.Records.{File, kindNumber, records, byteAt, next, tidy, inRange}
 
--- 6: the marks of the records below n say which of them was never reached
-module _ (seen : List Bool) (reached : List ℕ) (marked : seen ≡ marks reached) where
+-- 6: the flags of the records below n say which of them was never reached
+module _ (seen : List Bool) (reached : List ℕ) (marked : seen ≡ seenOf reached) where
   reached-at : (k : ℕ) (b : Bool) → k < 256 → getD seen k false ≡ b → not (member k reached) ≡ not b
-  reached-at k b h e = ap not (sym (marks-at reached k h) ∙ ap (λ l. getD l k false) (sym marked) ∙ e)
+  reached-at k b h e = ap not (sym (seen-at reached k h) ∙ ap (λ l. getD l k false) (sym marked) ∙ e)
 
   module _ (n : ℕ) (few : n ≤ 256) where
     pub record-stray : (r : ℕ) → r < n → ((k : ℕ) → k < r → getD seen k false ≡ true) → getD seen r false ≡ false

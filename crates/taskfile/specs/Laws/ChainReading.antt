@@ -1,4 +1,4 @@
--- Laws of reading the chains: from the marks of the records reached and what each part of the walk came to, what the
+-- Laws of reading the chains: from which records were reached and what each part of the walk came to, what the
 -- whole comes to. Each law is one way out of a function that reads.
 -- Assumes nothing.
 use mathlib.Core.Path.{_≡_, refl, sym, ap, _∙_}
@@ -19,8 +19,8 @@ use Rattle.taskfile.specs.Laws.CheckSteps.{checkOf-passed, checkOf-refus
 use Rattle.notation.specs.Laws.CheckedLaws.{require-holds, require-fails, bind-refused, bind-goes, then-refused, then-goes}
 use Rattle.notation.specs.Checked.{Checked, refused, passed, noneOf, _>>=_, _>>_}
 use Rattle.notation.specs.Lists.{upTo, member, each}
-use Rattle.taskfile.specs.Laws.MarksLaws.{marks-at, marks-moved, marks-swapped, marks-more, marks-none}
-use Rattle.taskfile.specs.Code.Reading.{checkOf, marks, ChainedAs}
+use Rattle.taskfile.specs.Laws.SeenLaws.{seen-at, seen-moved, seen-swapped, seen-more, seen-none}
+use Rattle.taskfile.specs.Code.Reading.{checkOf, seenOf, ChainedAs}
 use Rattle.taskfile.specs.Records.{File, records, byteAt, next}
 
 -- A chain that was read: what its check says of the definition's chain, and the other way round.
@@ -29,7 +29,7 @@ module _ {A : Type 0} (all : A → List ℕ) (check : Check) (seen : List Bool) 
       → ChainedAs all check seen reached c
   chained-refused c e h = rw e h
 
-  chained-passed : (c : Checked ℕ A) {a : A} → c ≡ passed a → check ≡ Passed → seen ≡ marks (all a ++ reached)
+  chained-passed : (c : Checked ℕ A) {a : A} → c ≡ passed a → check ≡ Passed → seen ≡ seenOf (all a ++ reached)
       → ChainedAs all check seen reached c
   chained-passed c e h m = rw e (h, m)
 
@@ -39,13 +39,13 @@ module _ {A : Type 0} (all : A → List ℕ) (check : Check) (seen : List Bool) 
   refused-chained (passed a) h e = absurd (let z : _≡_ {A = ℕ} 0 1 = cc in omega arith)
 
   passed-chained : (c : Checked ℕ A) → ChainedAs all check seen reached c → check ≡ Passed
-      → (a : A) × (c ≡ passed a) × (seen ≡ marks (all a ++ reached))
+      → (a : A) × (c ≡ passed a) × (seen ≡ seenOf (all a ++ reached))
   passed-chained (refused n p) h e = absurd (let z : _≡_ {A = ℕ} 0 1 = cc in omega arith)
   passed-chained (passed a) h e = (a, refl, h .1)
 
   -- the records of what comes first are added to a chain that was read after them
   chained-on : {B : Type 0} (whole : B → List ℕ) (before : List ℕ) (k : A → B)
-      → ((a : A) → marks (all a ++ reached) ≡ marks (whole (k a) ++ before)) → (c : Checked ℕ A)
+      → ((a : A) → seenOf (all a ++ reached) ≡ seenOf (whole (k a) ++ before)) → (c : Checked ℕ A)
       → ChainedAs all check seen reached c → ChainedAs whole check seen before (_>>=_ c (λ a. passed (k a)))
   unfolding _>>=_
   chained-on whole before k same (refused n p) h = h
@@ -57,19 +57,19 @@ pub step-allowed : (kind : Kind) (allowed : ℕ) (f : File) (again : Bool) (hold
 step-allowed kind allowed f again holder index step followed e =
     follow-allowed kind allowed f again holder index (checkOf-passed _ (sym followed ∙ e) .1)
 
--- The step from `holder` to an index, by the marks `seen` of the records reached.
+-- The step from `holder` to an index, by the flags `seen` of the records reached.
 module _ (kind : Kind) (allowed : ℕ) (f : File) (seen : List Bool) (holder index : ℕ) (step : Check)
     (followed : step ≡ checkOf (follow kind allowed f (getD seen index false) holder index)) (byte : index < 256)
-    (reached : List ℕ) (marked : seen ≡ marks reached) where
-  step-marked : step ≡ checkOf (follow kind allowed f (member index reached) holder index)
-  step-marked = followed ∙ rw (marked, marks-at reached index byte)
+    (reached : List ℕ) (marked : seen ≡ seenOf reached) where
+  step-seen : step ≡ checkOf (follow kind allowed f (member index reached) holder index)
+  step-seen = followed ∙ rw (marked, seen-at reached index byte)
 
   step-refused : {number place : ℕ} → step ≡ Refused number place
       → follow kind allowed f (member index reached) holder index ≡ refused number place
-  step-refused e = checkOf-refused _ (sym step-marked ∙ e)
+  step-refused e = checkOf-refused _ (sym step-seen ∙ e)
 
   step-passed : step ≡ Passed → follow kind allowed f (member index reached) holder index ≡ passed tt
-  step-passed e = checkOf-passed _ (sym step-marked ∙ e) .1
+  step-passed e = checkOf-passed _ (sym step-seen ∙ e) .1
 
 -- Reading a chain of records of one kind.
 abbrev ChainRead : Check → List Bool → Kind → ℕ → File → List ℕ → ℕ → ℕ → Type 0
@@ -77,7 +77,7 @@ ChainRead x after kind allowed f reached holder index =
     ChainedAs (λ l. l) x after reached (chain kind allowed f reached holder index)
 
 module _ (kind : Kind) (allowed : ℕ) (f : File) (seen : List Bool) (holder index : ℕ) where
-  pub chain-empty : index ≡ 0 → (reached : List ℕ) → seen ≡ marks reached
+  pub chain-empty : index ≡ 0 → (reached : List ℕ) → seen ≡ seenOf reached
       → ChainRead Passed seen kind allowed f reached holder index
   chain-empty e reached marked =
       chained-passed _ _ _ reached _ (ap (λ i. chain kind allowed f reached holder i) e ∙ chain-ends kind f reached holder allowed)
@@ -86,16 +86,16 @@ module _ (kind : Kind) (allowed : ℕ) (f : File) (seen : List Bool) (holder ind
   module _ (some : index ≡ 0 → ⊥) (byte : index < 256) (step : Check)
       (followed : step ≡ checkOf (follow kind allowed f (getD seen index false) holder index)) where
     pub chain-stops : {number place : ℕ} → step ≡ Refused number place → (after : List Bool)
-        → (reached : List ℕ) → seen ≡ marks reached → ChainRead step after kind allowed f reached holder index
+        → (reached : List ℕ) → seen ≡ seenOf reached → ChainRead step after kind allowed f reached holder index
     chain-stops e after reached marked =
         chained-refused _ _ after reached _
         (chain-refused kind f reached holder allowed index some
         (step-refused kind allowed f seen holder index step followed byte reached marked e)) e
 
     module _ (passes : step ≡ Passed) (next-index : ℕ) (next-is : next-index ≡ next f index) (x : Check) (after : List Bool)
-        (read : (reached : List ℕ) → set seen index true ≡ marks reached
+        (read : (reached : List ℕ) → set seen index true ≡ seenOf reached
         → ChainRead x after kind (allowed - 1) f reached index next-index) where
-      pub chain-goes-on : (reached : List ℕ) → seen ≡ marks reached → ChainRead x after kind allowed f reached holder index
+      pub chain-goes-on : (reached : List ℕ) → seen ≡ seenOf reached → ChainRead x after kind allowed f reached holder index
       chain-goes-on reached marked =
           let goes : chain kind allowed f reached holder index
           ≡ _>>=_ (chain kind (allowed - 1) f (index ∷ reached) index next-index) (λ others. passed (index ∷ others)) =
@@ -104,8 +104,8 @@ module _ (kind : Kind) (allowed : ℕ) (f : File) (seen : List Bool) (holder ind
           ∙ rw (← next-is) in
           rw goes
           (chained-on _ x after (index ∷ reached) (λ l. l) reached (λ others. index ∷ others)
-          (λ others. marks-moved others (index ∷ []) reached) _
-          (read (index ∷ reached) (marks-more seen reached index byte marked)))
+          (λ others. seen-moved others (index ∷ []) reached) _
+          (read (index ∷ reached) (seen-more seen reached index byte marked)))
 
 -- Reading a body.
 abbrev BodyRead : Check → List Bool → File → List ℕ → ℕ → Type 0
@@ -130,7 +130,7 @@ TasksRead x after allowed f reached holder index =
     ChainedAs recordsOf x after reached (taskChains allowed f reached holder index)
 
 module _ (allowed : ℕ) (f : File) (seen : List Bool) (holder index : ℕ) where
-  pub tasks-empty : index ≡ 0 → (reached : List ℕ) → seen ≡ marks reached
+  pub tasks-empty : index ≡ 0 → (reached : List ℕ) → seen ≡ seenOf reached
       → TasksRead Passed seen allowed f reached holder index
   unfolding recordsOf each
   tasks-empty e reached marked =
@@ -139,15 +139,15 @@ module _ (allowed : ℕ) (f : File) (seen : List Bool) (holder index : ℕ) wher
   module _ (some : index ≡ 0 → ⊥) (byte : index < 256) (step : Check)
       (followed : step ≡ checkOf (follow TaskRecord allowed f (getD seen index false) holder index)) where
     pub tasks-stop : {number place : ℕ} → step ≡ Refused number place → (after : List Bool)
-        → (reached : List ℕ) → seen ≡ marks reached → TasksRead step after allowed f reached holder index
+        → (reached : List ℕ) → seen ≡ seenOf reached → TasksRead step after allowed f reached holder index
     tasks-stop e after reached marked =
         chained-refused _ _ after reached _
         (tasks-refused f reached holder allowed index some
         (step-refused TaskRecord allowed f seen holder index step followed byte reached marked e)) e
 
     module _ (passes : step ≡ Passed) (whole : Check) (within : List Bool)
-        (bodyRead : (reached : List ℕ) → set seen index true ≡ marks reached → BodyRead whole within f reached index) where
-      tasks-on : (reached : List ℕ) → seen ≡ marks reached → taskChains allowed f reached holder index
+        (bodyRead : (reached : List ℕ) → set seen index true ≡ seenOf reached → BodyRead whole within f reached index) where
+      tasks-on : (reached : List ℕ) → seen ≡ seenOf reached → taskChains allowed f reached holder index
           ≡ _>>=_ (bodyChain f (index ∷ reached) index) (λ body.
           _>>=_ (taskChains (allowed - 1) f (index ∷ body ++ reached) index (next f index)) (λ others.
           passed (record { taskRecord = index; body = body } ∷ others)))
@@ -156,17 +156,17 @@ module _ (allowed : ℕ) (f : File) (seen : List Bool) (holder index : ℕ) wher
           (step-passed TaskRecord allowed f seen holder index step followed byte reached marked passes)
 
       pub body-breaks : {number place : ℕ} → whole ≡ Refused number place → (after : List Bool)
-          → (reached : List ℕ) → seen ≡ marks reached → TasksRead whole after allowed f reached holder index
+          → (reached : List ℕ) → seen ≡ seenOf reached → TasksRead whole after allowed f reached holder index
       body-breaks e after reached marked =
-          let body = refused-chained _ _ within _ _ (bodyRead (index ∷ reached) (marks-more seen reached index byte marked)) e in
+          let body = refused-chained _ _ within _ _ (bodyRead (index ∷ reached) (seen-more seen reached index byte marked)) e in
           chained-refused _ _ after reached _ (tasks-on reached marked ∙ bind-refused _ body) e
 
       module _ (complete : whole ≡ Passed) (next-index : ℕ) (next-is : next-index ≡ next f index) (x : Check) (after : List Bool)
-          (read : (reached : List ℕ) → within ≡ marks reached → TasksRead x after (allowed - 1) f reached index next-index) where
-        pub tasks-go-on : (reached : List ℕ) → seen ≡ marks reached → TasksRead x after allowed f reached holder index
+          (read : (reached : List ℕ) → within ≡ seenOf reached → TasksRead x after (allowed - 1) f reached index next-index) where
+        pub tasks-go-on : (reached : List ℕ) → seen ≡ seenOf reached → TasksRead x after allowed f reached holder index
         unfolding recordsOf each
         tasks-go-on reached marked =
-            let body = passed-chained _ _ within _ _ (bodyRead (index ∷ reached) (marks-more seen reached index byte marked)) complete in
+            let body = passed-chained _ _ within _ _ (bodyRead (index ∷ reached) (seen-more seen reached index byte marked)) complete in
             let goes : taskChains allowed f reached holder index
             ≡ _>>=_ (taskChains (allowed - 1) f (index ∷ body .0 ++ reached) index next-index) (λ others.
             passed (record { taskRecord = index; body = body .0 } ∷ others)) =
@@ -174,8 +174,8 @@ module _ (allowed : ℕ) (f : File) (seen : List Bool) (holder index : ℕ) wher
             rw goes
             (chained-on _ x after (index ∷ body .0 ++ reached) recordsOf reached
             (λ others. record { taskRecord = index; body = body .0 } ∷ others)
-            (λ others. marks-moved (recordsOf others) (index ∷ body .0) reached) _
-            (read (index ∷ body .0 ++ reached) (body .2 ∙ marks-moved (body .0) (index ∷ []) reached)))
+            (λ others. seen-moved (recordsOf others) (index ∷ body .0) reached) _
+            (read (index ∷ body .0 ++ reached) (body .2 ∙ seen-moved (body .0) (index ∷ []) reached)))
 
 -- The whole walk. What follows once the tasks are read, and once the locks are:
 abbrev afterLocks : File → List TaskChain → List ℕ → Checked ℕ Chains
@@ -200,7 +200,7 @@ module _ (f : File) (head : Check) (headed : head ≡ checkOf (recordOf Header f
         check-comes (then-goes _ header-passes ∙ require-fails _ 5 0 _ (ap not (eq-eqb _ 0 (sym first-is ∙ e))))
 
     module _ (some : first ≡ 0 → ⊥) (tasks : Check) (within : List Bool)
-        (tasksRead : (reached : List ℕ) → set (replicate 256 false) 0 true ≡ marks reached
+        (tasksRead : (reached : List ℕ) → set (replicate 256 false) 0 true ≡ seenOf reached
         → TasksRead tasks within 8 f reached 0 first) where
       chains-start : chainsOf f ≡ _>>=_ (taskChains 8 f (0 ∷ []) 0 first) (afterTasks f)
       unfolding chainsOf
@@ -208,14 +208,14 @@ module _ (f : File) (head : Check) (headed : head ≡ checkOf (recordOf Header f
           then-goes _ header-passes ∙ require-holds _ 5 0 _ (ap not (ne-eqb _ 0 (λ e. some (first-is ∙ e)))) ∙ rw (← first-is)
 
       readTasks : TasksRead tasks within 8 f (0 ∷ []) 0 first
-      readTasks = tasksRead (0 ∷ []) (marks-more (replicate 256 false) [] 0 (lit< tt) marks-none)
+      readTasks = tasksRead (0 ∷ []) (seen-more (replicate 256 false) [] 0 (lit< tt) seen-none)
 
       pub tasks-fail : {number place : ℕ} → tasks ≡ Refused number place → tasks ≡ checkOf (chainsOf f)
       unfolding checkOf
       tasks-fail e = e ∙ check-comes (chains-start ∙ bind-refused _ (refused-chained _ _ within _ _ readTasks e))
 
       module _ (tasksPass : tasks ≡ Passed) (lock : ℕ) (lock-is : lock ≡ byteAt f 0 3) (locks : Check) (after : List Bool)
-          (locksRead : (reached : List ℕ) → within ≡ marks reached
+          (locksRead : (reached : List ℕ) → within ≡ seenOf reached
           → ChainRead locks after LockRecord 8 f reached 0 lock) where
         -- the tasks found, and how the locks were read after them
         found : (t : List TaskChain)
@@ -225,7 +225,7 @@ module _ (f : File) (head : Check) (headed : head ≡ checkOf (recordOf Header f
             let t = passed-chained _ _ within _ _ readTasks tasksPass in (
               t .0,
               chains-start ∙ bind-goes _ (t .1) ∙ rw (← lock-is),
-              locksRead (0 ∷ recordsOf (t .0)) (t .2 ∙ marks-swapped (recordsOf (t .0)) (0 ∷ [])),
+              locksRead (0 ∷ recordsOf (t .0)) (t .2 ∙ seen-swapped (recordsOf (t .0)) (0 ∷ [])),
             )
 
         pub locks-fail : {number place : ℕ} → locks ≡ Refused number place → locks ≡ checkOf (chainsOf f)
@@ -233,12 +233,12 @@ module _ (f : File) (head : Check) (headed : head ≡ checkOf (recordOf Header f
         locks-fail e = e ∙ check-comes (found .1 ∙ bind-refused _ (refused-chained _ _ after _ _ (found .2) e))
 
         pub chains-read : locks ≡ Passed → (x : Check)
-            → ((reached : List ℕ) → after ≡ marks reached
+            → ((reached : List ℕ) → after ≡ seenOf reached
             → x ≡ checkOf (noneOf 6 (λ r. not (member r reached)) (upTo (records f))))
             → x ≡ checkOf (chainsOf f)
         unfolding noStray reachedBy
         chains-read locksPass x checked =
             let l = passed-chained _ _ after _ _ (found .2) locksPass in
-            checked (0 ∷ recordsOf (found .0) ++ l .0) (l .2 ∙ marks-swapped (l .0) (0 ∷ recordsOf (found .0)))
+            checked (0 ∷ recordsOf (found .0) ++ l .0) (l .2 ∙ seen-swapped (l .0) (0 ∷ recordsOf (found .0)))
             ∙ comes-then _ _
             ∙ check-comes (found .1 ∙ bind-goes _ (l .1))

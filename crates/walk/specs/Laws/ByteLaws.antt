@@ -3,7 +3,7 @@
 -- Assumes nothing.
 use mathlib.Core.Path.{_≡_, refl, sym, ap, ap₂, _∙_}
 use mathlib.Core.Logic.{_⊎_, inl, inr}
-use Prim.Native.Nat.{ℕ, zero, suc, _+_, _/_, _≤_, _<_}
+use Prim.Native.Nat.{ℕ, zero, suc, _+_, _≤_, _<_}
 use native.Mathlib.Decide.{ℕ-discrete}
 use native.Mathlib.Omega.{arith}
 use mathlib.Core.List.{List, [], _∷_, List·Memᴰ, List·Memᴰ·head, List·Memᴰ·tail, List·Memᴰ·not-nil, List·Memᴰ·cases-cons}
@@ -12,6 +12,7 @@ use Rattle.notation.specs.Laws.PairLaws.{every-imp, every-member}
 use Rattle.notation.specs.Ordered.{Every, Ordered}
 use Rattle.timing.specs.Accepted.{Accepted}
 use Rattle.timing.specs.Code.IsAccepted.{IsAccepted}
+use Rattle.order.specs.OrderBytes.{taskOfByte}
 use Rattle.order.specs.Code.Invariant.{Invariant}
 use Rattle.order.specs.Orders.{step}
 use Rattle.timing.specs.Laws.BaseLaws.{base-small}
@@ -149,7 +150,7 @@ module _ {a : Accepted} (ok : IsAccepted a) {s : State} (inv : Invariant a s) wh
   step-small : (byte : ℕ) {after : State} → step a s byte ≡ some after → byte < 128
   step-small byte e =
       let made = step-says a s byte e in
-      let good = good-turn ok inv (byte / 16) (made .due) in
+      let good = good-turn ok inv (taskOfByte byte) (made .due) in
       omega (arith, good .1, base-small ok (made .turn .frame .job) (good .0 .running .job))
 
 -- the moves in the walk's order are all bytes below 128 that are steps, ascending

@@ -15,7 +15,7 @@ use Rattle.notation.specs.Laws.TestLaws.{not-both}
 use Rattle.timing.specs.Accepted.{Accepted}
 use Rattle.timing.specs.Code.IsAccepted.{IsAccepted}
 use Rattle.machine.specs.Ends.{End}
-use Rattle.order.specs.Orders.{OrderEnds}
+use Rattle.order.specs.Orders.{OrderEnds, mostSteps}
 use Rattle.order.specs.States.{initial}
 use Rattle.order.specs.Laws.StepLaws.{initial-invariant}
 use Rattle.walk.specs.Code.FromState.{ordersFrom, walkFrom}
@@ -24,7 +24,6 @@ use Rattle.walk.specs.Laws.ListedLaws.{from-listed, listed-from, from-as
 use Rattle.walk.specs.Paths.{BranchesLower}
 use Rattle.walk.specs.Laws.WalkLaws.{walk-from-first}
 use Rattle.walk.specs.Walks.{EndedOrder, fails, orders, walk}
-use Rattle.machine.specs.Buffers.{orderRoom}
 use Rattle.notation.specs.Laws.PairLaws.{every-member}
 
 module _ {A : Type 0} (test : A → Bool) where
@@ -81,13 +80,13 @@ module _ {a : Accepted} (ok : IsAccepted a) where
   order-listed {order} {end} whole =
       let full = whole .complete in
       subst (λ (e : End). List·Memᴰ (record { bytes = order; ending = e }) (orders a)) (whole .ends)
-      (from-listed ok orderRoom (initial-invariant a) order (full .short) (full .allowed) (full .finished))
+      (from-listed ok mostSteps (initial-invariant a) order (full .short) (full .allowed) (full .finished))
 
   -- whatever is listed is a complete order, with its end
   pub listed-complete : (f : EndedOrder) → List·Memᴰ f (orders a) → OrderEnds a (f .bytes) (f .ending)
   unfolding orders ordersFrom
   listed-complete f here =
-      let ends = listed-from ok orderRoom (initial-invariant a) here in
+      let ends = listed-from ok mostSteps (initial-invariant a) here in
       record {
         after = ends .after;
         complete = record { allowed = ends .allowed; finished = ends .finished; short = ends .short };
@@ -98,20 +97,20 @@ module _ {a : Accepted} (ok : IsAccepted a) where
   pub walk-first : (f : EndedOrder) → walk a .failing ≡ some f → FirstFailing a (f .bytes) (f .ending)
   unfolding walk orders walkFrom ordersFrom
   walk-first f e =
-      let is = sym (walk-from-first a orderRoom (initial a)) ∙ e in
+      let is = sym (walk-from-first a mostSteps (initial a)) ∙ e in
       let found = first-member (λ g. fails (g .ending)) (orders a) is in
       record {
         failing = record { complete = listed-complete f (found .0); failed = found .1 };
         first = λ other end fails'.
             elim (first-related (λ g. fails (g .ending)) (λ g h. BranchesLower (g .bytes) (h .bytes)) (orders a)
-            (from-ascends ok orderRoom (initial-invariant a)) is (order-listed (fails' .complete)) (fails' .failed)) [
+            (from-ascends ok mostSteps (initial-invariant a)) is (order-listed (fails' .complete)) (fails' .failed)) [
               | inl same ↦ inl (ap (λ (g : EndedOrder). g .bytes) same)
               | inr later ↦ inr later
             ];
       }
 
   -- it is no longer than an order may be
-  pub walk-short : (f : EndedOrder) → walk a .failing ≡ some f → length (f .bytes) ≤ orderRoom
+  pub walk-short : (f : EndedOrder) → walk a .failing ≡ some f → length (f .bytes) ≤ mostSteps
   walk-short f e = walk-first f e .failing .complete .complete .short
 
   -- where the walk finds one, some complete order fails
@@ -122,5 +121,5 @@ module _ {a : Accepted} (ok : IsAccepted a) where
   pub walk-holds : walk a .failing ≡ none → SomeFails a → ⊥
   unfolding walk orders walkFrom ordersFrom
   walk-holds e some' =
-      first-lacks (λ g. fails (g .ending)) (orders a) (sym (walk-from-first a orderRoom (initial a)) ∙ e)
+      first-lacks (λ g. fails (g .ending)) (orders a) (sym (walk-from-first a mostSteps (initial a)) ∙ e)
       (order-listed (some' .failing .complete)) (some' .failing .failed)

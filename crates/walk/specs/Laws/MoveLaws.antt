@@ -3,7 +3,7 @@
 -- Assumes nothing.
 use mathlib.Core.Path.{_≡_, refl, sym, ap, ap₂, subst, _∙_}
 use mathlib.Core.Logic.{inl, inr}
-use Prim.Native.Nat.{ℕ, _+_, _*_, _/_, _%_, _≤_, _<_}
+use Prim.Native.Nat.{ℕ, _+_, _*_, _≤_, _<_}
 use native.Mathlib.Omega.{arith}
 use mathlib.Core.Bool.{Bool, true, false, _&&_}
 use mathlib.Core.List.{List, [], _∷_, _++_, List·Memᴰ, List·Memᴰ·not-nil, List·Memᴰ·append-cases, Memᴰ·cast, Memᴰ·append-left, Memᴰ·append-right, Memᴰ·map, Memᴰ·of-map}
@@ -23,6 +23,7 @@ use Rattle.timing.specs.Laws.RelationLaws.{preempt-says}
 use Rattle.timing.specs.Relations.{base, jobAt, jobNumbers}
 use Rattle.machine.specs.Instructions.{values}
 use Rattle.machine.specs.Laws.ValueLaws.{values-rise, values-small}
+use Rattle.order.specs.OrderBytes.{orderByte, taskOfByte, valueOfByte}
 use Rattle.order.specs.declared.Frame.{Frame}
 use Rattle.order.specs.Code.Invariant.{Over, Invariant}
 use Rattle.timing.specs.Laws.JobFacts.{job-task}
@@ -117,18 +118,18 @@ module _ {a : Accepted} (ok : IsAccepted a) {s : State} (inv : Invariant a s) wh
 
   -- the moves of the running job come before all starts
   starts-above : (f : Frame) (under : List Frame) → s .active ≡ f ∷ under
-      → Every (λ n. 16 * base a (f .job) + 16 ≤ n .byte) (allStarts a s)
+      → Every (λ n. orderByte (base a (f .job)) 16 ≤ n .byte) (allStarts a s)
   unfolding startMoves
   starts-above f under same =
       every-each _ (startsOf a s) (taskNumbers (a .table))
       (every-of _ (λ i. go (i .0) (startOf a s (i .0)) refl (start-bytes (i .0))) (taskNumbers (a .table)))
     where
       go : (i : ℕ) (o : Option Turn) → startOf a s i ≡ o → Every (OfTask i) (startMoves a s o)
-          → Every (λ n. 16 * base a (f .job) + 16 ≤ n .byte) (startMoves a s o)
+          → Every (λ n. orderByte (base a (f .job)) 16 ≤ n .byte) (startMoves a s o)
       go i none e bytes = tt
       go i (some turn) e bytes =
           let above = subst (Every (λ g. base a (g .job) < i)) same (start-above i e) .0 in
-          every-imp (OfTask i) (λ n. 16 * base a (f .job) + 16 ≤ n .byte) (λ n h. omega arith) (turnMoves a s turn) bytes
+          every-imp (OfTask i) (λ n. orderByte (base a (f .job)) 16 ≤ n .byte) (λ n h. omega arith) (turnMoves a s turn) bytes
 
   among-ascend : (active : List Frame) → s .active ≡ active
       → Ordered Ascending (runningMoves a s active ++ allStarts a s)
@@ -222,8 +223,8 @@ module _ {a : Accepted} (ok : IsAccepted a) {s : State} (inv : Invariant a s) wh
   step-is-move byte {after} e =
       let made = step-says a s byte e in
       let turn : Turn = made .turn in
-      let good = good-turn ok inv (byte / 16) (made .due) in
-      let bytes : byte ≡ 16 * base a (turn .frame .job) + byte % 16 = omega (arith, good .1) in
-      turn-listed (byte / 16) (s .active) refl (made .due)
+      let good = good-turn ok inv (taskOfByte byte) (made .due) in
+      let bytes : byte ≡ orderByte (base a (turn .frame .job)) (valueOfByte byte) = omega (arith, good .1) in
+      turn-listed (taskOfByte byte) (s .active) refl (made .due)
       (Memᴰ·cast (ap₂ (λ (n : ℕ) (t : State). record { byte = n; after = t }) bytes (sym (made .made)))
-      (Memᴰ·map (λ v. record { byte = 16 * base a (turn .frame .job) + v; after = performed a s v turn }) (member-says _ _ (made .offered))))
+      (Memᴰ·map (λ v. record { byte = orderByte (base a (turn .frame .job)) v; after = performed a s v turn }) (member-says _ _ (made .offered))))

@@ -15,10 +15,9 @@ use Rattle.notation.specs.Laws.TestLaws as tests
 use Rattle.timing.specs.Accepted.{Accepted}
 use Rattle.timing.specs.Code.IsAccepted.{IsAccepted}
 use Rattle.timing.specs.Laws.JobFacts.{jobs-few}
-use Rattle.machine.specs.Buffers.{orderRoom}
 use Rattle.order.specs.Code.Invariant.{Invariant}
 use Rattle.order.specs.Laws.LengthLaws.{order-short}
-use Rattle.order.specs.Orders.{run}
+use Rattle.order.specs.Orders.{run, mostSteps}
 use Rattle.order.specs.States.{State, initial, allEnded}
 use Rattle.order.specs.Laws.StepLaws.{step-keeps, initial-invariant}
 use Rattle.walk.specs.Laws.CaseLaws.{paths-end, paths-cut, paths-on, end-steps, run-first, run-on}
@@ -97,7 +96,7 @@ module _ {a : Accepted} (ok : IsAccepted a) where
   path-listed [] e filled = absurd (omega arith)
   path-listed (byte ∷ bytes) e filled =
       let short = order-short ok (byte ∷ bytes) e in
-      from-moved orderRoom (initial-invariant a) byte bytes (omega (arith, short, jobs-few (ok .isTimed))) e
+      from-moved mostSteps (initial-invariant a) byte bytes (omega (arith, short, jobs-few (ok .isTimed))) e
 
   -- nothing else is listed
   pub listed-path : (n : ℕ) {s : State} → Invariant a s → {path : List ℕ} → List·Memᴰ path (pathsFrom a n s)

@@ -3,7 +3,7 @@
 -- is read, how many words the answer takes.
 -- Assumes nothing.
 use mathlib.Core.Path.{_≡_, refl, ap, subst, _∙_}
-use Prim.Native.Nat.{ℕ, zero, suc, _%_}
+use Prim.Native.Nat.{ℕ, zero, suc}
 use native.Mathlib.Omega.{arith}
 use mathlib.Core.List.{List, [], _∷_}
 use mathlib.Core.Option.{Option, none, some, bind}
@@ -21,6 +21,7 @@ use Rattle.machine.specs.Ends.{Flags, End, noFlags, noStore}
 use Rattle.machine.specs.Buffers.{orderRoom, runAnswer, unwritten}
 use Rattle.machine.specs.Instructions.{Store}
 use Rattle.machine.specs.Laws.InstructionLaws.{perform-length}
+use Rattle.order.specs.OrderBytes.{valueOfByte}
 use Rattle.order.specs.Orders.{Turn, nextOf, performed, step, run, orderEnd}
 use Rattle.order.specs.Replay.{replay, replayed, replayAnswer}
 use Rattle.order.specs.States.{State, initial}
@@ -61,7 +62,7 @@ run-sized a (byte ∷ bytes) s after e sized = go (step a s byte) refl e (λ nex
         let made = step-says a s byte one in
         later next h
         (subst (λ (t : State). Sized (t .store) (t .failed)) (made .made)
-        (performed-sized a s (byte % 16) (made .turn) sized))
+        (performed-sized a s (valueOfByte byte) (made .turn) sized))
 
 initial-sized : {a : Accepted} → IsAccepted a → Sized (initial a .store) (initial a .failed)
 unfolding initial noFlags

@@ -1,8 +1,9 @@
 -- Laws of a byte that is a step: whose turn that is, and that its value is on offer.
 -- Assumes nothing.
+use Rattle.order.specs.OrderBytes.{taskOfByte, valueOfByte}
 use mathlib.Core.Path.{_≡_, refl, sym, _∙_}
 use mathlib.Core.Logic.{inl, inr}
-use Prim.Native.Nat.{ℕ, _/_, _%_, _≤_, _<_}
+use Prim.Native.Nat.{ℕ, _≤_, _<_}
 use native.Mathlib.Decide.{decLt}
 use native.Mathlib.Omega.{arith}
 use mathlib.Core.Bool.{true, true≢false, _&&_}
@@ -36,33 +37,33 @@ level-bounded program locks p = elim (decLt 0 (p .depth)) [
 module _ (program waits : List ℕ) (locks : Ceilings) (p : Snapshot) (byte : ℕ)
     (allowed : stepIn program waits locks p byte .allowed ≡ true) where
   -- the turn of its task is due
-  pub allowed-due : {d : Due} → d ≡ turnIn program waits locks p (byte / 16) → d .due ≡ true
+  pub allowed-due : {d : Due} → d ≡ turnIn program waits locks p (taskOfByte byte) → d .due ≡ true
   allowed-due {d} is =
       elim (test-decided (d .due)) [
         | inl h ↦ h
         | inr h ↦
-            absurd (true≢false (sym allowed ∙ next.idle-refused program waits locks p (byte / 16) is h byte refl))
+            absurd (true≢false (sym allowed ∙ next.idle-refused program waits locks p (taskOfByte byte) is h byte refl))
       ]
 
   -- its value is on offer
-  pub allowed-offered : {d : Due} → d ≡ turnIn program waits locks p (byte / 16)
-      → offeredIn program (d .frame) (byte / 16) (byte % 16) ≡ true
+  pub allowed-offered : {d : Due} → d ≡ turnIn program waits locks p (taskOfByte byte)
+      → offeredIn program (d .frame) (taskOfByte byte) (valueOfByte byte) ≡ true
   allowed-offered is =
-      sym (next.due-allowed program waits locks p (byte / 16) is (allowed-due is) byte refl) ∙ allowed
+      sym (next.due-allowed program waits locks p (taskOfByte byte) is (allowed-due is) byte refl) ∙ allowed
 
   module _ (small : byte < 128) {top : ℕ} (running : top ≡ runningTask program p) where
     -- the running job's task has that job's turn, and that job is active
-    pub allowed-top : byte / 16 ≡ top → topTurn p ≡ turnIn program waits locks p (byte / 16)
-    allowed-top here = due.turn-top program p (byte / 16) (omega arith) running waits locks here
+    pub allowed-top : taskOfByte byte ≡ top → topTurn p ≡ turnIn program waits locks p (taskOfByte byte)
+    allowed-top here = due.turn-top program p (taskOfByte byte) (omega arith) running waits locks here
 
-    pub allowed-deep : byte / 16 ≡ top → 1 ≤ p .depth
-    allowed-deep here = due.top-deep program p (byte / 16) (omega arith) running here
+    pub allowed-deep : taskOfByte byte ≡ top → 1 ≤ p .depth
+    allowed-deep here = due.top-deep program p (taskOfByte byte) (omega arith) running here
 
     -- another task has a start, and is not below the level
-    pub allowed-start : (byte / 16 ≡ top → ⊥) → startTurn p (byte / 16) ≡ turnIn program waits locks p (byte / 16)
+    pub allowed-start : (taskOfByte byte ≡ top → ⊥) → startTurn p (taskOfByte byte) ≡ turnIn program waits locks p (taskOfByte byte)
     allowed-start other =
-        due.due-start program p (byte / 16) (omega arith) running waits locks other (allowed-due refl)
+        due.due-start program p (taskOfByte byte) (omega arith) running waits locks other (allowed-due refl)
 
-    pub allowed-above : (byte / 16 ≡ top → ⊥) → levelIn program locks p ≤ byte / 16
+    pub allowed-above : (taskOfByte byte ≡ top → ⊥) → levelIn program locks p ≤ taskOfByte byte
     allowed-above other =
-        due.due-above program p (byte / 16) (omega arith) running waits locks other (allowed-due refl)
+        due.due-above program p (taskOfByte byte) (omega arith) running waits locks other (allowed-due refl)

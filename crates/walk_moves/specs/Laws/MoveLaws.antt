@@ -1,8 +1,9 @@
 -- Laws of the moves of a state: the bytes below the level, and what each part of a search has found.
 -- Assumes nothing.
+use Rattle.order.specs.OrderBytes.{taskOfByte, valueOfByte}
 use mathlib.Core.Path.{_≡_, refl, subst}
 use mathlib.Core.Logic.{inl, inr}
-use Prim.Native.Nat.{ℕ, _+_, _*_, _/_, _%_, _≤_, _<_}
+use Prim.Native.Nat.{ℕ, _+_, _*_, _/_, _≤_, _<_}
 use native.Mathlib.Decide.{decLt}
 use native.Mathlib.Omega.{arith}
 use mathlib.Core.Bool.{Bool, true, false}
@@ -119,40 +120,40 @@ module _ (program waits : List ℕ) (locks : Ceilings) (p : Snapshot) {top : ℕ
   -- ---- the move after one
 
   module _ (byte : ℕ) (small : byte < 128) (allowed : stepIn program waits locks p byte .allowed ≡ true)
-      {n : ℕ} (at : n ≡ positionIn p top (byte / 16)) {m : ℕ}
-      (found : StepOf program (byte / 16) n (byte % 16 + 1) m) where
+      {n : ℕ} (at : n ≡ positionIn p top (taskOfByte byte)) {m : ℕ}
+      (found : StepOf program (taskOfByte byte) n (valueOfByte byte + 1) m) where
     abbrev Found : ℕ → Type 0
     Found first =
         (m < 128 → NextStep program waits locks p first m)
-        × (128 ≤ m → NoStep program waits locks p first (16 * (byte / 16 + 1)))
+        × (128 ≤ m → NoStep program waits locks p first (16 * (taskOfByte byte + 1)))
 
     of-task : Found (byte + 1)
     of-task =
-        let same : 16 * (byte / 16) + (byte % 16 + 1) ≡ byte + 1 = omega arith in
-        subst Found same (elim (test-decided (eqb (byte / 16) top)) [
+        let same : 16 * (taskOfByte byte) + (valueOfByte byte + 1) ≡ byte + 1 = omega arith in
+        subst Found same (elim (test-decided (eqb (taskOfByte byte) top)) [
           | inl e ↦
-              let here = eqb-true (byte / 16) top e in
+              let here = eqb-true (taskOfByte byte) top e in
               found waits locks p _ (allowed-top program waits locks p byte allowed small running here)
-              (top-due p refl) (at-top p top (byte / 16) here at)
+              (top-due p refl) (at-top p top (taskOfByte byte) here at)
           | inr e ↦
-              let other = eqb-false (byte / 16) top e in
+              let other = eqb-false (taskOfByte byte) top e in
               found waits locks p _ (allowed-start program waits locks p byte allowed small running other)
-              (start-due p (byte / 16) refl) (at-start p top (byte / 16) other at)
+              (start-due p (taskOfByte byte) refl) (at-start p top (taskOfByte byte) other at)
         ])
 
     pub after-found : m < 128 → NextStep program waits locks p (byte + 1) m
     after-found some = of-task .0 some
 
     -- after the running job's last, the first start
-    pub after-top : 128 ≤ m → byte / 16 ≡ top → {start : ℕ} → FirstStart program waits locks p start
+    pub after-top : 128 ≤ m → taskOfByte byte ≡ top → {start : ℕ} → FirstStart program waits locks p start
         → NextStep program waits locks p (byte + 1) start
     after-top none here first =
-        let upto : 16 * (byte / 16 + 1) ≡ 16 * (top + 1) = omega arith in
+        let upto : 16 * (taskOfByte byte + 1) ≡ 16 * (top + 1) = omega arith in
         start-after first (omega arith) (byte + 1) (omega arith)
         (subst (NoStep program waits locks p (byte + 1)) upto (of-task .1 none))
 
     -- after a start's last, the first start of a task further on
-    pub after-start : 128 ≤ m → {r : ℕ} → NextStep program waits locks p (16 * (byte / 16 + 1)) r
+    pub after-start : 128 ≤ m → {r : ℕ} → NextStep program waits locks p (16 * (taskOfByte byte + 1)) r
         → NextStep program waits locks p (byte + 1) r
     after-start none later =
-        next-joined program waits locks p (byte + 1) (16 * (byte / 16 + 1)) (of-task .1 none) (omega arith) later
+        next-joined program waits locks p (byte + 1) (16 * (taskOfByte byte + 1)) (of-task .1 none) (omega arith) later

@@ -1,9 +1,10 @@
 -- The answers of the code of the trial and of the walk: each outcome, with what is left in the buffer, is as the
 -- contract says. And whose turn a move is.
 -- Assumes nothing.
+use Rattle.order.specs.OrderBytes.{taskOfByte, valueOfByte}
 use mathlib.Core.Path.{_≡_, refl, sym, ap, subst, _∙_}
 use mathlib.Core.Logic.{_⊎_, inl, inr}
-use Prim.Native.Nat.{ℕ, _+_, _-_, _*_, _/_, _%_, _≤_, _<_}
+use Prim.Native.Nat.{ℕ, _+_, _-_, _*_, _≤_, _<_}
 use native.Mathlib.Omega.{arith}
 use mathlib.Core.Bool.{true, false, not}
 use mathlib.Core.List.{List}
@@ -35,28 +36,28 @@ use Rattle.walk_trials.specs.Laws.WalkStateLaws.{outcome-held, walk-ende
 module _ (program waits : List ℕ) (locks : Ceilings) (p : Snapshot) {top : ℕ} (byte : ℕ)
     (running : top ≡ runningTask program p) (small : byte < 128)
     (allowed : stepIn program waits locks p byte .allowed ≡ true) where
-  mover-turn : moverIn p top (byte / 16) ≡ turnIn program waits locks p (byte / 16)
+  mover-turn : moverIn p top (taskOfByte byte) ≡ turnIn program waits locks p (taskOfByte byte)
   unfolding moverIn if_then_else_
   mover-turn =
-      elim (test-decided (eqb (byte / 16) top)) [
+      elim (test-decided (eqb (taskOfByte byte) top)) [
         | inl h ↦ rw h (allowed-top program waits locks p byte allowed small running (eqb-true _ _ h))
         | inr h ↦ rw h (allowed-start program waits locks p byte allowed small running (eqb-false _ _ h))
       ]
 
   -- its numbers have a place in the arrays, and it holds no more than it can by then
   pub mover-bounds : p .depth ≤ 8 → AllWithin p
-      → (byte / 16 ≡ top → 1 ≤ p .depth) × (moverIn p top (byte / 16) .under < 8)
-      × Steppable (moverIn p top (byte / 16) .frame)
+      → (taskOfByte byte ≡ top → 1 ≤ p .depth) × (moverIn p top (taskOfByte byte) .under < 8)
+      × Steppable (moverIn p top (taskOfByte byte) .frame)
   mover-bounds few all =
       let due = allowed-due program waits locks p byte allowed mover-turn in
-      let bounds = due-bounds program waits locks p (byte / 16) mover-turn few due in
+      let bounds = due-bounds program waits locks p (taskOfByte byte) mover-turn few due in
       let offered = allowed-offered program waits locks p byte allowed mover-turn in (
         allowed-deep program waits locks p byte allowed small running,
         bounds .0,
         (
           bounds .1,
-          offered-inside program (moverIn p top (byte / 16) .frame) (byte / 16) (byte % 16) offered,
-          due-within program waits locks p (byte / 16) all mover-turn,
+          offered-inside program (moverIn p top (taskOfByte byte) .frame) (taskOfByte byte) (valueOfByte byte) offered,
+          due-within program waits locks p (taskOfByte byte) all mover-turn,
         ),
       )
 
@@ -64,9 +65,9 @@ module _ (program waits : List ℕ) (locks : Ceilings) (p : Snapshot) {top : ℕ
   move-made : movedIn program p top byte ≡ stepIn program waits locks p byte .state
   unfolding movedIn
   move-made =
-      let d = moverIn p top (byte / 16) in
+      let d = moverIn p top (taskOfByte byte) in
       ap (λ (r : Stepped). r .state)
-      (sym (with-offered program p (d .frame) (d .under) (byte / 16) (byte % 16) (allowed-offered program waits locks p byte allowed mover-turn))
+      (sym (with-offered program p (d .frame) (d .under) (taskOfByte byte) (valueOfByte byte) (allowed-offered program waits locks p byte allowed mover-turn))
       ∙ step-due program waits locks p byte mover-turn (ap not (allowed-due program waits locks p byte allowed mover-turn)) refl)
 
 -- ---- the trial's answers

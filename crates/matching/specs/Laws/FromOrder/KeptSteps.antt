@@ -2,7 +2,7 @@
 -- Assumes nothing.
 use mathlib.Core.Path.{_≡_, refl, sym, ap, subst, _∙_}
 use mathlib.Core.Logic.{_⊎_}
-use Prim.Native.Nat.{ℕ, suc, _≤_, _<_, _/_, _%_}
+use Prim.Native.Nat.{ℕ, suc, _≤_, _<_}
 use native.Mathlib.Decide.{decLe, ℕ-discrete}
 use native.Mathlib.Omega.{arith}
 use mathlib.Core.Bool.{Bool, true, false}
@@ -19,6 +19,7 @@ use Rattle.timing.specs.Relations.{jobAt}
 use Rattle.machine.specs.declared.Effect.{Effect}
 use Rattle.machine.specs.declared.Local.{Local}
 use Rattle.machine.specs.Instructions.{Store, values, perform}
+use Rattle.order.specs.OrderBytes.{taskOfByte, valueOfByte}
 use Rattle.order.specs.Code.Invariant.{Invariant}
 use Rattle.order.specs.Orders.{nextOf, step}
 use Rattle.order.specs.States.{State, hasEnded}
@@ -68,7 +69,7 @@ module _ {a : Accepted} (ok : IsAccepted a) {s : State} (inv : Invariant a s) {r
   x = said .turn .frame .job
 
   abbrev v : ℕ
-  v = byte % 16
+  v = valueOfByte byte
 
   abbrev h : Marks
   h = t .marks
@@ -86,10 +87,10 @@ module _ {a : Accepted} (ok : IsAccepted a) {s : State} (inv : Invariant a s) {r
   effect = perform (nextOf a (said .turn .frame)) v (said .turn .frame .local) (s .store)
 
   kind : GoesOn s (said .turn) ⊎ Starts s (said .turn)
-  kind = turn-kind a s (byte / 16) (said .due)
+  kind = turn-kind a s (taskOfByte byte) (said .due)
 
   good : GoodTurn a s (said .turn)
-  good = good-turn ok inv (byte / 16) (said .due) .0
+  good = good-turn ok inv (taskOfByte byte) (said .due) .0
 
   -- the step's job has a place, and no step is in a later round
   listed : x .0 < length h
@@ -265,5 +266,5 @@ pub kept-step : {a : Accepted} → IsAccepted a → {s : State} → Invariant a 
     → (byte : ℕ) {after : State} → (e : step a s byte ≡ some after)
     → let x = step-says a s byte e .turn .frame .job in
     let ends : Bool = hasEnded after x in
-    OrderKept a after (if ends then suc r else r) (traced r (x .0) (byte % 16) ends (after .store) t) (done ++ (byte ∷ []))
+    OrderKept a after (if ends then suc r else r) (traced r (x .0) (valueOfByte byte) ends (after .store) t) (done ++ (byte ∷ []))
 kept-step {a} ok {s} inv kept byte e = kept-turn ok inv kept (step-says a s byte e)

@@ -2,7 +2,7 @@
 -- ended, so the last round is over, and it has as many Ends as jobs.
 -- Assumes nothing.
 use mathlib.Core.Path.{_≡_, refl, sym, ap, subst, _∙_}
-use Prim.Native.Nat.{ℕ, suc, _+_, _%_}
+use Prim.Native.Nat.{ℕ, suc, _+_}
 use native.Mathlib.Omega.{arith}
 use mathlib.Core.Bool.{Bool, true, false}
 use mathlib.Core.List.{List, [], _∷_, _++_, map, append-assoc, append-nil}
@@ -12,6 +12,7 @@ use Rattle.notation.specs.Lists.{if_then_else_, only}
 use Rattle.timing.specs.declared.Job.{Job}
 use Rattle.timing.specs.Accepted.{Accepted}
 use Rattle.timing.specs.Code.IsAccepted.{IsAccepted}
+use Rattle.order.specs.OrderBytes.{valueOfByte}
 use Rattle.order.specs.Code.Invariant.{Invariant}
 use Rattle.order.specs.Orders.{run, Complete}
 use Rattle.order.specs.OrderSteps.{OrderStep, stepsFrom, orderSteps, isEnd}
@@ -38,7 +39,7 @@ module _ {a : Accepted} {s : State} {byte : ℕ} {next : State} (said : AllowedS
   roundNext = if hasEnded next x then suc r else r
 
   abbrev pub traceNext : Trace → Trace
-  traceNext t = traced r (x .0) (byte % 16) (hasEnded next x) (next .store) t
+  traceNext t = traced r (x .0) (valueOfByte byte) (hasEnded next x) (next .store) t
 
   -- the trace goes on from that of the first step
   trace-on : (t : Trace) → traceFrom a s r t (byte ∷ bytes) ≡ traceFrom a next roundNext (traceNext t) bytes

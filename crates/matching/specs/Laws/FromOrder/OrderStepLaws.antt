@@ -2,12 +2,13 @@
 -- of jobs that have ended before each.
 -- Assumes nothing.
 use mathlib.Core.Path.{_≡_, refl, sym, ap, _∙_}
-use Prim.Native.Nat.{ℕ, _%_}
+use Prim.Native.Nat.{ℕ}
 use mathlib.Core.List.{List, [], _∷_, _++_, map}
 use mathlib.Core.Option.{some}
 use Rattle.timing.specs.declared.Job.{Job}
 use Rattle.timing.specs.Accepted.{Accepted}
 use Rattle.timing.specs.Code.IsAccepted.{IsAccepted}
+use Rattle.order.specs.OrderBytes.{valueOfByte}
 use Rattle.order.specs.Code.Invariant.{Invariant}
 use Rattle.order.specs.Orders.{run}
 use Rattle.order.specs.OrderSteps.{OrderStep, stepsFrom, orderSteps, isEnd, endedCount}
@@ -20,7 +21,7 @@ use Rattle.matching.specs.Laws.FromOrder.TraceSteps.{NotedStep, numbered
 -- the step that an allowed byte makes
 abbrev pub stepMade : {a : Accepted} {s : State} {byte : ℕ} {after : State} → AllowedStep a s byte after → OrderStep
 stepMade {a} {s} {byte} {after} made =
-    record { job = made .turn .frame .job; value = byte % 16; before = s; after = after }
+    record { job = made .turn .frame .job; value = valueOfByte byte; before = s; after = after }
 
 -- it is the first of those that the bytes make, and the others go on from the state after it
 pub steps-first : {a : Accepted} {s : State} {byte : ℕ} (bytes : List ℕ) {after : State}
@@ -29,7 +30,7 @@ unfolding stepsFrom
 steps-first {a} {s} {byte} bytes made =
     let x : Job = made .turn .frame .job in
     rw (made .due, stepsFrom)
-    (ap (λ (z : State). record { job = x; value = byte % 16; before = s; after = z } ∷ stepsFrom a z bytes) (made .made))
+    (ap (λ (z : State). record { job = x; value = valueOfByte byte; before = s; after = z } ∷ stepsFrom a z bytes) (made .made))
 
 -- the steps of an order that is cut are those of its first bytes, then those of the others
 pub steps-cut : (a : Accepted) (earlier bytes : List ℕ) (s : State) {mid : State} → run a s earlier ≡ some mid
@@ -56,7 +57,7 @@ rounds-counted {a} ok (byte ∷ bytes) {s} inv ran r same =
     let x : Job = made .turn .frame .job in
     let round = ap (λ (q : ℕ). roundAfter q next x) same ∙ round-kept ok inv made in
     let later = rounds-counted ok bytes (step-keeps ok inv byte (first .1)) (first .2) (roundAfter r next x) round in
-    let one : ℕ → NotedStep = λ q. record { job = x; round = q; value = byte % 16 } in
+    let one : ℕ → NotedStep = λ q. record { job = x; round = q; value = valueOfByte byte } in
     ap (numbered r) (steps-first bytes made)
     ∙ (λ i. one (same i) ∷ later i)
     ∙ sym (ap (map (countedStep a)) (steps-first bytes made))

@@ -4,7 +4,7 @@
 -- Assumes nothing.
 use Rattle.plan.specs.Runs as runs
 use mathlib.Core.Path.{_≡_, refl, sym, ap, subst, _∙_}
-use Prim.Native.Nat.{ℕ, _/_}
+use Prim.Native.Nat.{ℕ}
 use native.Mathlib.Omega.{arith}
 use mathlib.Core.Bool.{Bool}
 use mathlib.Core.List.{List, [], _∷_, _++_, map, map-append}
@@ -17,6 +17,7 @@ use Rattle.timing.specs.declared.Job.{Job}
 use Rattle.timing.specs.Accepted.{Accepted}
 use Rattle.timing.specs.Code.IsAccepted.{IsAccepted}
 use Rattle.timing.specs.Relations.{IsJob}
+use Rattle.order.specs.OrderBytes.{taskOfByte}
 use Rattle.order.specs.Orders.{run, Complete}
 use Rattle.order.specs.OrderSteps.{OrderStep, stepsFrom, orderSteps, stepsOfJob, stepsMade}
 use Rattle.order.specs.States.{State, initial}
@@ -101,7 +102,7 @@ module _ {a : Accepted} (ok : IsAccepted a) (earlier later : List ℕ) {byte : �
   turn-job : IsJob a x
   turn-job =
       let inv = run-invariant ok earlier (initial-invariant a) reached in
-      good-turn ok inv (byte / 16) (made .due) .0 .running .job
+      good-turn ok inv (taskOfByte byte) (made .due) .0 .running .job
 
   -- the order's steps: those before it, its own, and the others
   abbrev first : List NotedStep

@@ -3,7 +3,7 @@
 -- Assumes nothing.
 use mathlib.Core.Path.{_≡_, sym, ap, _∙_}
 use mathlib.Core.Logic.{_⊎_, inl, inr}
-use Prim.Native.Nat.{ℕ, suc, _+_, _*_, _<_}
+use Prim.Native.Nat.{ℕ, suc, _+_, _<_}
 use native.Mathlib.Decide.{ℕ-discrete}
 use native.Mathlib.Omega.{arith}
 use mathlib.Core.Bool.{true, false}
@@ -20,6 +20,7 @@ use Rattle.timing.specs.Relations.{base}
 use Rattle.machine.specs.declared.Effect.{Effect}
 use Rattle.machine.specs.Ends.{noStore}
 use Rattle.machine.specs.Instructions.{Store, perform}
+use Rattle.order.specs.OrderBytes.{orderByte}
 use Rattle.order.specs.Code.Invariant.{Invariant, hasBegun}
 use Rattle.order.specs.Orders.{Turn, nextOf}
 use Rattle.order.specs.States.{State, hasEnded, isActive}
@@ -61,11 +62,11 @@ module _ {a : Accepted} (ok : IsAccepted a) {s : State} (inv : Invariant a s) {r
   unfolding afterEffect
   after-wide = flag-length (effect .failed) x (s .failed) ∙ t .wide
 
-  more-rows : (byte : ℕ) → 16 * base a (turn .frame .job) + v ≡ byte → rows a (jobTotal a) more ≡ done ++ (byte ∷ [])
+  more-rows : (byte : ℕ) → orderByte (base a (turn .frame .job)) v ≡ byte → rows a (jobTotal a) more ≡ done ++ (byte ∷ [])
   unfolding job
   more-rows byte e =
       rows-marked a (jobTotal a) h x r v (moved-listed ok inv t good kind) (round-open ok inv t good kind) (moved-above ok inv t good kind) (t .later)
-      ∙ ap (λ (l : List ℕ). l ++ ((16 * base a (turn .frame .job) + v) ∷ [])) (t .by-rows)
+      ∙ ap (λ (l : List ℕ). l ++ ((orderByte (base a (turn .frame .job)) v) ∷ [])) (t .by-rows)
       ∙ ap (λ (n : ℕ). done ++ (n ∷ [])) e
 
   -- no step is in a later round
@@ -113,7 +114,7 @@ module _ {a : Accepted} (ok : IsAccepted a) {s : State} (inv : Invariant a s) {r
     | no apart ↦ ended-other ok inv good effect y apart
   ])
 
-  pub goes-traced : effect .ended ≡ false → (byte : ℕ) → 16 * base a (turn .frame .job) + v ≡ byte
+  pub goes-traced : effect .ended ≡ false → (byte : ℕ) → orderByte (base a (turn .frame .job)) v ≡ byte
       → Traced a after r guesses more (done ++ (byte ∷ []))
   unfolding afterEffect
   goes-traced goes byte e =
@@ -183,7 +184,7 @@ module _ {a : Accepted} (ok : IsAccepted a) {s : State} (inv : Invariant a s) {r
         ∙ sym (getD-set-other guesses (suc r) (q + 1) (effect .store) noStore (λ e. omega arith))
   ]
 
-  pub ends-traced : effect .ended ≡ true → (byte : ℕ) → 16 * base a (turn .frame .job) + v ≡ byte
+  pub ends-traced : effect .ended ≡ true → (byte : ℕ) → orderByte (base a (turn .frame .job)) v ≡ byte
       → Traced a after (suc r) opened more (done ++ (byte ∷ []))
   unfolding afterEffect
   ends-traced ends byte e = record {

@@ -2,7 +2,7 @@
 -- of its failed columns are the state's failed jobs.
 -- Assumes nothing.
 use mathlib.Core.Path.{_≡_, refl, sym, ap, _∙_}
-use Prim.Native.Nat.{ℕ, zero, suc, _+_, _≤_, _<_, _/_}
+use Prim.Native.Nat.{ℕ, zero, suc, _+_, _≤_, _<_}
 use native.Mathlib.Decide.{decLt}
 use native.Mathlib.Omega.{arith}
 use mathlib.Core.Bool.{false}
@@ -16,6 +16,7 @@ use Rattle.timing.specs.Code.IsAccepted.{IsAccepted}
 use Rattle.timing.specs.Laws.JobFacts.{jobs-few}
 use Rattle.machine.specs.Ends.{Flags, noFlags, noStore, flagged}
 use Rattle.machine.specs.Instructions.{Store}
+use Rattle.order.specs.OrderBytes.{taskOfByte}
 use Rattle.order.specs.Orders.{run}
 use Rattle.order.specs.States.{State, initial}
 use Rattle.order.specs.Laws.StepLaws.{flag-here, flag-other, flag-length, good-turn, step-says, no-flag, initial-invariant}
@@ -69,7 +70,7 @@ unfolding run jobTotal
 no-step ok none [] e = cc
 no-step {a} ok none (byte ∷ bytes) e =
     let said = step-says a (initial a) byte (trace-run-first a (initial a) byte bytes e .1) in
-    absurd (omega (arith, good-turn ok (initial-invariant a) (byte / 16) (said .due) .0 .running .job))
+    absurd (omega (arith, good-turn ok (initial-invariant a) (taskOfByte byte) (said .due) .0 .running .job))
 
 -- ---- the end
 

@@ -2,7 +2,7 @@
 -- Assumes nothing.
 use mathlib.Core.Path.{_≡_, refl, sym, ap, subst, _∙_}
 use mathlib.Core.Logic.{_⊎_}
-use Prim.Native.Nat.{ℕ, suc, _+_, _*_, _/_, _%_, _<_}
+use Prim.Native.Nat.{ℕ, suc, _+_, _*_, _<_}
 use native.Mathlib.Omega.{arith}
 use mathlib.Core.Bool.{true, false}
 use mathlib.Core.List.{List, [], _∷_, _++_}
@@ -16,6 +16,7 @@ use Rattle.timing.specs.Relations.{base}
 use Rattle.machine.specs.declared.Effect.{Effect}
 use Rattle.machine.specs.Ends.{noStore, noFlags}
 use Rattle.machine.specs.Instructions.{Store, perform}
+use Rattle.order.specs.OrderBytes.{taskOfByte, valueOfByte}
 use Rattle.order.specs.Code.Invariant.{Invariant}
 use Rattle.order.specs.Orders.{nextOf, step}
 use Rattle.order.specs.States.{State, initial, hasEnded}
@@ -69,7 +70,7 @@ traced-initial {a} ok guesses long starts = record {
 -- ---- every step
 
 -- "An order byte is 16 × task + value"
-byte-parts : (byte task : ℕ) → task ≡ byte / 16 → 16 * task + byte % 16 ≡ byte
+byte-parts : (byte task : ℕ) → task ≡ taskOfByte byte → 16 * task + valueOfByte byte ≡ byte
 byte-parts byte task e = omega arith
 
 module _ {a : Accepted} (ok : IsAccepted a) {s : State} (inv : Invariant a s) {r : ℕ} {guesses : List Store} {h : Marks} {done : List ℕ}
@@ -78,21 +79,21 @@ module _ {a : Accepted} (ok : IsAccepted a) {s : State} (inv : Invariant a s) {r
   stepJob = made .turn .frame .job
 
   abbrev pub stepMarks : Marks
-  stepMarks = marked h (stepJob .0) (markAt r (byte % 16))
+  stepMarks = marked h (stepJob .0) (markAt r (valueOfByte byte))
 
   abbrev effect : Effect
-  effect = perform (nextOf a (made .turn .frame)) (byte % 16) (made .turn .frame .local) (s .store)
+  effect = perform (nextOf a (made .turn .frame)) (valueOfByte byte) (made .turn .frame .local) (s .store)
 
   kind : GoesOn s (made .turn) ⊎ Starts s (made .turn)
-  kind = turn-kind a s (byte / 16) (made .due)
+  kind = turn-kind a s (taskOfByte byte) (made .due)
 
-  good : GoodTurn a s (made .turn) × (base a stepJob ≡ byte / 16)
-  good = good-turn ok inv (byte / 16) (made .due)
+  good : GoodTurn a s (made .turn) × (base a stepJob ≡ taskOfByte byte)
+  good = good-turn ok inv (taskOfByte byte) (made .due)
 
   -- its job has ended if the step was an End
   pub effect-ended : hasEnded after stepJob ≡ effect .ended
   effect-ended =
-      ap (λ (next : State). hasEnded next stepJob) (sym (step-after made)) ∙ moved-ended ok inv t (good .0) kind (byte % 16) effect refl
+      ap (λ (next : State). hasEnded next stepJob) (sym (step-after made)) ∙ moved-ended ok inv t (good .0) kind (valueOfByte byte) effect refl
 
   -- where the step's job has ended, the next round begins with the store left
   pub step-ends : hasEnded after stepJob ≡ true
@@ -100,19 +101,19 @@ module _ {a : Accepted} (ok : IsAccepted a) {s : State} (inv : Invariant a s) {r
   unfolding afterEffect
   step-ends ended =
       subst (λ (next : State). Traced a next (suc r) (set guesses (suc r) (next .store)) stepMarks (done ++ (byte ∷ []))) (step-after made)
-      (ends-traced ok inv t (good .0) kind (byte % 16) effect refl (sym effect-ended ∙ ended) byte (byte-parts byte _ (good .1)))
+      (ends-traced ok inv t (good .0) kind (valueOfByte byte) effect refl (sym effect-ended ∙ ended) byte (byte-parts byte _ (good .1)))
 
   -- else the round goes on
   pub step-goes : hasEnded after stepJob ≡ false → Traced a after r guesses stepMarks (done ++ (byte ∷ []))
   step-goes goes =
       subst (λ (next : State). Traced a next r guesses stepMarks (done ++ (byte ∷ []))) (step-after made)
-      (goes-traced ok inv t (good .0) kind (byte % 16) effect refl (sym effect-ended ∙ goes) byte (byte-parts byte _ (good .1)))
+      (goes-traced ok inv t (good .0) kind (valueOfByte byte) effect refl (sym effect-ended ∙ goes) byte (byte-parts byte _ (good .1)))
 
 -- every step keeps the trace
 pub traced-step : {a : Accepted} → IsAccepted a → {s : State} → Invariant a s → {r : ℕ} {guesses : List Store} {h : Marks} {done : List ℕ}
     → Traced a s r guesses h done → (byte : ℕ) {after : State} → (e : step a s byte ≡ some after)
     → let x = step-says a s byte e .turn .frame .job .0 in
-    let more = marked h x (record { round = r; value = byte % 16 }) in
+    let more = marked h x (record { round = r; value = valueOfByte byte }) in
     (hasEnded after (job x) ≡ true → Traced a after (suc r) (set guesses (suc r) (after .store)) more (done ++ (byte ∷ [])))
     × (hasEnded after (job x) ≡ false → Traced a after r guesses more (done ++ (byte ∷ [])))
 unfolding job

@@ -2,7 +2,7 @@
 -- Assumes nothing.
 use mathlib.Core.Path.{_≡_, refl, sym, ap, subst, _∙_}
 use mathlib.Core.Logic.{inl, inr}
-use Prim.Native.Nat.{ℕ, suc, _/_, _%_}
+use Prim.Native.Nat.{ℕ, suc, _%_}
 use native.Mathlib.Decide.{ℕ-discrete}
 use mathlib.Core.Bool.{false}
 use mathlib.Core.List.{List, [], _∷_, _++_}
@@ -13,6 +13,7 @@ use Rattle.timing.specs.declared.Job.{Job}
 use Rattle.timing.specs.Accepted.{Accepted}
 use Rattle.timing.specs.Code.IsAccepted.{IsAccepted}
 use Rattle.machine.specs.Instructions.{perform}
+use Rattle.order.specs.OrderBytes.{taskOfByte, valueOfByte}
 use Rattle.order.specs.Code.Invariant.{Invariant}
 use Rattle.order.specs.Orders.{nextOf, step, run}
 use Rattle.order.specs.States.{State, hasEnded}
@@ -76,12 +77,12 @@ module _ {a : Accepted} (ok : IsAccepted a) {s : State} (inv : Invariant a s) {b
   x = made .turn .frame .job
 
   good : GoodTurn a s (made .turn)
-  good = good-turn ok inv (byte / 16) (made .due) .0
+  good = good-turn ok inv (taskOfByte byte) (made .due) .0
 
   -- the step leaves the other jobs as they were
   pub others-same : (y : Job) → (y .0 ≡ x .0 → ⊥) → hasEnded after y ≡ hasEnded s y
   others-same y apart =
-      let effect = perform (nextOf a (made .turn .frame)) (byte % 16) (made .turn .frame .local) (s .store) in
+      let effect = perform (nextOf a (made .turn .frame)) (valueOfByte byte) (made .turn .frame .local) (s .store) in
       ap (λ (z : State). hasEnded z y) (sym (step-after made))
       ∙ ended-other ok inv good effect y apart
 
@@ -109,30 +110,30 @@ module _ {a : Accepted} (ok : IsAccepted a) {s : State} (inv : Invariant a s) {b
 pub trace-first : (a : Accepted) (s : State) (r : ℕ) (t : Trace) (byte : ℕ) (bytes : List ℕ) {after : State} → (made : AllowedStep a s byte after)
     → let x = made .turn .frame .job in
     traceFrom a s r t (byte ∷ bytes)
-    ≡ traceFrom a after (roundAfter r after x) (traced r (x .0) (byte % 16) (hasEnded after x) (after .store) t) bytes
+    ≡ traceFrom a after (roundAfter r after x) (traced r (x .0) (valueOfByte byte) (hasEnded after x) (after .store) t) bytes
 unfolding roundAfter traceFrom
 trace-first a s r t byte bytes made =
     let x = made .turn .frame .job in
     rw (made .due, traceFrom)
-    (ap (λ (z : State). traceFrom a z (if hasEnded z x then suc r else r) (traced r (x .0) (byte % 16) (hasEnded z x) (z .store) t) bytes) (made .made))
+    (ap (λ (z : State). traceFrom a z (if hasEnded z x then suc r else r) (traced r (x .0) (valueOfByte byte) (hasEnded z x) (z .store) t) bytes) (made .made))
 
 module _ {a : Accepted} (ok : IsAccepted a) where
   -- of one byte
   trace-one : (s : State) (r : ℕ) → r ≡ endedCount a s → (t : Trace) (byte : ℕ) {after : State} → (e : step a s byte ≡ some after)
       → let x = step-says a s byte e .turn .frame .job .0 in
-      traceFrom a s r t (byte ∷ []) ≡ traced (endedCount a s) x (byte % 16) (hasEnded after (job x)) (after .store) t
+      traceFrom a s r t (byte ∷ []) ≡ traced (endedCount a s) x (valueOfByte byte) (hasEnded after (job x)) (after .store) t
   unfolding traceFrom job
   trace-one s r same t byte {after} e =
       let x = step-says a s byte e .turn .frame .job in
       trace-first a s r t byte [] (step-says a s byte e)
-      ∙ ap (λ (q : ℕ). traced q (x .0) (byte % 16) (hasEnded after x) (after .store) t) same
+      ∙ ap (λ (q : ℕ). traced q (x .0) (valueOfByte byte) (hasEnded after x) (after .store) t) same
 
   -- with one byte more
   pub trace-more : (bytes : List ℕ) {s : State} → Invariant a s → (r : ℕ) → r ≡ endedCount a s → (t : Trace) {mid : State}
       → run a s bytes ≡ some mid → (byte : ℕ) {after : State} → (e : step a mid byte ≡ some after)
       → let x = step-says a mid byte e .turn .frame .job .0 in
       traceFrom a s r t (bytes ++ (byte ∷ []))
-      ≡ traced (endedCount a mid) x (byte % 16) (hasEnded after (job x)) (after .store) (traceFrom a s r t bytes)
+      ≡ traced (endedCount a mid) x (valueOfByte byte) (hasEnded after (job x)) (after .store) (traceFrom a s r t bytes)
   unfolding run traceFrom
   trace-more [] {s} inv r same t {mid} ran byte e =
       let here = some-same ran in
@@ -147,4 +148,4 @@ module _ {a : Accepted} (ok : IsAccepted a) where
       let x = step-says a mid byte e .turn .frame .job .0 in
       trace-first a s r t b (bytes ++ (byte ∷ [])) made
       ∙ trace-more bytes (step-keeps ok inv b (first .1)) (roundAfter r next y) round now (first .2) byte e
-      ∙ ap (traced (endedCount a mid) x (byte % 16) (hasEnded after (job x)) (after .store)) (sym (trace-first a s r t b bytes made))
+      ∙ ap (traced (endedCount a mid) x (valueOfByte byte) (hasEnded after (job x)) (after .store)) (sym (trace-first a s r t b bytes made))

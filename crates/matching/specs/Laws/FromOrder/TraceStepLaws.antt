@@ -3,7 +3,7 @@
 -- Assumes nothing.
 use mathlib.Core.Path.{_≡_, refl, sym, ap, subst, _∙_}
 use mathlib.Core.Logic.{_≢_}
-use Prim.Native.Nat.{ℕ, zero, suc, _+_, _≤_, _<_, _/_, _%_}
+use Prim.Native.Nat.{ℕ, zero, suc, _+_, _≤_, _<_}
 use native.Mathlib.Decide.{ℕ-discrete}
 use native.Mathlib.Omega.{arith}
 use mathlib.Core.Bool.{Bool, true, false}
@@ -20,6 +20,7 @@ use Rattle.timing.specs.declared.Job.{Job}
 use Rattle.timing.specs.Accepted.{Accepted}
 use Rattle.timing.specs.Relations.{jobNumbers}
 use Rattle.machine.specs.Instructions.{Store}
+use Rattle.order.specs.OrderBytes.{taskOfByte, valueOfByte}
 use Rattle.order.specs.Orders.{Turn, turnOf, performed}
 use Rattle.order.specs.OrderSteps.{OrderStep, stepsFrom, orderSteps, stepsOfJob, isEnd, endedCount}
 use Rattle.order.specs.States.{State, initial}
@@ -189,16 +190,16 @@ module _ (a : Accepted) where
       → Follows r t (stepsFrom a s bytes) (traceFrom a s r t bytes)
   unfolding stepsFrom traceFrom isEnd
   trace-follows [] s r t = follows-none r t
-  trace-follows (byte ∷ bytes) s r t = go (turnOf a s (byte / 16)) refl (λ next later now. trace-follows bytes next later now)
+  trace-follows (byte ∷ bytes) s r t = go (turnOf a s (taskOfByte byte)) refl (λ next later now. trace-follows bytes next later now)
     where
-      go : (turn : Option Turn) → turnOf a s (byte / 16) ≡ turn
+      go : (turn : Option Turn) → turnOf a s (taskOfByte byte) ≡ turn
           → ((next : State) (later : ℕ) (now : Trace) → Follows later now (stepsFrom a next bytes)
           (traceFrom a next later now bytes))
           → Follows r t (stepsFrom a s (byte ∷ bytes)) (traceFrom a s r t (byte ∷ bytes))
       go none e rest = rw (e, traceFrom, stepsFrom) (follows-none r t)
       go (some turn) e rest =
-          let next : State = performed a s (byte % 16) turn in
-          let first : OrderStep = record { job = turn .frame .job; value = byte % 16; before = s; after = next } in
+          let next : State = performed a s (valueOfByte byte) turn in
+          let first : OrderStep = record { job = turn .frame .job; value = valueOfByte byte; before = s; after = next } in
           rw (e, traceFrom, stepsFrom) (follows-step r t first _ _ (rest next _ _))
 
 -- ---- the plan

@@ -3,7 +3,7 @@
 -- order is written as.
 -- Assumes nothing.
 use mathlib.Core.Path.{_≡_}
-use Prim.Native.Nat.{ℕ, zero, suc, _/_, _%_}
+use Prim.Native.Nat.{ℕ, zero, suc}
 use mathlib.Core.Bool.{Bool}
 use mathlib.Core.List.{List, [], _∷_, map}
 use mathlib.Core.Option.{none, some}
@@ -13,6 +13,7 @@ use Rattle.notation.specs.Lists.{if_then_else_, only}
 use Rattle.timing.specs.declared.Job.{Job}
 use Rattle.timing.specs.Accepted.{Accepted}
 use Rattle.machine.specs.Instructions.{Store}
+use Rattle.order.specs.OrderBytes.{taskOfByte, valueOfByte}
 use Rattle.order.specs.Orders.{turnOf, performed}
 use Rattle.order.specs.OrderSteps.{OrderStep, orderSteps, isEnd, endedCount}
 use Rattle.order.specs.States.{State, initial, hasEnded}
@@ -64,12 +65,12 @@ traced r x value ends store t =
 unfoldable pub traceFrom : Accepted → State → ℕ → Trace → List ℕ → Trace
 traceFrom a s r t [] = t
 traceFrom a s r t (byte ∷ bytes) =
-    elim (turnOf a s (byte / 16)) [
+    elim (turnOf a s (taskOfByte byte)) [
       | none ↦ t
       | some turn ↦
-          let next = performed a s (byte % 16) turn in
+          let next = performed a s (valueOfByte byte) turn in
           let ends : Bool = hasEnded next (turn .frame .job) in
-          traceFrom a next (if ends then suc r else r) (traced r (turn .frame .job .0) (byte % 16) ends (next .store) t) bytes
+          traceFrom a next (if ends then suc r else r) (traced r (turn .frame .job .0) (valueOfByte byte) ends (next .store) t) bytes
     ]
 
 -- n guesses, of which the first is known

@@ -3,7 +3,7 @@
 -- Assumes nothing.
 use mathlib.Core.Path.{_≡_, refl, sym, ap, subst, _∙_}
 use mathlib.Core.Logic.{_⊎_, inl, inr}
-use Prim.Native.Nat.{ℕ, _<_, _%_}
+use Prim.Native.Nat.{ℕ, _<_}
 use native.Mathlib.Omega.{arith}
 use mathlib.Core.Bool.{Bool, true, false, false≢true, _&&_}
 use mathlib.Core.List.{List, [], _∷_}
@@ -21,6 +21,7 @@ use Rattle.timing.specs.Laws.JobNumberLaws.{first-job}
 use Rattle.timing.specs.Laws.RelationLaws.{preempts-lower}
 use Rattle.timing.specs.Relations.{base, jobNumbers}
 use Rattle.machine.specs.Instructions.{fresh, perform}
+use Rattle.order.specs.OrderBytes.{valueOfByte}
 use Rattle.order.specs.declared.Frame.{Frame}
 use Rattle.order.specs.Code.Invariant.{Over, IsRunning, hasBegun}
 use Rattle.order.specs.Orders.{Turn, startOf, turnAmong, turnOf, nextOf}
@@ -95,14 +96,14 @@ module _ {a : Accepted} (ok : IsAccepted a) {s : State} {turn : Turn} (good : Go
 module _ {a : Accepted} {s : State} {byte : ℕ} {after : State} (made : AllowedStep a s byte after) where
   -- the step is what its instruction does to the state
   pub step-after : afterEffect s (made .turn)
-      (perform (nextOf a (made .turn .frame)) (byte % 16) (made .turn .frame .local) (s .store)) ≡ after
-  step-after = sym (performed-is a s (byte % 16) (made .turn)) ∙ made .made
+      (perform (nextOf a (made .turn .frame)) (valueOfByte byte) (made .turn .frame .local) (s .store)) ≡ after
+  step-after = sym (performed-is a s (valueOfByte byte) (made .turn)) ∙ made .made
 
   -- it raises no other job's flag
   pub step-failed : (y : ℕ) → (y ≡ made .turn .frame .job .0 → ⊥)
       → getD (after .failed) y false ≡ getD (s .failed) y false
   unfolding afterEffect
   step-failed y apart =
-      let effect = perform (nextOf a (made .turn .frame)) (byte % 16) (made .turn .frame .local) (s .store) in
+      let effect = perform (nextOf a (made .turn .frame)) (valueOfByte byte) (made .turn .frame .local) (s .store) in
       ap (λ (z : State). getD (z .failed) y false) (sym step-after)
       ∙ flag-other (effect .failed) (made .turn .frame .job .0) y (s .failed) apart

@@ -3,7 +3,7 @@
 -- Assumes nothing.
 use mathlib.Core.Path.{_≡_, refl, sym, ap, subst, _∙_}
 use mathlib.Core.Logic.{inl, inr}
-use Prim.Native.Nat.{ℕ, _+_, _/_, _%_, _≤_, _<_}
+use Prim.Native.Nat.{ℕ, _%_, _≤_, _<_}
 use native.Mathlib.Omega.{arith}
 use mathlib.Core.Bool.{Bool, true, false}
 use mathlib.Core.List.{List, [], _∷_, _++_, map}
@@ -22,6 +22,7 @@ use Rattle.machine.specs.declared.Local.{Local}
 use Rattle.machine.specs.Ends.{noStore, noFlags}
 use Rattle.machine.specs.Held.{priority}
 use Rattle.machine.specs.Instructions.{Store, values}
+use Rattle.order.specs.OrderBytes.{taskOfByte, valueOfByte}
 use Rattle.order.specs.declared.Frame.{Frame}
 use Rattle.order.specs.Code.Invariant.{IsRunning, hasBegun, Invariant}
 use Rattle.order.specs.Orders.{Turn, turnOf, nextOf, performed, step, run}
@@ -177,13 +178,13 @@ module _ (a : Accepted) (s : State) (p : Placed) (turn : Turn) where
   unfolding placedByte
   turn-due due whose offered small =
       let byte : ℕ = placedByte a p in
-      let task : byte / 16 ≡ base a (job (p .number)) = byte-task (base a (job (p .number))) (p .mark .value) small in
-      let value : byte % 16 ≡ p .mark .value = byte-value (base a (job (p .number))) (p .mark .value) small in
+      let task : taskOfByte byte ≡ base a (job (p .number)) = byte-task (base a (job (p .number))) (p .mark .value) small in
+      let value : valueOfByte byte ≡ p .mark .value = byte-value (base a (job (p .number))) (p .mark .value) small in
       let here = ap (turnOf a s) task ∙ due in
       let taken = offered-steps a s byte turn here (ap (λ (v : ℕ). member v (values (nextOf a (turn .frame)))) value ∙ offered) in
       let same : step-says a s byte taken .turn ≡ turn = some-same (sym (step-says a s byte taken .due) ∙ here) in
       record {
-        after = performed a s (byte % 16) turn;
+        after = performed a s (valueOfByte byte) turn;
         taken = taken;
         value = value;
         whose = ap (λ (t : Turn). t .frame .job) same ∙ whose;

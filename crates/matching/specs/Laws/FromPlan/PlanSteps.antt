@@ -4,7 +4,7 @@
 -- Assumes nothing.
 use mathlib.Core.Path.{_≡_, refl, sym, ap, subst, _∙_}
 use mathlib.Core.Logic.{_⊎_, inl, inr}
-use Prim.Native.Nat.{ℕ, suc, _/_, _%_, _≤_, _<_}
+use Prim.Native.Nat.{ℕ, suc, _≤_, _<_}
 use native.Mathlib.Decide.{decLt, ℕ-discrete}
 use native.Mathlib.Omega.{arith}
 use mathlib.Core.Bool.{Bool, true, false}
@@ -20,6 +20,7 @@ use Rattle.timing.specs.Code.IsAccepted.{IsAccepted}
 use Rattle.machine.specs.declared.Effect.{Effect}
 use Rattle.machine.specs.Ends.{noStore}
 use Rattle.machine.specs.Instructions.{Store, perform}
+use Rattle.order.specs.OrderBytes.{taskOfByte, valueOfByte}
 use Rattle.order.specs.Code.Invariant.{hasBegun, Invariant}
 use Rattle.order.specs.Orders.{nextOf, run}
 use Rattle.order.specs.States.{State, initial, hasEnded}
@@ -49,30 +50,30 @@ use Rattle.matching.specs.Laws.FromOrder.TurnTraceLaws.{GoesOn, Starts, 
 module _ {a : Accepted} (ok : IsAccepted a) {s : State} (inv : Invariant a s) {r : ℕ} {guesses : List Store} {h : Marks} {done : List ℕ}
     (t : Traced a s r guesses h done) {byte : ℕ} {after : State} (made : AllowedStep a s byte after) where
   abbrev effect : Effect
-  effect = perform (nextOf a (made .turn .frame)) (byte % 16) (made .turn .frame .local) (s .store)
+  effect = perform (nextOf a (made .turn .frame)) (valueOfByte byte) (made .turn .frame .local) (s .store)
 
   abbrev more : Marks
-  more = marked h (made .turn .frame .job .0) (markAt r (byte % 16))
+  more = marked h (made .turn .frame .job .0) (markAt r (valueOfByte byte))
 
   good : GoodTurn a s (made .turn)
-  good = good-turn ok inv (byte / 16) (made .due) .0
+  good = good-turn ok inv (taskOfByte byte) (made .due) .0
 
   kind : GoesOn s (made .turn) ⊎ Starts s (made .turn)
-  kind = turn-kind a s (byte / 16) (made .due)
+  kind = turn-kind a s (taskOfByte byte) (made .due)
 
   -- the columns say which jobs have ended then, and the round's store
   step-endings : (y : ℕ) → y < jobTotal a
       → getD (columns a more guesses .jobs) y unbegun .ended ≡ hasEnded after (job y)
   step-endings y lt =
-      ap (λ (c : Columns). getD (c .jobs) y unbegun .ended) (columns-moved ok inv t good kind (byte % 16) effect refl)
-      ∙ moved-endings ok inv t good kind (byte % 16) effect refl y lt
+      ap (λ (c : Columns). getD (c .jobs) y unbegun .ended) (columns-moved ok inv t good kind (valueOfByte byte) effect refl)
+      ∙ moved-endings ok inv t good kind (valueOfByte byte) effect refl y lt
       ∙ ap (λ (z : State). hasEnded z (job y)) (step-after made)
 
   step-present : getD (columns a more guesses .stores) r noStore ≡ after .store
   unfolding afterEffect
   step-present =
-      ap (λ (c : Columns). getD (c .stores) r noStore) (columns-moved ok inv t good kind (byte % 16) effect refl)
-      ∙ moved-present ok inv t good kind (byte % 16) effect refl
+      ap (λ (c : Columns). getD (c .stores) r noStore) (columns-moved ok inv t good kind (valueOfByte byte) effect refl)
+      ∙ moved-present ok inv t good kind (valueOfByte byte) effect refl
       ∙ ap (λ (z : State). z .store) (step-after made)
 
   -- other jobs have begun as before
@@ -112,14 +113,14 @@ module _ {a : Accepted} (ok : IsAccepted a) (plan : Plan) {runs : JobRuns} (lega
 
   -- the marks and the bytes with the step
   abbrev stepMarks : Marks
-  stepMarks = marked (doneMarks a done) (made .turn .frame .job .0) (markAt r (byte % 16))
+  stepMarks = marked (doneMarks a done) (made .turn .frame .job .0) (markAt r (valueOfByte byte))
 
   marks-more : doneMarks a next ≡ marked (doneMarks a done) (p .number) (p .mark)
   marks-more = gathered-snoc (replicate (jobTotal a) []) done p
 
   marks-step : stepMarks ≡ doneMarks a next
   marks-step =
-      ap (λ (y : ℕ). marked (doneMarks a done) y (markAt r (byte % 16))) whose
+      ap (λ (y : ℕ). marked (doneMarks a done) y (markAt r (valueOfByte byte))) whose
       ∙ ap (λ (v : ℕ). marked (doneMarks a done) (p .number) (markAt r v)) (due .value)
       ∙ ap (λ (q : ℕ). marked (doneMarks a done) (p .number) (markAt q (p .mark .value))) (kept-round ok plan legal kept p rest split)
       ∙ sym marks-more
@@ -140,7 +141,7 @@ module _ {a : Accepted} (ok : IsAccepted a) (plan : Plan) {runs : JobRuns} (lega
   none-later : (y q : ℕ) → r < q → inRound q (getD (doneMarks a next) y []) ≡ []
   none-later y q lt =
       ap (λ (h : Marks). inRound q (getD h y [])) (sym marks-step)
-      ∙ marked-keeps q (doneMarks a done) (made .turn .frame .job .0) y (markAt r (byte % 16)) (λ e. omega arith)
+      ∙ marked-keeps q (doneMarks a done) (made .turn .frame .job .0) y (markAt r (valueOfByte byte)) (λ e. omega arith)
       ∙ kept .trace .later y q lt
 
   -- ---- an End
@@ -200,7 +201,7 @@ module _ {a : Accepted} (ok : IsAccepted a) (plan : Plan) {runs : JobRuns} (lega
       step-failed made y (λ e. omega (arith, e, whose, next-job ok plan legal kept p rest split)) ∙ kept .beyond y up
 
   -- the trace with the step
-  trace-step : traceOf a (doneBytes a next) ≡ traced r (made .turn .frame .job .0) (byte % 16)
+  trace-step : traceOf a (doneBytes a next) ≡ traced r (made .turn .frame .job .0) (valueOfByte byte)
       (hasEnded (due .after) (made .turn .frame .job)) (due .after .store) (traceOf a (doneBytes a done))
   unfolding traceOf job made
   trace-step =
@@ -208,14 +209,14 @@ module _ {a : Accepted} (ok : IsAccepted a) (plan : Plan) {runs : JobRuns} (lega
       ap (traceOf a) (sym bytes-step)
       ∙ trace-more ok (doneBytes a done) (initial-invariant a) 0 (sym (ended-none a)) (startTrace a) (kept .ran) byte (due .taken)
       ∙ ap
-      (λ (q : ℕ). traced q (x .0) (byte % 16) (hasEnded (due .after) x) (due .after .store) (traceOf a (doneBytes a done)))
+      (λ (q : ℕ). traced q (x .0) (valueOfByte byte) (hasEnded (due .after) x) (due .after .store) (traceOf a (doneBytes a done)))
       (kept .trace .ends)
 
   trace-marks : traceOf a (doneBytes a next) .marks ≡ doneMarks a next
   unfolding traced
   trace-marks =
       ap (λ (t : Trace). t .marks) trace-step
-      ∙ ap (λ (h : Marks). marked h (made .turn .frame .job .0) (markAt r (byte % 16))) (kept .marks)
+      ∙ ap (λ (h : Marks). marked h (made .turn .frame .job .0) (markAt r (valueOfByte byte))) (kept .marks)
       ∙ marks-step
 
   trace-guesses : (b : Bool) → hasEnded (due .after) (made .turn .frame .job) ≡ b

@@ -3,7 +3,8 @@
 -- step on its round's store, it is a plan's run. The theorem of demand 3 goes by histories; neither orders nor plans
 -- speak of them.
 -- Assumes nothing.
-use Prim.Native.Nat.{ℕ, suc, _+_, _*_}
+use Rattle.order.specs.OrderBytes.{orderByte}
+use Prim.Native.Nat.{ℕ, suc}
 use mathlib.Core.Bool.{Bool, false, _||_}
 use mathlib.Core.List.{List, [], _∷_, _++_, map}
 use lib.ListN.{getD, set}
@@ -45,7 +46,7 @@ marked h x m = set h x (getD h x [] ++ (m ∷ []))
 
 -- the order bytes of these steps of job x
 unfoldable pub bytesOf : Accepted → ℕ → List Mark → List ℕ
-bytesOf a x ms = map (λ m. 16 * base a (job x) + m .value) ms
+bytesOf a x ms = map (λ m. orderByte (base a (job x)) (m .value)) ms
 
 unfoldable pub inRound : ℕ → List Mark → List Mark
 inRound r ms = only (λ m. eqb (m .round) r) ms

@@ -1,6 +1,7 @@
 -- Laws of the reading by rows: which bytes one step more adds to it, that empty rounds add none, and that the order
 -- of a plan's run is the run's steps read by rows.
 -- Assumes nothing.
+use Rattle.order.specs.OrderBytes.{orderByte}
 use mathlib.Core.Path.{_≡_, refl, sym, ap, _∙_}
 use mathlib.Core.Logic.{_≢_}
 use Prim.Native.Nat.{ℕ, zero, suc, _+_, _*_, _≤_, _<_}
@@ -91,21 +92,21 @@ module _ (a : Accepted) where
   -- a job's bytes in the round of its new step
   bytes-gain : (x : ℕ) (ms : List Mark) (m : Mark)
       → bytesOf a x (inRound (m .round) (ms ++ (m ∷ []))) ≡ bytesOf a x (inRound (m .round) ms)
-      ++ ((16 * base a (job x) + m .value) ∷ [])
+      ++ ((orderByte (base a (job x)) (m .value)) ∷ [])
   unfolding bytesOf
   bytes-gain x ms m =
-      ap (bytesOf a x) (inRound-gains ms m) ∙ map-snoc (λ (n : Mark). 16 * base a (job x) + n .value) (inRound (m .round) ms) m
+      ap (bytesOf a x) (inRound-gains ms m) ∙ map-snoc (λ (n : Mark). orderByte (base a (job x)) (n .value)) (inRound (m .round) ms) m
 
   -- so a row that begins with the job and has nothing behind it gains that byte at its end
   first-gains : (x : ℕ) (ms : List Mark) (h : Marks) (m : Mark) → rowFrom a (m .round) (suc x) h ≡ []
       → rowFrom a (m .round) x ((ms ++ (m ∷ [])) ∷ h) ≡ rowFrom a (m .round) x (ms ∷ h)
-      ++ ((16 * base a (job x) + m .value) ∷ [])
+      ++ ((orderByte (base a (job x)) (m .value)) ∷ [])
   unfolding rowFrom
   first-gains x ms h m none =
       rw none
       (append-nil (bytesOf a x (inRound (m .round) (ms ++ (m ∷ []))))
       ∙ bytes-gain x ms m
-      ∙ ap (λ (l : List ℕ). l ++ ((16 * base a (job x) + m .value) ∷ [])) (sym (append-nil (bytesOf a x (inRound (m .round) ms)))))
+      ∙ ap (λ (l : List ℕ). l ++ ((orderByte (base a (job x)) (m .value)) ∷ [])) (sym (append-nil (bytesOf a x (inRound (m .round) ms)))))
 
   -- the row of the new step's own round gains its byte at the end, if no later job has a step in it
   pub row-gains : (h : Marks) (start x : ℕ) (m : Mark) → x < length h
@@ -117,14 +118,14 @@ module _ (a : Accepted) where
   row-gains (ms ∷ h) start zero m lt none =
       let place : start ≡ start + 0 = omega arith in
       first-gains start ms h m (row-nothing (m .round) (suc start) h (λ y. none (suc y) (omega arith)))
-      ∙ ap (λ (k : ℕ). rowFrom a (m .round) start (ms ∷ h) ++ ((16 * base a (job k) + m .value) ∷ [])) place
+      ∙ ap (λ (k : ℕ). rowFrom a (m .round) start (ms ∷ h) ++ ((orderByte (base a (job k)) (m .value)) ∷ [])) place
   row-gains (ms ∷ h) start (suc x) m lt none =
       let own : List ℕ = bytesOf a start (inRound (m .round) ms) in
       let others : List ℕ = rowFrom a (m .round) (suc start) h in
       let place : suc start + x ≡ start + suc x = omega arith in
       ap (λ (l : List ℕ). own ++ l) (row-gains h (suc start) x m (omega arith) (λ y above. none (suc y) (omega arith)))
       ∙ sym (append-assoc own others ((16 * base a (job (suc start + x)) + m .value) ∷ []))
-      ∙ ap (λ (k : ℕ). own ++ others ++ ((16 * base a (job k) + m .value) ∷ [])) place
+      ∙ ap (λ (k : ℕ). own ++ others ++ ((orderByte (base a (job k)) (m .value)) ∷ [])) place
 
   -- ---- the rounds, one after the other
 
@@ -174,10 +175,10 @@ module _ (a : Accepted) where
   -- one byte more at the end.
   pub rows-marked : (n : ℕ) (h : Marks) (x r v : ℕ) → x < length h → r < n
       → ((y : ℕ) → x < y → inRound r (getD h y []) ≡ []) → ((y q : ℕ) → r < q → inRound q (getD h y []) ≡ [])
-      → rows a n (marked h x (record { round = r; value = v })) ≡ rows a n h ++ ((16 * base a (job x) + v) ∷ [])
+      → rows a n (marked h x (record { round = r; value = v })) ≡ rows a n h ++ ((orderByte (base a (job x)) v) ∷ [])
   rows-marked n h x r v inside below later above =
       let m : Mark = record { round = r; value = v } in
-      let byte : List ℕ = (16 * base a (job x) + v) ∷ [] in
+      let byte : List ℕ = (orderByte (base a (job x)) v) ∷ [] in
       let place : 0 + x ≡ x = omega arith in
       let row : rowFrom a r 0 (marked h x m) ≡ rowFrom a r 0 h ++ byte = rw place at (row-gains h 0 x m inside later) in
       rows-longer (suc r) n (marked h x m) (λ y q lt. marked-keeps q h x y m (λ e. omega arith) ∙ above y q lt) below
@@ -209,16 +210,16 @@ module _ (a : Accepted) where
 
   -- one step before others, in the round or not
   step-byte : (x : ℕ) (b : Bool) (step : Step) (steps : List Step) (ms : List Mark)
-      → map (λ step. 16 * base a (job x) + step .value) steps ≡ bytesOf a x ms
-      → map (λ step. 16 * base a (job x) + step .value) (if b then step ∷ steps else steps) ≡ bytesOf a x
+      → map (λ step. orderByte (base a (job x)) (step .value)) steps ≡ bytesOf a x ms
+      → map (λ step. orderByte (base a (job x)) (step .value)) (if b then step ∷ steps else steps) ≡ bytesOf a x
       (if b then markOf step ∷ ms else ms)
   unfolding bytesOf markOf if_then_else_
-  step-byte x true step steps ms e = ap (λ (l : List ℕ). (16 * base a (job x) + step .value) ∷ l) e
+  step-byte x true step steps ms e = ap (λ (l : List ℕ). (orderByte (base a (job x)) (step .value)) ∷ l) e
   step-byte x false step steps ms e = e
 
   -- a job's bytes in a round are the same by its steps and by their marks
   step-bytes : (x r : ℕ) (steps : List Step)
-      → map (λ step. 16 * base a (job x) + step .value) (only (λ step. eqb (step .round .0) r) steps) ≡ bytesOf a x
+      → map (λ step. orderByte (base a (job x)) (step .value)) (only (λ step. eqb (step .round .0) r) steps) ≡ bytesOf a x
       (inRound r (map markOf steps))
   unfolding bytesOf inRound only markOf
   step-bytes x r [] = refl

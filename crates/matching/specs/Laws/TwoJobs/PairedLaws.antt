@@ -1,7 +1,7 @@
 -- What `Paired` says of an order so far holds where an order starts, and every step keeps it.
 -- Assumes nothing.
 use mathlib.Core.Path.{_≡_, refl, subst}
-use Prim.Native.Nat.{ℕ, _/_, _%_}
+use Prim.Native.Nat.{ℕ}
 use native.Mathlib.Omega.{arith}
 use mathlib.Core.Bool.{false}
 use mathlib.Core.List.{[]}
@@ -15,6 +15,7 @@ use Rattle.timing.specs.Code.IsAccepted.{IsAccepted}
 use Rattle.machine.specs.declared.Effect.{Effect}
 use Rattle.machine.specs.Ends.{noFlags}
 use Rattle.machine.specs.Instructions.{perform}
+use Rattle.order.specs.OrderBytes.{taskOfByte, valueOfByte}
 use Rattle.order.specs.Code.Invariant.{hasBegun, Invariant}
 use Rattle.order.specs.Orders.{Turn, nextOf, step}
 use Rattle.order.specs.States.{State, initial, hasEnded, isActive, presentPriority}
@@ -77,21 +78,21 @@ module _ {a : Accepted} (ok : IsAccepted a) {s : State} (inv : Invariant a s) {r
     {after : State} where
   abbrev Kept : AllowedStep a s byte after → Type 0
   Kept said =
-      let effect = turnEffect a s (byte % 16) (said .turn) in
-      Paired a after (roundAdvanced r effect) (madeAfter a r (byte % 16) (said .turn) effect made)
+      let effect = turnEffect a s (valueOfByte byte) (said .turn) in
+      Paired a after (roundAdvanced r effect) (madeAfter a r (valueOfByte byte) (said .turn) effect made)
 
   -- by the step's turn
   pub paired-turn : (said : AllowedStep a s byte after) → Kept said
   unfolding turnEffect
   paired-turn said =
       let turn = said .turn in
-      let held = under-every a s (byte / 16) (λ f. priorityNow a made (f .job) ≡ presentPriority a f) (said .due)
+      let held = under-every a s (taskOfByte byte) (λ f. priorityNow a made (f .job) ≡ presentPriority a f) (said .due)
       (at-every (λ f. priorityNow a made (f .job) ≡ presentPriority a f) (turn .frame) (s .active) (λ k lt. paired .priorities k (turn .frame) lt)) in
-      let good = good-turn ok inv (byte / 16) (said .due) .0 in
-      let effect = perform (nextOf a (turn .frame)) (byte % 16) (turn .frame .local) (s .store) in
-      subst (λ (t : State). Paired a t (roundAdvanced r effect) (madeAfter a r (byte % 16) turn effect made))
+      let good = good-turn ok inv (taskOfByte byte) (said .due) .0 in
+      let effect = perform (nextOf a (turn .frame)) (valueOfByte byte) (turn .frame .local) (s .store) in
+      subst (λ (t : State). Paired a t (roundAdvanced r effect) (madeAfter a r (valueOfByte byte) turn effect made))
       (step-after said)
-      (paired-advance ok paired (step-advances ok inv good effect r made (byte % 16) held) inv)
+      (paired-advance ok paired (step-advances ok inv good effect r made (valueOfByte byte) held) inv)
 
   pub paired-step : (allowed : step a s byte ≡ some after) → Kept (step-says a s byte allowed)
   paired-step allowed = paired-turn (step-says a s byte allowed)
