@@ -39,8 +39,8 @@ ghost use Rattle.machine.specs.Instructions.{perform};
 ghost use Rattle.machine.specs.declared.Local.{Local};
 ghost use Rattle.order_states.specs.Code.StateBytes.{frameIn};
 ghost use Rattle.machine_performing.specs.Code.Performed.{Performed};
-ghost use Rattle.order_states.specs.Code.Sizes.{stateBytes};
 ghost use Rattle.taskfile.specs.Chains.{mostInstructions, mostTasks};
+ghost use Rattle.order_states.specs.Code.Sizes.{stateBytes};
 
 // Performs an instruction of the active job at position k, where v is the Pick's choice; says whether an assertion
 // failed. An operation above 11 is taken as End.

@@ -52,11 +52,11 @@ fn slip(
     ensures { λ n. ⌜ n ≡ slipIn (now (program .entry)) (now (waits .entry)) locks tasks
         (snapshotIn (now (s .entry))) byte ⌝ }
 {
-    let i = byte / VALUES;
-    if tasks <= i {
+    let i = Task(byte / VALUES);
+    if tasks <= i.0 {
         return TASK;
     }
-    let d = turn_of(program, waits, locks, s, Task(i));
+    let d = turn_of(program, waits, locks, s, i);
     if !d.due {
         return STEP;
     }

@@ -29,8 +29,8 @@ ghost use Rattle.order_states.specs.Code.SnapshotSteps.{stepIn, madeIn};
 ghost use Rattle.order_states.specs.Code.StateBytes.{frameIn, snapshotIn, IsState, FrameReplaced};
 ghost use Rattle.order_steps.specs.Code.Moving.{Steppable, moverIn, Movable, movedIn};
 ghost use Rattle.order_steps.specs.Code.Noted.{Noted};
-ghost use Rattle.taskfile.specs.Chains.{mostInstructions, mostLocks, mostTasks};
 ghost use Rattle.timing.specs.Accepted.{mostJobs};
+ghost use Rattle.taskfile.specs.Chains.{mostInstructions, mostLocks, mostTasks};
 ghost use Rattle.order_states.specs.Code.Sizes.{stateBytes};
 
 // Notes what came of a step of job x of task i, with so many active jobs under it: a failed assertion, and whether the
@@ -80,15 +80,15 @@ pub fn step_with(program: &[u8; PROGRAM], s: &mut [u8; STATE], f: Frame, under: 
 
 // Places the job whose turn task i's is, if it starts, and says its position. The running job, if `top` is that task,
 // stands there already.
-pub fn place(s: &mut [u8; STATE], top: u8, i: Task) -> u8
-    requires { ⌜ IsState (now s) × (i .0 < mostTasks) × (i .0 ≡ top → 1 ≤ snapshotIn (now s) .depth)
-        × (moverIn (snapshotIn (now s)) top (i .0) .under < mostTasks) ⌝ }
-    ensures { λ k. ⌜ (k ≡ moverIn (snapshotIn (now (s .entry))) top (i .0) .under)
+pub fn place(s: &mut [u8; STATE], top: Task, i: Task) -> u8
+    requires { ⌜ IsState (now s) × (i .0 < mostTasks) × (i .0 ≡ top .0 → 1 ≤ snapshotIn (now s) .depth)
+        × (moverIn (snapshotIn (now s)) (top .0) (i .0) .under < mostTasks) ⌝ }
+    ensures { λ k. ⌜ (k ≡ moverIn (snapshotIn (now (s .entry))) (top .0) (i .0) .under)
         × FrameReplaced (now (s .entry)) (now (s .exit)) k
-        (moverIn (snapshotIn (now (s .entry))) top (i .0) .frame) ⌝ }
+        (moverIn (snapshotIn (now (s .entry))) (top .0) (i .0) .frame) ⌝ }
 {
     let depth = s[DEPTH_AT];
-    if i.0 == top {
+    if i.0 == top.0 {
         return depth - 1;
     }
     let y = Job(s[UNENDED_AT + (i.0 as usize)]);
@@ -98,10 +98,10 @@ pub fn place(s: &mut [u8; STATE], top: u8, i: Task) -> u8
 
 // Makes the move of an order byte, 16 times the task and the value, where `top` is the running job's task: a step of
 // that job, or a start.
-pub fn make_move(program: &[u8; PROGRAM], s: &mut [u8; STATE], top: u8, byte: u8)
-    requires { ⌜ Movable (now s) top byte ⌝ }
+pub fn make_move(program: &[u8; PROGRAM], s: &mut [u8; STATE], top: Task, byte: u8)
+    requires { ⌜ Movable (now s) (top .0) byte ⌝ }
     ensures made { λ _. ⌜ snapshotIn (now (s .exit))
-        ≡ movedIn (now (program .entry)) (snapshotIn (now (s .entry))) top byte ⌝ }
+        ≡ movedIn (now (program .entry)) (snapshotIn (now (s .entry))) (top .0) byte ⌝ }
     ensures whole { λ _. ⌜ IsState (now (s .exit)) ⌝ }
 {
     let i = Task(byte / VALUES);

@@ -51,13 +51,13 @@ pub fn level(program: &[u8; PROGRAM], locks: Ceilings, s: &[u8; STATE]) -> u8
         return 0;
     }
     let at = STACK_AT + FRAME_BYTES * ((depth - 1) as usize);
-    let x = s[at];
-    if MOST_JOBS <= x {
+    let x = Job(s[at]);
+    if MOST_JOBS <= x.0 {
         return MOST_TASKS;
     }
     let ceilings = locks.ceilings;
     let held = eight_at(s, at + HELD_AT);
-    let base = program[OWNERS_AT + (x as usize)];
+    let base = program[OWNERS_AT + (x.0 as usize)];
     let priority = priority_of(ceilings, locks.count, base, held);
     if MOST_TASKS <= priority {
         return MOST_TASKS;

@@ -28,9 +28,9 @@ ghost use lib.ListN.{length};
 ghost use Rattle.machine.specs.Ends.{flagged};
 ghost use Rattle.plan_marks.specs.Code.Marks.{IsMarks, storesBytes};
 ghost use Rattle.plan_marks.specs.Code.RunParts.{JobRanOf, JobsRanOf};
+ghost use Rattle.timing.specs.Accepted.{mostJobs};
 ghost use Rattle.taskfile.specs.Chains.{mostInstructions, mostLocks};
 ghost use Rattle.machine.specs.Buffers.{planRoom};
-ghost use Rattle.timing.specs.Accepted.{mostJobs};
 
 // Does one of two tests hold?
 fn either(x: bool, y: bool) -> bool

@@ -26,8 +26,8 @@ ghost use Rattle.machine.specs.Instructions.{perform};
 ghost use Rattle.plan.specs.Runs.{roundAt};
 ghost use Rattle.plan_marks.specs.Code.Marks.{faultOf, storeAt, withStore, withMark, storesBytes};
 ghost use Rattle.plan.specs.Runs.{stepBytesFor};
-ghost use Rattle.taskfile.specs.Chains.{mostInstructions, mostLocks};
 ghost use Rattle.timing.specs.Accepted.{mostJobs};
+ghost use Rattle.taskfile.specs.Chains.{mostInstructions, mostLocks};
 ghost use Rattle.machine.specs.Buffers.{planRoom};
 
 // The fault of the step whose bytes are at an offset, for its instruction and the round of the job's previous step: 40,

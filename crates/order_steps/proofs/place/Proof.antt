@@ -9,10 +9,10 @@ element-copy-out-depth : tie.Need-element-copy-out-depth
 element-copy-out-depth c = search needs
 
 sub-result : tie.Need-sub-result
-sub-result c = let start = c .before .before .before in top-deep _ _ _ (start .pre .2) (c .if1 .taken)
+sub-result c = let start = c .before .before .before .before in top-deep _ _ _ (start .pre .2) (c .if1 .taken)
 
 returns : tie.Need-returns
-returns c = let start = c .before .before .before in top-placed _ _ _ (start .pre .0) (start .pre .2) (c .if1 .taken)
+returns c = let start = c .before .before .before .before in top-placed _ _ _ (start .pre .0) (start .pre .2) (c .if1 .taken)
 
 cast-t10 : tie.Need-cast-t10
 cast-t10 c = search needs
@@ -29,13 +29,13 @@ fresh-local-requires c κs = search needs
 put-frame-requires : tie.Need-put-frame-requires
 put-frame-requires c κs =
     let else = c .before .before .before .before in
-    let start = else .before .before .before in
+    let start = else .before .before .before .before in
     (start .pre .0 .whole, start-room _ _ _ (else .if1 .left) (start .pre .3))
 
 returns-2 : tie.Need-returns-2
 returns-2 c =
     let else = c .before .before .before .before .before in
-    let start = else .before .before .before in
+    let start = else .before .before .before .before in
     start-placed _ _ _ (else .if1 .left) (start .pre .1) (c .before .fresh-local .ensures) (c .put-frame .ensures)
 
 pub place-spec : {M : Type 1} → statement M

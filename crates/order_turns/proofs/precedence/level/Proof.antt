@@ -24,12 +24,12 @@ mul-at c = search needs
 add-at : tie.Need-add-at
 add-at c = search needs
 
-element-copy-out-x : tie.Need-element-copy-out-x
-element-copy-out-x c = search needs
+element-copy-out-base : tie.Need-element-copy-out-base
+element-copy-out-base c = search needs
 
 returns-2 : tie.Need-returns-2
 returns-2 c =
-    let deep = c .before .before in
+    let deep = c .before .before .before in
     level-no-job _ _ _ (deep .before .before .pre .1) (deep .if1 .left) (c .if2 .taken)
 
 add-eight-at : tie.Need-add-eight-at
@@ -44,17 +44,17 @@ cast-base c = search needs
 add-base : tie.Need-add-base
 add-base c = search needs
 
-element-copy-out-base : tie.Need-element-copy-out-base
-element-copy-out-base c = search needs
+element-copy-out-base-2 : tie.Need-element-copy-out-base-2
+element-copy-out-base-2 c = search needs
 
 priority-of-requires : tie.Need-priority-of-requires
 priority-of-requires c κs = search needs
 
 returns-3 : tie.Need-returns-3
 returns-3 c =
-    let job = c .before .before .before .before .before in
-    let deep = job .before .before in
-    level-high _ _ _ (deep .before .before .pre .1) (deep .if1 .left) (job .if2 .left) (c .before .before .before .eight-at .ensures)
+    let job = c .before .before .before .before .before .before in
+    let deep = job .before .before .before in
+    level-high _ _ _ (deep .before .before .pre .1) (deep .if1 .left) (job .if2 .left) (c .before .before .before .before .eight-at .ensures)
     (c .before .priority-of .ensures) (c .if3 .taken)
 
 add-result : tie.Need-add-result
@@ -62,9 +62,9 @@ add-result c = search needs
 
 returns-4 : tie.Need-returns-4
 returns-4 c =
-    let job = c .before .before .before .before .before in
-    let deep = job .before .before in
-    level-bar _ _ _ (deep .before .before .pre .1) (deep .if1 .left) (job .if2 .left) (c .before .before .before .eight-at .ensures)
+    let job = c .before .before .before .before .before .before in
+    let deep = job .before .before .before in
+    level-bar _ _ _ (deep .before .before .pre .1) (deep .if1 .left) (job .if2 .left) (c .before .before .before .before .eight-at .ensures)
     (c .before .priority-of .ensures) (omega (arith, c .if3 .left))
 
 pub level-spec : {M : Type 1} → statement M
@@ -77,13 +77,13 @@ level-spec =
     cast-at
     mul-at
     add-at
-    element-copy-out-x
+    element-copy-out-base
     returns-2
     add-eight-at
     eight-at-requires
     cast-base
     add-base
-    element-copy-out-base
+    element-copy-out-base-2
     priority-of-requires
     returns-3
     add-result
