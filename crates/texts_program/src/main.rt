@@ -19,7 +19,7 @@ const STANDARD_INPUT: i32 = 0;
 const STANDARD_OUTPUT: i32 = 1;
 
 // The first letter of `window`.
-const FIRST_LETTER: u8 = 119;
+const FIRST_LETTER: u8 = b'w';
 
 // Is this a text, and not a file?
 fn begins_text(bytes: &[u8]) -> bool

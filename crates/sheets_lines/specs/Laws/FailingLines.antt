@@ -137,7 +137,8 @@ module _ (marks : List ℕ) (x : ℕ) where
       ∙ sym (spaced-each jobWord (decimal x ∷ roundsWord ∷ words)))
 
   pub job-rounds-put : {before : List ℕ} {at : ℕ} (count n : ℕ) {one : List ℕ} {l : ℕ} {two : List ℕ} {m : ℕ}
-      {three : List ℕ} {p : ℕ} {four : List ℕ} {q : ℕ} {after : List ℕ} {k : ℕ} → count ≡ stepCount marks x → n ≤ count → count ≤ n → PutsText before at jobWord one l
+      {three : List ℕ} {p : ℕ} {four : List ℕ} {q : ℕ} {after : List ℕ} {k : ℕ} → count ≡ stepCount marks x
+      → n ≤ count → count ≤ n → PutsText before at jobWord one l
       → PutsText one l (space ∷ decimal x) two m → PutsText two m (space ∷ roundsWord) three p
       → PutsText three p (spacedNumbers (roundsTo marks x n)) four q → PutsText four q (newline ∷ []) after k
       → PutsText before at (jobLine marks x) after k

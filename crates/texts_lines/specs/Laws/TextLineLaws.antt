@@ -1,7 +1,7 @@
 -- Laws of a table's lines as they are written one after the other: a body, the tasks, the locks, the whole text.
 -- Assumes nothing.
 use mathlib.Core.Path.{_≡_, refl, sym, ap, _∙_}
-use Prim.Native.Nat.{ℕ, min, _<_}
+use Prim.Native.Nat.{ℕ, min, _+_, _<_}
 use native.Mathlib.Omega.{arith}
 use mathlib.Core.List.{List, [], _∷_, _++_, map, append-assoc}
 use lib.ListN.{length, getD, take, length-take}
@@ -9,7 +9,6 @@ use lib.Seq.{getD-take}
 use Rattle.notation.specs.Laws.ListLaws.{each-append, each-map}
 use Rattle.notation.specs.Lists.{each}
 use Rattle.notation.specs.Texts.{Text}
-use Rattle.taskfile.specs.declared.Instruction.{Instruction}
 use Rattle.taskfile.specs.declared.Table.{Table}
 use Rattle.taskfile.specs.declared.TaskEntry.{TaskEntry}
 use Rattle.taskfile.specs.Tables.{tasksOf, bodyOf, endInstruction, noTask}
@@ -17,11 +16,14 @@ use Rattle.writer.specs.declared.Lock.{Lock}
 use Rattle.writer.specs.Claims.{lockArray, noLock}
 use Rattle.writer.specs.Values.{FitsEntry, Fits}
 use Rattle.writer.specs.Laws.LockLaws.{locks-full}
+use Rattle.taskfile.specs.Tables.{tasksOf, bodyOf}
+use Rattle.writer.specs.Claims.{lockArray}
 use Rattle.texts.specs.declared.Form.the-variants.{WindowLine, StartLine, TaskLine}
 use Rattle.texts.specs.Grammar.{Line, lineWith, lineText, joined}
 use Rattle.texts.specs.TextTables.{instructionLine, taskLines, lockLine, tableLines, textOf}
 use Rattle.sheets_printing.specs.Code.Puts.{PutsText}
 use Rattle.sheets_printing.specs.Laws.LineLaws.{puts-same, puts-more}
+use Rattle.sheets_printing.specs.Laws.SpacedLaws.{partsTo, listed-more}
 
 -- ---- the lines of a list
 
@@ -48,45 +50,18 @@ module _ {A : Type 0} {before : Text} {at : ℕ} (xs : List A) {after : Text} {n
 
 -- ---- the parts that an array holds: as many as the count says, and never more than the array has
 
-held-counted : {A : Type 0} (count : ℕ) (array : List A) {most n : ℕ} → length array ≡ most → n ≡ min count most
+pub held-counted : {A : Type 0} (count : ℕ) (array : List A) {most n : ℕ} → length array ≡ most → n ≡ min count most
     → n ≡ length (take count array)
 held-counted count array full is = omega (arith, length-take count array, is)
 
-held-element : {A : Type 0} (count : ℕ) (array : List A) (k : ℕ) (d : A) {x : A} → x ≡ getD array k d
-    → k < length (take count array) → x ≡ getD (take count array) k d
-held-element count array k d is inside = is ∙ sym (getD-take count array k d (omega (arith, length-take count array)))
-
-module _ (e : TaskEntry) where
-  pub body-many : {n : ℕ} → FitsEntry e → n ≡ min (e .length) 16 → n ≡ length (bodyOf e)
-  unfolding bodyOf
-  body-many fit is = held-counted (e .length) (e .body) (fit .body) is
-
-  pub body-element : (p : ℕ) {x : Instruction} → x ≡ getD (e .body) p endInstruction → p < length (bodyOf e)
-      → x ≡ getD (bodyOf e) p endInstruction
-  unfolding bodyOf
-  body-element p is inside = held-element (e .length) (e .body) p endInstruction is inside
-
-module _ (t : Table) where
-  pub tasks-many : {n : ℕ} → Fits t → n ≡ min (t .tasks) 8 → n ≡ length (tasksOf t)
-  unfolding tasksOf
-  tasks-many fit is = held-counted (t .tasks) (t .entries) (fit .entriesFull) is
-
-  pub tasks-element : (i : ℕ) {x : TaskEntry} → x ≡ getD (t .entries) i noTask → i < length (tasksOf t)
-      → x ≡ getD (tasksOf t) i noTask
-  unfolding tasksOf
-  tasks-element i is inside = held-element (t .tasks) (t .entries) i noTask is inside
-
-  unfoldable pub heldLocks : List Lock
-  heldLocks = take (t .locks) (lockArray t)
-
-  pub locks-many : {n : ℕ} → Fits t → n ≡ min (t .locks) 8 → n ≡ length heldLocks
-  unfolding heldLocks
-  locks-many fit is = held-counted (t .locks) (lockArray t) (locks-full t fit) is
-
-  pub locks-element : (l : ℕ) {x : Lock} → x ≡ getD (lockArray t) l noLock → l < length heldLocks
-      → x ≡ getD heldLocks l noLock
-  unfolding heldLocks
-  locks-element l is inside = held-element (t .locks) (lockArray t) l noLock is inside
+-- the lines of one element more, as it stands in the array
+pub held-more : {A : Type 0} (part : A → Text) (count : ℕ) (array : List A) (k : ℕ) (d : A) {x : A} {before : Text} {at : ℕ}
+    {mid : Text} {m : ℕ} {after : Text} {n : ℕ} → k < length (take count array) → x ≡ getD array k d
+    → PutsText before at (partsTo part (take count array) k) mid m → PutsText mid m (part x) after n
+    → PutsText before at (partsTo part (take count array) (k + 1)) after n
+held-more part count array k d inside is first second =
+    listed-more part (take count array) k d inside
+    (is ∙ sym (getD-take count array k d (omega (arith, length-take count array)))) first second
 
 -- ---- a task's lines, and a whole text
 

@@ -10,6 +10,7 @@ use lib.Seq.{take-append-seam}
 use lib.Dec.{eqb}
 use borrow.Author.Tests.{eq-eqb, ne-eqb}
 use Rattle.notation.specs.Checked.{Checked, refused, passed}
+use Rattle.notation.specs.Letters.{w}
 use Rattle.notation.specs.Lists.{if_then_else_, firstOr}
 use Rattle.notation.specs.Texts.{decimal}
 use Rattle.notation.specs.Laws.TextSizes.{decimal-most, line-most}
@@ -31,7 +32,7 @@ unfolding beginsText firstOr
 beginsText-none [] none = refl
 beginsText-none (b ∷ bytes) none = absurd (omega (arith, none))
 
-pub beginsText-first : (bytes : List ℕ) → (length bytes ≡ 0 → ⊥) → eqb (getD bytes 0 0) 119 ≡ beginsText bytes
+pub beginsText-first : (bytes : List ℕ) → (length bytes ≡ 0 → ⊥) → eqb (getD bytes 0 0) w ≡ beginsText bytes
 unfolding beginsText firstOr
 beginsText-first [] more = absurd (more refl)
 beginsText-first (b ∷ bytes) more = refl

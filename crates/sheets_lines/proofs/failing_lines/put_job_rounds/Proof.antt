@@ -43,8 +43,12 @@ loop-holds c = (omega arith, job-rounds-none _ _ _ _)
 
 round-at-requires : tie.Need-round-at-requires Inv-loop μ-loop
 round-at-requires c κs =
-    let start = c .before .before .before .before .before .before .before .before .before .before .before .before .before .before .before .before .before .before .pre in
-    (start .1, omega (arith, c .before .before .count-at .ensures, start .0 .few _ (start .1)))
+    let counted = c .before .before in
+    let third = counted .before .before .before in
+    let second = third .before .before .before .before .before in
+    let first = second .before .before .before .before in
+    let start = first .before .before .before .before .pre in
+    (start .1, omega (arith, counted .count-at .ensures, start .0 .few _ (start .1)))
 
 then-byte-requires-2 : tie.Need-then-byte-requires-2 Inv-loop μ-loop
 then-byte-requires-2 c κs = search needs

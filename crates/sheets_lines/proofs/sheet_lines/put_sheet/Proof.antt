@@ -44,7 +44,8 @@ put-totals-requires c κs = search needs
 
 put-tasks-requires : tie.Need-put-tasks-requires
 put-tasks-requires c κs =
-    let told = c .before .before .before .before .before .before .before .before .before .before in
+    let totals = c .before .before .before in
+    let told = totals .before .before .before .before .before .before .before in
     table-timeable _ _ (told .before .before .accept-file .ensures) (told .enum-told .given .1)
 
 put-findings-requires : tie.Need-put-findings-requires

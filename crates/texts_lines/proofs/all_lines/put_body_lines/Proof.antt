@@ -12,8 +12,8 @@ use Rattle.texts.specs.Grammar.{lineText}
 use Rattle.texts.specs.TextTables.{instructionLine}
 use Rattle.sheets_printing.specs.Code.Puts.{PutsText}
 use Rattle.sheets_printing.specs.Laws.LineLaws.{puts-length}
-use Rattle.sheets_printing.specs.Laws.SpacedLaws.{partsTo, listed-none, listed-more, listed-whole}
-use Rattle.texts_lines.specs.Laws.TextLineLaws.{body-many, body-element, lines-put}
+use Rattle.sheets_printing.specs.Laws.SpacedLaws.{partsTo, listed-none, listed-whole}
+use Rattle.texts_lines.specs.Laws.TextLineLaws.{held-counted, held-more, lines-put}
 use Rattle.texts_lines.proofs.all_lines.put_body_lines.Statement.{statement}
 use Rattle.texts_lines.proofs.all_lines.put_body_lines.Tie as tie
 
@@ -28,9 +28,11 @@ abbrev μ-loop : tie.MeasureT-loop
 -- how many there are
 counted : (c : tie.After-held-count Inv-loop μ-loop)
     → c .held-count .result ≡ length (bodyOf (c .before .before .args .e))
+unfolding bodyOf
 counted c =
     let start = c .before .before in
-    body-many (start .args .e) (entry-fits (start .args .e) _ (start .good .0)) (c .held-count .ensures)
+    let e = start .args .e in
+    held-counted (e .length) (e .body) (entry-fits e _ (start .good .0) .body) (c .held-count .ensures)
 
 held-count-requires : tie.Need-held-count-requires Inv-loop μ-loop
 held-count-requires c κs = search needs
@@ -51,16 +53,16 @@ loop-less : tie.Need-loop-less Inv-loop μ-loop
 loop-less c = search needs
 
 loop-again : tie.Need-loop-again Inv-loop μ-loop
+unfolding bodyOf
 loop-again c =
     let put = c .before .before in
     let found = put .before .before in
     let at = found .before .before in
-    let start = at .before .before .before in
-    let inside : at .loop .p < length (bodyOf (start .args .e)) = omega (arith, counted (at .before)) in
+    let e = at .before .before .before .args .e in
+    let inside : at .loop .p < length (bodyOf e) = omega (arith, counted (at .before)) in
     let written = put .put-instruction-line .ensures in (
       omega arith,
-      listed-more _ _ (at .loop .p) endInstruction inside
-          (body-element _ (at .loop .p) (found .instruction-of .ensures) inside) (at .loop .inv .1) written,
+      held-more _ (e .length) (e .body) (at .loop .p) endInstruction inside (found .instruction-of .ensures) (at .loop .inv .1) written,
     )
 
 same-length : tie.Need-same-length Inv-loop μ-loop

@@ -12,8 +12,8 @@ use Rattle.texts.specs.Grammar.{joined}
 use Rattle.texts.specs.TextTables.{taskLines}
 use Rattle.sheets_printing.specs.Code.Puts.{PutsText}
 use Rattle.sheets_printing.specs.Laws.LineLaws.{puts-length}
-use Rattle.sheets_printing.specs.Laws.SpacedLaws.{partsTo, listed-none, listed-more, listed-whole}
-use Rattle.texts_lines.specs.Laws.TextLineLaws.{tasks-many, tasks-element, lines-listed}
+use Rattle.sheets_printing.specs.Laws.SpacedLaws.{partsTo, listed-none, listed-whole}
+use Rattle.texts_lines.specs.Laws.TextLineLaws.{held-counted, held-more, lines-listed}
 use Rattle.texts_lines.proofs.all_lines.put_tasks_lines.Statement.{statement}
 use Rattle.texts_lines.proofs.all_lines.put_tasks_lines.Tie as tie
 
@@ -27,9 +27,11 @@ abbrev μ-loop : tie.MeasureT-loop
 -- how many there are
 counted : (c : tie.After-held-count Inv-loop μ-loop)
     → c .held-count .result ≡ length (tasksOf (c .before .before .args .t))
+unfolding tasksOf
 counted c =
     let start = c .before .before in
-    tasks-many (start .args .t) (table-fits (start .args .t) _ (start .good .0)) (c .held-count .ensures)
+    let t = start .args .t in
+    held-counted (t .tasks) (t .entries) (table-fits t _ (start .good .0) .entriesFull) (c .held-count .ensures)
 
 held-count-requires : tie.Need-held-count-requires Inv-loop μ-loop
 held-count-requires c κs = search needs
@@ -50,16 +52,16 @@ loop-less : tie.Need-loop-less Inv-loop μ-loop
 loop-less c = search needs
 
 loop-again : tie.Need-loop-again Inv-loop μ-loop
+unfolding tasksOf
 loop-again c =
     let put = c .before .before in
     let found = put .before .before in
     let at = found .before .before in
-    let start = at .before .before .before in
-    let inside : at .loop .i < length (tasksOf (start .args .t)) = omega (arith, counted (at .before)) in
+    let t = at .before .before .before .args .t in
+    let inside : at .loop .i < length (tasksOf t) = omega (arith, counted (at .before)) in
     let written = put .put-task-lines .ensures in (
       omega arith,
-      listed-more _ _ (at .loop .i) noTask inside
-          (tasks-element _ (at .loop .i) (found .entry-of .ensures) inside) (at .loop .inv .1) written,
+      held-more _ (t .tasks) (t .entries) (at .loop .i) noTask inside (found .entry-of .ensures) (at .loop .inv .1) written,
     )
 
 same-length : tie.Need-same-length Inv-loop μ-loop
