@@ -194,57 +194,63 @@ module _ {text : Text} {t : Table} {line stage from : ℕ} (done : TextReadTo te
   unfolding isEmpty
   text-whole over late = sym (last-passed t line stage [] (le-leb atTasks stage late)) ∙ text-over over
 
-  -- a line with a newline behind it
-  module _ (to : ℕ) (is : to ≡ partEnd 10 text from) (ended : to < length text) (r : LineRead)
-      (read : r ≡ lineAnswer (lineRead line stage (take (to - from) (drop from text)))) where
-    bytes : Text
-    bytes = take (to - from) (drop from text)
+-- the line from a byte on was found, with a newline behind it, and reading it came to an answer
+pub record LineFound (text : Text) (t : Table) (line stage from to : ℕ) (r : LineRead) : Type 0 where
+  pub done : TextReadTo text t line stage from
+  pub is : to ≡ partEnd 10 text from
+  pub ended : to < length text
+  pub read : r ≡ lineAnswer (lineRead line stage (take (to - from) (drop from text)))
 
-    later : Line → Checked ℕ Table
-    later l =
-        tableRead (addPart t (l .form) (l .numbers)) (suc line) (rowOf (l .form) .stage) (parts 10 (drop (to + 1) text))
+module _ {text : Text} {t : Table} {line stage from to : ℕ} {r : LineRead}
+    (found : LineFound text t line stage from to r) where
+  bytes : Text
+  bytes = take (to - from) (drop from text)
 
-    text-next : tableReadAs (_>>=_ (lineRead line stage bytes) later) ≡ textAnswer (textRead text)
-    unfolding bytes later
-    text-next =
-        sym (ap (restRead t line stage) (parts-line text from (done .within) to is ended)
-        ∙ ap tableReadAs (line-first t line stage bytes (drop (to + 1) text)))
-        ∙ done .rest
+  later : Line → Checked ℕ Table
+  later l =
+      tableRead (addPart t (l .form) (l .numbers)) (suc line) (rowOf (l .form) .stage) (parts 10 (drop (to + 1) text))
 
-    -- it is refused
-    pub text-stopped : (r .number ≡ 0 → ⊥)
-        → record { number = r .number; line = line; table = emptyTable } ≡ textAnswer (textRead text)
-    unfolding tableReadAs bytes
-    text-stopped other =
-        let refuses = answer-refused (line-read-at line stage bytes) r read other in
-        sym (ap tableReadAs (bind-refused later refuses)) ∙ text-next
+  text-next : tableReadAs (_>>=_ (lineRead line stage bytes) later) ≡ textAnswer (textRead text)
+  unfolding bytes later
+  text-next =
+      sym (ap (restRead t line stage) (parts-line text from (found .done .within) to (found .is) (found .ended))
+      ∙ ap tableReadAs (line-first t line stage bytes (drop (to + 1) text)))
+      ∙ found .done .rest
 
-    -- it passes
-    module _ (zero : r .number ≡ 0) where
-      line-answered : Answered r (lineRead line stage bytes)
-      unfolding bytes
-      line-answered = answer-passed (line-read-at line stage bytes) r read zero
+  -- it is refused
+  pub text-stopped : (r .number ≡ 0 → ⊥)
+      → record { number = r .number; line = line; table = emptyTable } ≡ textAnswer (textRead text)
+  unfolding tableReadAs bytes
+  text-stopped other =
+      let refuses = answer-refused (line-read-at line stage bytes) r (found .read) other in
+      sym (ap tableReadAs (bind-refused later refuses)) ∙ text-next
 
-      pub numbers-fit : PartFits (r .form) (r .numbers)
-      numbers-fit = answer-fits line-answered
+  -- it passes
+  module _ (zero : r .number ≡ 0) where
+    line-answered : Answered r (lineRead line stage bytes)
+    unfolding bytes
+    line-answered = answer-passed (line-read-at line stage bytes) r (found .read) zero
 
-      pub text-more : (u : Table) → u ≡ addPart t (r .form) (r .numbers) → (s : ℕ) → s ≡ rowOf (r .form) .stage
-          → TextReadTo text u (line + 1) s (to + 1)
-      unfolding later
-      text-more u isTable s isStage =
-          let l = line-answered .line in
-          let table : u ≡ addPart t (l .form) (l .numbers) =
-          isTable
-          ∙ (λ i. addPart t (line-answered .form i) (line-answered .numbers i))
-          ∙ part-padded t (l .form) (l .numbers) in
-          let stage : s ≡ rowOf (l .form) .stage =
-          isStage ∙ ap (λ (f : Form). rowOf f .stage) (line-answered .form) in
-          let rest = parts 10 (drop (to + 1) text) in
-          record {
-            rest =
-                (λ i. restRead (table i) (add-one line i) (stage i) rest)
-                ∙ sym (ap tableReadAs (bind-goes later (line-answered .passes)))
-                ∙ text-next;
-            within = omega arith;
-            few = omega (arith, done .few, is, partEnd-within 10 text from (done .within));
-          }
+    pub numbers-fit : PartFits (r .form) (r .numbers)
+    numbers-fit = answer-fits line-answered
+
+    pub text-more : (u : Table) → u ≡ addPart t (r .form) (r .numbers) → (s : ℕ) → s ≡ rowOf (r .form) .stage
+        → TextReadTo text u (line + 1) s (to + 1)
+    unfolding later
+    text-more u isTable s isStage =
+        let l = line-answered .line in
+        let table : u ≡ addPart t (l .form) (l .numbers) =
+        isTable
+        ∙ (λ i. addPart t (line-answered .form i) (line-answered .numbers i))
+        ∙ part-padded t (l .form) (l .numbers) in
+        let stage : s ≡ rowOf (l .form) .stage =
+        isStage ∙ ap (λ (f : Form). rowOf f .stage) (line-answered .form) in
+        let rest = parts 10 (drop (to + 1) text) in
+        record {
+          rest =
+              (λ i. restRead (table i) (add-one line i) (stage i) rest)
+              ∙ sym (ap tableReadAs (bind-goes later (line-answered .passes)))
+              ∙ text-next;
+          within = omega (arith, found .ended);
+          few = omega (arith, found .done .few, found .is, partEnd-within 10 text from (found .done .within));
+        }

@@ -7,13 +7,11 @@ use native.Mathlib.Omega.{arith}
 use mathlib.Core.Logic.{inl, inr}
 use borrow.Author.Needs.{needs}
 use borrow.Author.Tests.{not-false}
-use lib.ListN.{length, take, drop}
+use lib.ListN.{length}
 use Rattle.texts_reading.specs.Laws.NamedLineLaws.{line-placed}
 use Rattle.texts.specs.Code.AddedLines.{addPart}
-use Rattle.texts.specs.Code.LineParts.{lineAnswer}
-use Rattle.texts.specs.Reading.{lineRead}
 use Rattle.texts_tables.specs.Laws.TextReadLaws.{TextReadTo, text-begun, text-unended, text-short, text-whole}
-use Rattle.texts_tables.specs.Laws.TextReadLaws.{text-stopped, numbers-fit, text-more}
+use Rattle.texts_tables.specs.Laws.TextReadLaws.{LineFound, text-stopped, numbers-fit, text-more}
 use Rattle.texts_tables.proofs.text_reader.read_text.Statement.{statement}
 use Rattle.texts_tables.proofs.text_reader.read_text.Tie as tie
 
@@ -28,18 +26,21 @@ ended : (c : tie.Else1 Inv-loop μ-loop)
     → c .before .part-end .result < length (c .before .before .before .before .before .before .args .text .now)
 ended c = omega (arith, c .before .part-end .ensures .1, c .if1 .left)
 
--- what reading it came to, said of its place
-answered : (c : tie.After-read-line Inv-loop μ-loop)
-    → let turn = c .before .before .before .before in
-    let text = turn .before .before .before .before .args .text .now in
-    let at = turn .before .loop in
-    c .read-line .result
-    ≡ lineAnswer
-    (lineRead (at .line) (at .stage)
-    (take (c .before .before .before .part-end .result - at .from) (drop (at .from) text)))
-answered c =
-    let at = c .before .before .before .before .before .loop in
-    c .read-line .ensures ∙ sym (line-placed (at .line) (at .stage) _)
+-- and was read
+line-found : (c : tie.After-read-line Inv-loop μ-loop)
+    → let part = c .before .before .before in
+    let at = part .before .before .loop in
+    LineFound (part .before .before .before .before .before .args .text .now) (at .t) (at .line) (at .stage) (at .from)
+    (part .part-end .result) (c .read-line .result)
+line-found c =
+    let part = c .before .before .before in
+    let at = part .before .before .loop in
+    record {
+      done = at .inv;
+      is = part .part-end .ensures .0;
+      ended = ended (c .before .before);
+      read = c .read-line .ensures ∙ sym (line-placed (at .line) (at .stage) _);
+    }
 
 -- where the line was found whose part was added
 abbrev found : tie.After-stage-after Inv-loop μ-loop → tie.Else1 Inv-loop μ-loop
@@ -93,21 +94,15 @@ refused-text-requires-2 c κs = search needs
 
 returns-2 : tie.Need-returns-2 Inv-loop μ-loop
 returns-2 c =
-    let read = c .before .before .before in
-    let part = read .before .before .before in
-    c .refused-text2 .ensures
-    ∙ text-stopped (part .before .before .loop .inv) _ (part .part-end .ensures .0) (ended (read .before .before)) _
-    (answered read) (c .before .if2 .taken)
+    c .refused-text2 .ensures ∙ text-stopped (line-found (c .before .before .before)) (c .before .if2 .taken)
 
 adds-nothing-requires : tie.Need-adds-nothing-requires Inv-loop μ-loop
 adds-nothing-requires c κs = search needs
 
 add-part-requires : tie.Need-add-part-requires Inv-loop μ-loop
 add-part-requires c κs =
-    let read = c .before .before .before .before .before in
-    let part = read .before .before .before in
-    numbers-fit (part .before .before .loop .inv) _ (part .part-end .ensures .0) (ended (read .before .before)) _
-    (answered read) (c .before .before .before .if2 .left)
+    let passed = c .before .before .before in
+    numbers-fit (line-found (passed .before .before)) (passed .if2 .left)
 
 stage-after-requires : tie.Need-stage-after-requires Inv-loop μ-loop
 stage-after-requires c κs = search needs
@@ -126,10 +121,8 @@ loop-less c =
 
 loop-again : tie.Need-loop-again Inv-loop μ-loop
 loop-again c =
-    let read = c .before .before .before .before .before .before in
-    let part = read .before .before .before in
-    text-more (part .before .before .loop .inv) _ (part .part-end .ensures .0) (ended (read .before .before)) _
-    (answered read) (c .before .before .before .before .if2 .left) _ (part-added (c .before)) _
+    let passed = c .before .before .before .before in
+    text-more (line-found (passed .before .before)) (passed .if2 .left) _ (part-added (c .before)) _
     (c .stage-after .ensures)
 
 refused-text-requires-3 : tie.Need-refused-text-requires-3 Inv-loop μ-loop
