@@ -18,7 +18,6 @@ use Rattle.machine.specs.declared.RunAnswer.{RunAnswer}
 use Rattle.machine.specs.Ends.{Flags, noFlags, noStore}
 use Rattle.order.specs.Replay.{replayAnswer}
 use Rattle.walk.specs.declared.Verdict.the-variants.{Holds, Fails}
-use Rattle.walk.specs.declared.WalkAnswer.{WalkAnswer}
 use Rattle.walk.specs.WalkEntry.{walkAnswer, walkAfter, refusal}
 use Rattle.plan.specs.Plans.{planAnswer}
 use Rattle.matching.specs.ConversionEntries.{orderToPlanAnswer, orderToPlanAfter, planToOrderAnswer, planToOrderAfter}

@@ -13,7 +13,6 @@ use lib.Dec.{eqb}
 use Rattle.taskfile.specs.declared.Instruction.{Instruction}
 use Rattle.taskfile.specs.Judgement.{instructionOf}
 use Rattle.notation.specs.Lists.{if_then_else_, member, firstWith}
-use Rattle.timing.specs.declared.Job.{Job}
 use Rattle.timing.specs.Accepted.{Accepted}
 use Rattle.timing.specs.Relations.{base, jobAt, jobNumbers}
 use Rattle.machine.specs.Ends.{End, flagged}

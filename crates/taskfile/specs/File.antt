@@ -9,7 +9,7 @@ use lib.Dec.{leb, eqb}
 use Rattle.taskfile.specs.declared.Site.{Site}
 use Rattle.taskfile.specs.declared.Site.the-variants.{AtHeader, AtTask, AtInstruction, AtLock}
 use Rattle.taskfile.specs.declared.Table.{Table}
-use Rattle.taskfile.specs.Chains.{Chains, TaskChain, chainsOf}
+use Rattle.taskfile.specs.Chains.{Chains, chainsOf}
 use Rattle.notation.specs.Checked.{Checked, passed, require, placedBy, _>>=_, _>>_}
 use Rattle.taskfile.specs.Judgement.{judged}
 use Rattle.taskfile.specs.Records.{File}

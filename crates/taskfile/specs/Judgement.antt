@@ -12,10 +12,8 @@ use Rattle.taskfile.specs.declared.Site.{Site}
 use Rattle.taskfile.specs.declared.Site.the-variants.{AtHeader, AtTask, AtInstruction, AtLock}
 use Rattle.taskfile.specs.declared.Table.{Table}
 use Rattle.taskfile.specs.declared.Task.{Task}
-use Rattle.taskfile.specs.declared.TaskEntry.{TaskEntry}
-use Rattle.taskfile.specs.Chains.{Chains}
 use Rattle.notation.specs.Checked.{Checked, noneOf, _>>_}
-use Rattle.notation.specs.Lists.{from, upTo, each}
+use Rattle.notation.specs.Lists.{upTo, each}
 use Rattle.taskfile.specs.Tables.{tasksOf, taskOf, bodyOf, ceilingsOf, endInstruction}
 
 -- the task with a number, and all of them in chain order

@@ -10,9 +10,8 @@ use lib.Dec.{leb}
 use borrow.Author.Tests.{le-leb, lt-leb}
 use Rattle.notation.specs.Lists.{if_then_else_}
 use Rattle.taskfile.specs.Records.{File}
-use Rattle.timing.specs.declared.JobRecord.{JobRecord}
 use Rattle.timing.specs.declared.ListAnswer.{ListAnswer}
-use Rattle.timing.specs.ReadEntries.{listAnswer, listAfter}
+use Rattle.timing.specs.ReadEntries.{listAnswer}
 use Rattle.timing_acceptance.specs.declared.job_list.Listed.{Listed}
 use Rattle.timing_acceptance.specs.Code.Filled.{listFilled, ListedAs}
 use Rattle.timing_acceptance.specs.Laws.FilledLaws.{listFilled-none}

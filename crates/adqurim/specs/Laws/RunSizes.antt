@@ -12,7 +12,6 @@ use Rattle.taskfile.specs.Records.{File}
 use Rattle.timing.specs.Accepted.{Accepted, accept}
 use Rattle.machine.specs.Buffers.{Written, runAnswer, unwritten, orderRoom, planRoom}
 use Rattle.machine.specs.Ends.{End, Flags, noStore, noFlags}
-use Rattle.machine.specs.Instructions.{Store}
 use Rattle.order.specs.Orders.{OrderEnds}
 use Rattle.plan.specs.Plans.{PlanEnds, checkPlan, checked, planAnswer}
 use Rattle.plan.specs.Runs.{Plan}

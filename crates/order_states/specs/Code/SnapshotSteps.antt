@@ -11,7 +11,7 @@ use lib.ListN.{getD, set, take, replicate}
 use lib.Dec.{leb, ltb, eqb}
 use Rattle.taskfile.specs.declared.Ceilings.{Ceilings}
 use Rattle.taskfile.specs.declared.Instruction.{Instruction}
-use Rattle.notation.specs.Lists.{if_then_else_, all, any, upTo, member}
+use Rattle.notation.specs.Lists.{if_then_else_, any, upTo, member}
 use Rattle.timing.specs.declared.Job.{Job}
 use Rattle.machine.specs.declared.Effect.{Effect}
 use Rattle.machine.specs.Ends.{flagged, noFlags}

@@ -17,10 +17,8 @@ use Rattle.taskfile.specs.declared.Ceilings.{Ceilings}
 use Rattle.notation.specs.Lists.{if_then_else_}
 use Rattle.notation.specs.Ordered.{Every}
 use Rattle.notation.specs.Laws.TestLaws.{and-both, and-holds, test-decided, not-both, other-fails}
-use Rattle.timing.specs.declared.Job.{Job}
 use Rattle.timing.specs.Accepted.{Accepted}
 use Rattle.timing.specs.Relations.{IsJob, base}
-use Rattle.machine.specs.Instructions.{fresh}
 use Rattle.order_states.specs.declared.Due.{Due}
 use Rattle.order_states.specs.Code.Snapshots.{Snapshot}
 use Rattle.order.specs.Code.Invariant.{IsRunning, Invariant}
@@ -30,7 +28,7 @@ use Rattle.timing.specs.Laws.BaseLaws.{base-small}
 use Rattle.order_states.specs.Code.Shows.{Lends, Shows}
 use Rattle.order_states.specs.Code.SnapshotSteps.{ownedBy, stackOf, nobody, levelIn, startsIn, startTurn, startIn, topOf, runsIn, topTurn, turnIn}
 use Rattle.timing.specs.Code.IsAccepted.{IsAccepted}
-use Rattle.order_states.specs.Laws.ShowLaws.{active-top, no-active, unended}
+use Rattle.order_states.specs.Laws.ShowLaws.{active-top, no-active}
 use Rattle.order_states.specs.Laws.StartLaws.{starts-says}
 use Rattle.order_states.specs.Laws.StartAgreed.{start-is, start-agreed-none}
 use Rattle.order.specs.States.{State}

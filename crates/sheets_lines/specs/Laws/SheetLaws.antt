@@ -7,12 +7,10 @@ use mathlib.Core.List.{List, [], _∷_, _++_}
 use lib.Dec.{leb}
 use lib.ListN.{length}
 use borrow.Author.Tests.{le-leb, lt-leb}
-use Rattle.notation.specs.Checked.{Checked, refused, passed}
+use Rattle.notation.specs.Checked.{Checked, passed}
 use Rattle.notation.specs.Laws.CheckedLaws.{require-holds, require-fails}
 use Rattle.notation.specs.Lists.{upTo, each}
 use Rattle.notation.specs.Texts.{Text, decimal, line}
-use Rattle.taskfile.specs.Code.JudgingParts.{Shaped}
-use Rattle.taskfile.specs.Judgement.{taskNumbers}
 use Rattle.taskfile.specs.Laws.JudgingLaws.{tasks-length}
 use Rattle.taskfile.specs.Records.{File}
 use Rattle.taskfile.specs.Tables.{tasksOf}
@@ -31,7 +29,7 @@ use Rattle.timing.specs.declared.JobList.{JobList}
 use Rattle.plan.specs.Runs.{jobTotal}
 use Rattle.notation_buffers.specs.Laws.WritingLaws.{appends-count, appends-front}
 use Rattle.sheets.specs.Laws.SheetSizes.{sheet-fits}
-use Rattle.sheets.specs.Sheets.{refusedLine, totalsLine, taskLine, findings, tableSheet, sheetFrom, sheetOf}
+use Rattle.sheets.specs.Sheets.{refusedLine, totalsLine, tableSheet, sheetFrom, sheetOf}
 use Rattle.sheets.specs.Sheets.{sheetRoom, printed, sheetAnswerOf, sheetAfterOf, sheetAnswer, sheetAfter}
 use Rattle.sheets.specs.SheetWords.{tasksWord, jobsWord}
 use Rattle.sheets_printing.specs.Code.Puts.{PutsText}

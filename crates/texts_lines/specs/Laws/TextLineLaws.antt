@@ -11,11 +11,6 @@ use Rattle.notation.specs.Lists.{each}
 use Rattle.notation.specs.Texts.{Text}
 use Rattle.taskfile.specs.declared.Table.{Table}
 use Rattle.taskfile.specs.declared.TaskEntry.{TaskEntry}
-use Rattle.taskfile.specs.Tables.{tasksOf, bodyOf, endInstruction, noTask}
-use Rattle.writer.specs.declared.Lock.{Lock}
-use Rattle.writer.specs.Claims.{lockArray, noLock}
-use Rattle.writer.specs.Values.{FitsEntry, Fits}
-use Rattle.writer.specs.Laws.LockLaws.{locks-full}
 use Rattle.taskfile.specs.Tables.{tasksOf, bodyOf}
 use Rattle.writer.specs.Claims.{lockArray}
 use Rattle.texts.specs.declared.Form.the-variants.{WindowLine, StartLine, TaskLine}

@@ -4,7 +4,6 @@ use Prim.Native.Nat.{ℕ, _≤_, _<_}
 use mathlib.Core.List.{List}
 use lib.ListN.{length, getD}
 use Rattle.taskfile.specs.declared.Table.{Table}
-use Rattle.taskfile.specs.declared.Task.{Task}
 use Rattle.notation.specs.Lists.{padded}
 use Rattle.taskfile.specs.Tables.{taskOf}
 use Rattle.taskfile.specs.Judgement.{numbered}

@@ -14,7 +14,7 @@ use Rattle.order.specs.Laws.Opened.{ordersOpened}
 use Rattle.order.specs.Orders.{run}
 use Rattle.order.specs.States.{State, initial}
 use Rattle.walk.specs.Laws.Opened.{walksOpened}
-use Rattle.walk.specs.Moves.{Move, moves}
+use Rattle.walk.specs.Moves.{moves}
 use Rattle.walk.specs.WalkEntry.{decided}
 use Rattle.walk.specs.Walks.{walk}
 

@@ -20,7 +20,6 @@ use Rattle.walk.specs.Laws.CaseLaws.{walk-end, walk-cut, walk-on, after-
 use Rattle.walk.specs.Moves.{Move, moves}
 use Rattle.walk.specs.Code.FromState.{pathsFrom, pathsThrough, walkFrom, trial}
 use Rattle.walk.specs.Paths.{UpTo}
-use Rattle.walk.specs.WalkEntry.{decided}
 use Rattle.walk.specs.Walks.{EndedOrder, Walked, fails, starting, afterMove, atEnd}
 
 -- a walk over the listed paths made all their moves, or those up to the failing order

@@ -9,14 +9,12 @@ use mathlib.Core.List.{List, [], _∷_}
 use mathlib.Core.Option.{Option, none, some, bind}
 use lib.Dec.{leb}
 use lib.ListN.{length, getD, length-set}
-use Rattle.taskfile.specs.declared.Instruction.{Instruction}
 use Rattle.notation.specs.Checked.{Checked, refused, passed, require}
 use Rattle.notation.specs.Laws.CheckedLaws.{passed-same, bind-passed, then-passed}
 use Rattle.taskfile.specs.Records.{File}
 use Rattle.timing.specs.Accepted.{Accepted, accept}
 use Rattle.timing.specs.Laws.AcceptedLaws.{file-accepted}
 use Rattle.timing.specs.Code.IsAccepted.{IsAccepted}
-use Rattle.machine.specs.declared.Local.{Local}
 use Rattle.machine.specs.Ends.{Flags, End, noFlags, noStore}
 use Rattle.machine.specs.Buffers.{orderRoom, runAnswer, unwritten}
 use Rattle.machine.specs.Instructions.{Store}

@@ -6,10 +6,8 @@ use native.Mathlib.Omega.{arith}
 use native.Mathlib.Numerals.{add-one}
 use mathlib.Core.List.{List, [], _∷_, _++_, append-assoc, append-nil}
 use lib.ListN.{length, drop, drop-of-length-le}
-use Rattle.taskfile.specs.declared.Instruction.{Instruction}
 use Rattle.taskfile.specs.declared.Table.{Table}
 use Rattle.taskfile.specs.declared.TaskEntry.{TaskEntry}
-use Rattle.writer.specs.declared.Lock.{Lock}
 use Rattle.writer.specs.Claims.{claimedTasks, claimedBody, claimedLocks}
 use Rattle.writer.specs.Sites.{locksAt}
 use Rattle.writer.specs.Layout.{linkTo, instructionRecord, bodyRecords, taskRecord, afterTask, taskRecords}
