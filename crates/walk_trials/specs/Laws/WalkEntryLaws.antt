@@ -127,7 +127,9 @@ module _ (f : File) (allowance : ℕ) (buffer : List ℕ) (x : AcceptAnswer) (sa
   pub entry-refused : {n p : ℕ} → x .check ≡ Refused n p
       → (refusal n p ≡ walkAnswer f allowance buffer) × (buffer ≡ walkAfter f allowance buffer)
   unfolding walkAnswer walkAfter walkAnswerOf walkAfterOf
-  entry-refused e = (sym (ap (walkAnswerOf allowance) (refused-entry e)), sym (ap (λ (c : Checked ℕ Accepted). walkAfterOf allowance c buffer) (refused-entry e)))
+  entry-refused e =
+      let refused = refused-entry e in
+      (sym (ap (walkAnswerOf allowance) refused), sym (ap (λ (c : Checked ℕ Accepted). walkAfterOf allowance c buffer) refused))
 
   module _ (passes : x .check ≡ Passed) where
     abbrev found : (a : Accepted) × (accept f ≡ passed a) × AcceptedParts x a

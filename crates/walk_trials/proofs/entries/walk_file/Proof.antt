@@ -37,7 +37,9 @@ returns-2 : tie.Need-returns-2
 returns-2 c =
     let file = c .before .before .before .before in
     let few = c .before .if1 .taken in
-    let answer = entry-no-room _ _ (file .before .before .before .args .out .now) _ (file .accept-file .ensures) (c .before .before .enum-told .given .1) (omega (arith, few)) in
+    let passes = c .before .before .enum-told .given .1 in
+    let buffer = file .before .before .before .args .out .now in
+    let answer = entry-no-room _ _ buffer _ (file .accept-file .ensures) passes (omega (arith, few)) in
     (c .refused-walk2 .ensures ∙ answer .0, answer .1)
 
 walk-table-requires : tie.Need-walk-table-requires
@@ -50,52 +52,65 @@ shown-length-requires c κs = search needs
 
 array-share-prefix-path : tie.Need-array-share-prefix-path
 array-share-prefix-path c =
-    let says = c .before .before .before .before .before .before .before .accept-file .ensures in
-    let passes = c .before .before .before .before .before .enum-told .given .1 in
-    let room = c .before .before .before .before .if1 .left in
-    let buffer = c .before .before .before .before .before .before .before .before .before .before .args .out .now in
-    let table = c .before .before .walk-table .ensures in
-    omega (arith, entry-short _ _ buffer _ says passes room (table .1), c .before .shown-length .ensures, table .0)
+    let table = c .before .before in
+    let room = table .before .before .if1 .left in
+    let told = table .before .before .before in
+    let passes = told .enum-told .given .1 in
+    let says = told .before .before .accept-file .ensures in
+    let buffer = told .before .before .before .before .before .args .out .now in
+    let walked = table .walk-table .ensures in
+    omega (arith, entry-short _ _ buffer _ says passes room (walked .1), c .before .shown-length .ensures, walked .0)
 
 slice-aggregate-write-bytes : tie.Need-slice-aggregate-write-bytes
 slice-aggregate-write-bytes c =
-    let says = c .before .before .before .before .before .before .before .before .accept-file .ensures in
-    let passes = c .before .before .before .before .before .before .enum-told .given .1 in
-    let room = c .before .before .before .before .before .if1 .left in
-    let buffer = c .before .before .before .before .before .before .before .before .before .before .before .args .out .now in
-    let table = c .before .before .before .walk-table .ensures in
-    sym (length-take-le _ _ (omega (arith, entry-short _ _ buffer _ says passes room (table .1), c .before .before .shown-length .ensures, table .0)))
+    let table = c .before .before .before in
+    let room = table .before .before .if1 .left in
+    let told = table .before .before .before in
+    let passes = told .enum-told .given .1 in
+    let says = told .before .before .accept-file .ensures in
+    let buffer = told .before .before .before .before .before .args .out .now in
+    let walked = table .walk-table .ensures in
+    let short = entry-short _ _ buffer _ says passes room (walked .1) in
+    sym (length-take-le _ _ (omega (arith, short, c .before .before .shown-length .ensures, walked .0)))
 
 write-bytes-requires : tie.Need-write-bytes-requires
 write-bytes-requires c κs = c .before .before .before .before .before .if1 .left
 
 clear-from-requires : tie.Need-clear-from-requires
 clear-from-requires c κs =
-    let puts = c .before .before .before .write-bytes .ensures in
-    let room = c .before .before .before .before .before .before .before .before .before .if1 .left in
+    let written = c .before .before .before in
+    let puts = written .write-bytes .ensures in
+    let room = written .before .before .before .before .before .before .if1 .left in
     (appends-within puts (omega arith), omega (arith, appends-length puts room, room))
 
 outcome-answer-requires : tie.Need-outcome-answer-requires
 outcome-answer-requires c κs =
-    let says = c .before .before .before .before .before .before .before .before .before .before .before .before .before .before .before .accept-file .ensures in
-    let passes = c .before .before .before .before .before .before .before .before .before .before .before .before .before .enum-told .given .1 in
-    let room = c .before .before .before .before .before .before .before .before .before .before .before .before .if1 .left in
-    let buffer = c .before .before .before .before .before .before .before .before .before .before .before .before .before .before .before .before .before .before .args .out .now in
-    let table = c .before .before .before .before .before .before .before .before .before .before .walk-table .ensures in
-    entry-length _ _ buffer _ says passes room (table .1)
+    let written = c .before .before .before .before .before .before in
+    let table = written .before .before .before .before in
+    let room = table .before .before .if1 .left in
+    let told = table .before .before .before in
+    let passes = told .enum-told .given .1 in
+    let says = told .before .before .accept-file .ensures in
+    let buffer = told .before .before .before .before .before .args .out .now in
+    entry-length _ _ buffer _ says passes room (table .walk-table .ensures .1)
 
 same-length : tie.Need-same-length
 same-length c = search needs
 
 returns-3 : tie.Need-returns-3
 returns-3 c =
-    let says = c .before .before .before .before .before .before .before .before .before .before .before .before .before .before .before .before .accept-file .ensures in
-    let passes = c .before .before .before .before .before .before .before .before .before .before .before .before .before .before .enum-told .given .1 in
-    let room = c .before .before .before .before .before .before .before .before .before .before .before .before .before .if1 .left in
-    let buffer = c .before .before .before .before .before .before .before .before .before .before .before .before .before .before .before .before .before .before .before .args .out .now in
-    let table = c .before .before .before .before .before .before .before .before .before .before .before .walk-table .ensures in (
-      c .outcome-answer .ensures ∙ entry-answer _ _ buffer _ says passes room (table .1),
-      entry-after _ _ buffer _ says passes room (table .1) (c .before .before .before .before .before .before .before .before .before .before .shown-length .ensures) (c .before .before .before .before .before .before .before .write-bytes .ensures) (c .before .before .before .clear-from .ensures),
+    let cleared = c .before .before .before in
+    let written = cleared .before .before .before .before in
+    let shown = written .before .before .before in
+    let table = shown .before in
+    let room = table .before .before .if1 .left in
+    let told = table .before .before .before in
+    let passes = told .enum-told .given .1 in
+    let says = told .before .before .accept-file .ensures in
+    let buffer = told .before .before .before .before .before .args .out .now in
+    let walked = table .walk-table .ensures .1 in (
+      c .outcome-answer .ensures ∙ entry-answer _ _ buffer _ says passes room walked,
+      entry-after _ _ buffer _ says passes room walked (shown .shown-length .ensures) (written .write-bytes .ensures) (cleared .clear-from .ensures),
     )
 
 pub walk-file-spec : {M : Type 1} → statement M

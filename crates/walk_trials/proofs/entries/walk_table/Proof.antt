@@ -21,28 +21,36 @@ ended-requires c κs = search needs
 outcome-of-requires : tie.Need-outcome-of-requires
 outcome-of-requires c κs = search needs
 
+-- from where the first state's end is known back to what was lent
+abbrev lentAt : tie.After-finished → tie.After-lend
+lentAt asked = asked .before .before .before .before .before .before .before .before
+
 returns : tie.Need-returns
 returns c =
-    let lent = c .before .before .before .before .before .before .before .before .before .before .before .before .before .lend .ensures in
-    let finished = sym (c .before .before .before .before .before .finished .ensures) ∙ c .before .before .before .before .if1 .taken in
-    let walked = ended-answer 512 {count = 0} {allowance = c .before .before .before .before .before .before .before .before .before .before .before .before .before .before .args .allowance} _ (omega arith) finished (c .before .before .ended .ensures) in
-    (c .before .before .before .before .before .before .before .before .before .before .before .before .before .before .pre .2, rw (c .outcome-of .ensures) (walk-lent lent (walked .1)))
+    let test = c .before .before .before .before in
+    let lent = lentAt (test .before) in
+    let start = lent .before in
+    let finished = sym (test .before .finished .ensures) ∙ test .if1 .taken in
+    let walked = ended-answer 512 {count = 0} {allowance = start .args .allowance} _ (omega arith) finished (c .before .before .ended .ensures) in
+    (start .pre .2, rw (c .outcome-of .ensures) (walk-lent (lent .lend .ensures) (walked .1)))
 
 trial-requires : tie.Need-trial-requires
 trial-requires c κs =
-    let lent = c .before .before .before .before .before .before .before .before .before .before .before .before .before .before .before .lend .ensures in
-    (lent .few, lent .whole, omega arith, omega arith, c .before .before .before .before .before .before .before .before .before .before .before .before .before .before .before .before .pre .2)
+    let lent = lentAt (c .before .before .before .before .before .before .before) in
+    let given = lent .lend .ensures in
+    (given .few, given .whole, omega arith, omega arith, lent .before .pre .2)
 
 outcome-of-requires-2 : tie.Need-outcome-of-requires-2
 outcome-of-requires-2 c κs = search needs
 
 returns-2 : tie.Need-returns-2
 returns-2 c =
-    let lent = c .before .before .before .before .before .before .before .before .before .before .before .before .before .before .before .before .before .before .lend .ensures in
-    let going = sym (c .before .before .before .before .before .before .before .before .before .before .finished .ensures) ∙ c .before .before .before .before .before .before .before .before .before .if1 .left in
-    let tried = c .before .before .trial .ensures in
-    let walked = tried-answer {left = 512} going (λ none. omega arith) (omega arith) tried in
-    (tried .0 .0 ∙ c .before .before .before .before .before .before .before .before .before .before .before .before .before .before .before .before .before .before .before .pre .2, rw (c .outcome-of2 .ensures) (walk-lent lent (walked .1)))
+    let tried = c .before .before in
+    let test = tried .before .before .before .before .before .before .before in
+    let lent = lentAt (test .before) in
+    let going = sym (test .before .finished .ensures) ∙ test .if1 .left in
+    let walked = tried-answer {left = 512} going (λ none. omega arith) (omega arith) (tried .trial .ensures) in
+    (tried .trial .ensures .0 .0 ∙ lent .before .pre .2, rw (c .outcome-of2 .ensures) (walk-lent (lent .lend .ensures) (walked .1)))
 
 pub walk-table-spec : {M : Type 1} → statement M
 walk-table-spec =
