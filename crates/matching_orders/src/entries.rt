@@ -7,6 +7,7 @@ use notation_buffers::clear_from;
 use order_lending::filling::program_of;
 use order_states::ORDER_ROOM;
 use plan_check::entries::check_table;
+use plan_marks::Fault;
 use plan_marks::MARKS;
 use taskfile::Check;
 use taskfile::Table;
@@ -51,8 +52,8 @@ pub fn plan_to_order(file: &[u8], plan: &[u8], out: &mut [u8]) -> RunAnswer
     }
     let r = check_table(accepted.table, accepted.list, plan);
     let fault = r.fault;
-    if fault.number != 0 {
-        return refused_run(fault.number, fault.place);
+    if let Fault::At(number, place) = fault {
+        return refused_run(number, place);
     }
     let marks = r.marks;
     let length = write_order(accepted.table, accepted.list, &marks, out);

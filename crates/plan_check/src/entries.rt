@@ -5,6 +5,7 @@ use machine::RunAnswer;
 use machine_locals::answers::ended_run;
 use machine_locals::answers::refused_run;
 use order_lending::lend_times;
+use plan_marks::Fault;
 use plan_marks::PlanChecked;
 use plan_runs::whole_runs::run_plan;
 use taskfile::Check;
@@ -32,12 +33,9 @@ pub fn check_table(t: Table, list: JobList, plan: &[u8]) -> PlanChecked
     let marks = ran.marks;
     let failed = ran.failed;
     let store = t.store;
-    let mut fault = ran.fault;
-    if fault.number == 0 {
-        fault = legality_fault(&program, &times, plan, store, &stores, &marks, k);
-    }
+    let fault = ran.fault;
     PlanChecked {
-        fault: fault,
+        fault: legality_fault(fault, &program, &times, plan, store, &stores, &marks, k),
         store: end_store(store, &stores, k),
         failed: failed,
         marks: marks,
@@ -55,8 +53,8 @@ pub fn check_plan(file: &[u8], plan: &[u8]) -> RunAnswer
     }
     let r = check_table(accepted.table, accepted.list, plan);
     let fault = r.fault;
-    if fault.number != 0 {
-        return refused_run(fault.number, fault.place);
+    if let Fault::At(number, place) = fault {
+        return refused_run(number, place);
     }
     let store = r.store;
     let failed = r.failed;

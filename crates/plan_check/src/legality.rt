@@ -18,7 +18,8 @@ ghost use Prim.Native.Nat.{_+_, _*_, _≤_, _<_};
 ghost use lib.ListN.{length};
 ghost use Rattle.notation.specs.Lists.{lastOr};
 ghost use Rattle.plan.specs.Runs.{guess};
-ghost use Rattle.plan_marks.specs.Code.Marks.{faultOf, storesIn, IsMarks};
+ghost use Rattle.plan_marks.specs.declared.Fault.the-variants.{Nothing};
+ghost use Rattle.plan_marks.specs.Code.Marks.{faultOf, faultThen, storesIn, IsMarks};
 ghost use Rattle.plan_marks.specs.Code.PairParts.{dueStoreIn, guessFaultIn, legalityIn};
 ghost use Rattle.timing.specs.Accepted.{mostJobs};
 
@@ -63,21 +64,16 @@ pub fn guess_fault(plan: &[u8], store: [u8; VARIABLES], stores: &[u8; STORES], k
             due_store(store, stores, k, Round(r)),
         ) {
             let place = r as u32;
-            return Fault {
-                number: GUESS,
-                place: place,
-            };
+            return Fault::At(GUESS, place);
         }
         r += 1;
     }
-    Fault {
-        number: 0,
-        place: 0,
-    }
+    Fault::Nothing
 }
 
-// The first fault of 43, 44 and 45.
+// The fault of a plan whose run came to this one: that, or the first of 43, 44 and 45.
 pub fn legality_fault(
+    ran: Fault,
     program: &[u8; PROGRAM],
     times: &[u64; TIMES],
     plan: &[u8],
@@ -86,18 +82,21 @@ pub fn legality_fault(
     marks: &[u8; MARKS],
     k: u8,
 ) -> Fault
-    requires { ⌜ IsMarks (now marks) × (k ≤ mostJobs) × (1 + 8 * k ≤ length (now plan)) ⌝ }
-    ensures { λ r. ⌜ r ≡ faultOf (legalityIn (now (program .entry)) (now (times .entry)) (now (plan .entry)) store
+    requires { ⌜ IsMarks (now marks) × (k ≤ mostJobs) × (ran ≡ Nothing → 1 + 8 * k ≤ length (now plan)) ⌝ }
+    ensures { λ r. ⌜ r ≡ faultThen ran (legalityIn (now (program .entry)) (now (times .entry)) (now (plan .entry)) store
         (now (stores .entry)) (now (marks .entry)) k) ⌝ }
 {
+    let Fault::Nothing = ran else {
+        return ran;
+    };
     let order = pair_fault(ORDER, program, times, marks, k);
-    if order.number != 0 {
+    let Fault::Nothing = order else {
         return order;
-    }
+    };
     let lock = pair_fault(LOCK, program, times, marks, k);
-    if lock.number != 0 {
+    let Fault::Nothing = lock else {
         return lock;
-    }
+    };
     guess_fault(plan, store, stores, k)
 }
 

@@ -42,10 +42,10 @@ pub const MARKS: usize = COUNTS + JOBS;
 
 // ---- What the functions yield.
 
-// 0 or the number of a fault, and its place.
-pub struct Fault {
-    pub number: u8,
-    pub place: u32,
+// The fault of a plan: none, or its number at its place, an offset, a job or a round.
+pub enum Fault {
+    Nothing,
+    At(u8, u32),
 }
 
 // What a job's run comes to: its fault, the offset after its steps, and whether an assertion of it failed.

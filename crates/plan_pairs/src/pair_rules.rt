@@ -9,9 +9,11 @@ use plan_marks::MARKS;
 use plan_marks::rounds::count_at;
 use plan_marks::rounds::priority_after;
 use plan_marks::rounds::round_at;
+use taskfile::Task;
 use timing::Job;
 ghost use mathlib.Core.Path.{_≡_};
 ghost use Prim.Native.Nat.{_<_};
+ghost use Rattle.plan.specs.Runs.{earlier};
 ghost use Rattle.plan_marks.specs.Code.Marks.{IsMarks};
 ghost use Rattle.plan_marks.specs.Code.PairParts.{roundOfStart, roundOfEnd, beforeKept, roundsApart, roundsNested, noneWithin};
 ghost use Rattle.plan_marks.specs.Code.PairParts.{preemptKept, priorityReached, lockKept, orderFaulty, lockFaulty};
@@ -58,12 +60,12 @@ pub fn none_within(marks: &[u8; MARKS], x: Job, r: Round, q: Round) -> bool
 }
 
 // Job x's priority after its steps up to round r, where its base is this.
-pub fn priority_up_to(marks: &[u8; MARKS], base: u8, x: Job, r: Round) -> u8
+pub fn priority_up_to(marks: &[u8; MARKS], base: Task, x: Job, r: Round) -> u8
     requires { ⌜ IsMarks (now marks) × (x .0 < mostJobs) ⌝ }
-    ensures { λ p. ⌜ p ≡ priorityReached (now (marks .entry)) base (x .0) r ⌝ }
+    ensures { λ p. ⌜ p ≡ priorityReached (now (marks .entry)) (base .0) (x .0) r ⌝ }
 {
     let count = count_at(marks, x);
-    let mut priority = base;
+    let mut priority = base.0;
     let mut n: u8 = 0;
     while n < count {
         let p = round_at(marks, x, n);
@@ -73,6 +75,14 @@ pub fn priority_up_to(marks: &[u8; MARKS], base: u8, x: Job, r: Round) -> u8
         n += 1;
     }
     priority
+}
+
+// Does job x end before job y starts?
+pub fn ends_before(marks: &[u8; MARKS], x: Job, y: Job) -> bool
+    requires { ⌜ IsMarks (now marks) × (x .0 < mostJobs) × (y .0 < mostJobs) ⌝ }
+    ensures { λ b. ⌜ b ≡ earlier (roundOfEnd (now (marks .entry)) (x .0)) (roundOfStart (now (marks .entry)) (y .0)) ⌝ }
+{
+    end_round(marks, x).0 < start_round(marks, y).0
 }
 
 // X before Y: does X end before Y starts?
@@ -89,7 +99,7 @@ pub fn before_kept(
     if !comes_before(program, times, x, y) {
         return true;
     }
-    end_round(marks, x).0 < start_round(marks, y).0
+    ends_before(marks, x, y)
 }
 
 // Does one of the two end before the other starts?
@@ -97,10 +107,10 @@ pub fn rounds_apart(marks: &[u8; MARKS], x: Job, y: Job) -> bool
     requires { ⌜ IsMarks (now marks) × (x .0 < mostJobs) × (y .0 < mostJobs) ⌝ }
     ensures { λ b. ⌜ b ≡ roundsApart (now (marks .entry)) (x .0) (y .0) ⌝ }
 {
-    if end_round(marks, x).0 < start_round(marks, y).0 {
+    if ends_before(marks, x, y) {
         return true;
     }
-    end_round(marks, y).0 < start_round(marks, x).0
+    ends_before(marks, y, x)
 }
 
 // Is y nested in x?
@@ -154,9 +164,10 @@ pub fn lock_kept(
     if !rounds_nested(marks, y, x) {
         return true;
     }
-    let base = program[OWNERS_AT + (x.0 as usize)];
+    let base = Task(program[OWNERS_AT + (x.0 as usize)]);
     let priority = priority_up_to(marks, base, x, start_round(marks, y));
-    priority < program[OWNERS_AT + (y.0 as usize)]
+    let other = Task(program[OWNERS_AT + (y.0 as usize)]);
+    priority < other.0
 }
 
 // Does the pair break the round rules, locks aside?

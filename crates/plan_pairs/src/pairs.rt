@@ -71,15 +71,9 @@ pub fn pair_fault(
     let mut x: u8 = 0;
     while x < k {
         if faulty_with(number, program, times, marks, k, Job(x)) {
-            return Fault {
-                number: number,
-                place: x as u32,
-            };
+            return Fault::At(number, x as u32);
         }
         x += 1;
     }
-    Fault {
-        number: 0,
-        place: 0,
-    }
+    Fault::Nothing
 }

@@ -1,5 +1,6 @@
 // The run of a plan's jobs, each whole, in number order.
 use crate::plan_steps::make_step;
+use crate::plan_steps::mark_step;
 use crate::plan_steps::step_fault;
 use machine::POSITIONS;
 use machine_locals::registers::fresh_local;
@@ -28,9 +29,10 @@ ghost use lib.ListN.{length};
 ghost use Rattle.machine.specs.Ends.{flagged};
 ghost use Rattle.plan_marks.specs.Code.Marks.{IsMarks, storesBytes};
 ghost use Rattle.plan_marks.specs.Code.RunParts.{JobRanOf, JobsRanOf};
-ghost use Rattle.timing.specs.Accepted.{mostJobs};
-ghost use Rattle.taskfile.specs.Chains.{mostInstructions, mostLocks};
+ghost use Rattle.plan_runs.specs.Code.StepBounds.{mayStep};
 ghost use Rattle.machine.specs.Buffers.{planRoom};
+ghost use Rattle.taskfile.specs.Chains.{mostInstructions, mostLocks};
+ghost use Rattle.timing.specs.Accepted.{mostJobs};
 
 // Does one of two tests hold?
 fn either(x: bool, y: bool) -> bool
@@ -60,18 +62,21 @@ fn job_ran(fault: Fault, offset: usize, failed: bool) -> JobRan
     }
 }
 
-// No fault.
-pub fn no_fault() -> Fault
-    ensures { λ r. ⌜ r ≡ record { number = 0; place = 0 } ⌝ }
+// May a job make its step n, at this position of the body of its base? Base and position are within bounds for every
+// job of an accepted table.
+fn may_step(base: Task, next: u16, n: u8) -> bool
+    ensures { λ b. ⌜ b ≡ mayStep (base .0) next n ⌝ }
 {
-    Fault {
-        number: 0,
-        place: 0,
+    if MOST_INSTRUCTIONS <= n {
+        return false;
     }
+    if MOST_TASKS <= base.0 {
+        return false;
+    }
+    next < POSITIONS
 }
 
-// The run of job x, whose steps' bytes start at an offset: step after step until its End. The tests of base and
-// position never hold for an accepted table.
+// The run of job x, whose steps' bytes start at an offset: step after step until its End.
 pub fn run_job(
     program: &[u8; PROGRAM],
     locks: Ceilings,
@@ -87,36 +92,29 @@ pub fn run_job(
     ensures { λ r. ⌜ JobRanOf (now (program .entry)) locks (now (plan .entry)) k (x .0) start
         (now (stores .entry)) (now (marks .entry)) (now (stores .exit)) (now (marks .exit)) r ⌝ }
 {
-    let base = program[OWNERS_AT + (x.0 as usize)];
+    let base = Task(program[OWNERS_AT + (x.0 as usize)]);
     let mut local = fresh_local();
     let mut previous = Round(0);
     let mut failed = false;
     let mut offset = start;
     let mut n: u8 = 0;
-    while n < MOST_INSTRUCTIONS {
-        let next = local.next;
-        if MOST_TASKS <= base {
-            return job_ran(no_fault(), offset, failed);
-        }
-        if POSITIONS <= next {
-            return job_ran(no_fault(), offset, failed);
-        }
-        let i = instruction_at(program, Task(base), next);
+    while may_step(base, local.next, n) {
+        let i = instruction_at(program, base, local.next);
         let fault = step_fault(plan, k, i, previous, offset);
-        if fault.number != 0 {
+        let Fault::Nothing = fault else {
             return job_ran(fault, offset, failed);
-        }
-        let effect = make_step(plan, offset, i, locks, base, x, n, local, stores, marks);
-        previous = Round(plan[offset]);
+        };
+        let effect = make_step(plan, offset, i, local, stores);
+        previous = mark_step(plan, offset, locks, base, effect.local, x, n, marks);
         failed = either(failed, effect.failed);
         offset += STEP_BYTES;
         if effect.ended {
-            return job_ran(no_fault(), offset, failed);
+            return job_ran(Fault::Nothing, offset, failed);
         }
         local = effect.local;
         n += 1;
     }
-    job_ran(no_fault(), offset, failed)
+    job_ran(Fault::Nothing, offset, failed)
 }
 
 // The run of all k jobs.
@@ -140,18 +138,18 @@ pub fn run_jobs(
         let ran = run_job(program, locks, plan, k, Job(x), offset, stores, marks);
         let fault = ran.fault;
         offset = ran.offset;
-        if fault.number != 0 {
+        let Fault::Nothing = fault else {
             return JobsRan {
                 fault: fault,
                 offset: offset,
                 failed: failed,
             };
-        }
+        };
         flag_job(ran.failed, Job(x), &mut failed);
         x += 1;
     }
     JobsRan {
-        fault: no_fault(),
+        fault: Fault::Nothing,
         offset: offset,
         failed: failed,
     }

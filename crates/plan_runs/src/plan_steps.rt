@@ -13,6 +13,7 @@ use plan_marks::rounds::put_store;
 use plan_marks::rounds::store_of;
 use taskfile::Ceilings;
 use taskfile::Instruction;
+use taskfile::Task;
 use taskfile::numbers::ROUND;
 use taskfile::numbers::SHAPE;
 use taskfile::numbers::VALUE;
@@ -37,72 +38,68 @@ pub fn step_fault(plan: &[u8], k: u8, i: Instruction, previous: Round, offset: u
     ensures { λ r. ⌜ r ≡ faultOf (stepBytesFor k i (now (plan .entry)) previous offset) ⌝ }
 {
     if plan.len() <= offset + 1 {
-        return Fault {
-            number: SHAPE,
-            place: plan.len() as u32,
-        };
+        return Fault::At(SHAPE, plan.len() as u32);
     }
-    let round = plan[offset];
-    if k <= round {
-        return Fault {
-            number: ROUND,
-            place: offset as u32,
-        };
+    let round = Round(plan[offset]);
+    if k <= round.0 {
+        return Fault::At(ROUND, offset as u32);
     }
-    if round < previous.0 {
-        return Fault {
-            number: ROUND,
-            place: offset as u32,
-        };
+    if round.0 < previous.0 {
+        return Fault::At(ROUND, offset as u32);
     }
     if !on_offer(i, plan[offset + 1]) {
-        return Fault {
-            number: VALUE,
-            place: (offset + 1) as u32,
-        };
+        return Fault::At(VALUE, (offset + 1) as u32);
     }
-    Fault {
-        number: 0,
-        place: 0,
-    }
+    Fault::Nothing
 }
 
-// Makes the step whose bytes are at an offset, the step n of job x, whose base is this: its instruction on its round's
-// store.
+// Makes the step whose bytes are at an offset: its instruction, from where its job stands, on its round's store.
 pub fn make_step(
     plan: &[u8],
     offset: usize,
     i: Instruction,
-    locks: Ceilings,
-    base: u8,
-    x: Job,
-    n: u8,
     local: Local,
     stores: &mut [u8; STORES],
-    marks: &mut [u8; MARKS],
 ) -> Effect
     requires bytes { ⌜ (offset + 1 < length (now plan)) × (roundAt (now plan) offset .0 < mostJobs) ⌝ }
-    requires bounds { ⌜ (locks .count ≤ mostLocks) × (x .0 < mostJobs) × (n < mostInstructions) × (local .next < mostInstructions) × LocksWithin local ⌝ }
-    requires arrays { ⌜ (length (now stores) ≡ storesBytes) × (length (now marks) ≡ 1568) ⌝ }
+    requires bounds { ⌜ (local .next < mostInstructions) × LocksWithin local × (length (now stores) ≡ storesBytes) ⌝ }
     ensures effect { λ e. ⌜ e ≡ perform i (getD (now (plan .entry)) (offset + 1) 0) local
         (storeAt (now (stores .entry)) (roundAt (now (plan .entry)) offset .0)) ⌝ }
     ensures stores { λ e. ⌜ now (stores .exit)
         ≡ withStore (now (stores .entry)) (roundAt (now (plan .entry)) offset .0) (e .store) ⌝ }
-    ensures marks { λ e. ⌜ now (marks .exit) ≡ withMark (now (marks .entry)) (x .0) n (record {
+{
+    let r = Round(plan[offset]);
+    let effect = perform_instruction(i, plan[offset + 1], local, store_of(stores, r));
+    let store = effect.store;
+    put_store(stores, r, store);
+    effect
+}
+
+// Marks the step whose bytes are at an offset as step n of job x, which has this base and stands here after it. It
+// answers the step's round.
+pub fn mark_step(
+    plan: &[u8],
+    offset: usize,
+    locks: Ceilings,
+    base: Task,
+    local: Local,
+    x: Job,
+    n: u8,
+    marks: &mut [u8; MARKS],
+) -> Round
+    requires bytes { ⌜ offset + 1 < length (now plan) ⌝ }
+    requires bounds { ⌜ (locks .count ≤ mostLocks) × (x .0 < mostJobs) × (n < mostInstructions) × (length (now marks) ≡ 1568) ⌝ }
+    ensures round { λ r. ⌜ r ≡ roundAt (now (plan .entry)) offset ⌝ }
+    ensures marks { λ _. ⌜ now (marks .exit) ≡ withMark (now (marks .entry)) (x .0) n (record {
       round = roundAt (now (plan .entry)) offset;
       value = getD (now (plan .entry)) (offset + 1) 0;
-      priorityAfter = priority (take (locks .count) (locks .ceilings)) base (e .local .held);
+      priorityAfter = priority (take (locks .count) (locks .ceilings)) (base .0) (local .held);
     }) ⌝ }
 {
     let r = Round(plan[offset]);
-    let value = plan[offset + 1];
-    let effect = perform_instruction(i, value, local, store_of(stores, r));
-    let store = effect.store;
-    put_store(stores, r, store);
-    let own = effect.local;
-    let held = own.held;
     let ceilings = locks.ceilings;
-    let priority = priority_of(ceilings, locks.count, base, held);
-    put_mark(marks, x, n, r, value, priority);
-    effect
+    let held = local.held;
+    let priority = priority_of(ceilings, locks.count, base.0, held);
+    put_mark(marks, x, n, r, plan[offset + 1], priority);
+    r
 }

@@ -1,5 +1,4 @@
 // The run of a plan: its first byte and its guesses, its jobs, and nothing left over.
-use crate::job_runs::no_fault;
 use crate::job_runs::run_jobs;
 use order_states::PROGRAM;
 use plan_marks::Fault;
@@ -15,6 +14,7 @@ ghost use mathlib.Core.Path.{_≡_};
 ghost use Prim.Native.Nat.{_+_, _*_, _≤_, _<_};
 ghost use lib.ListN.{length, drop};
 ghost use lib.Seq.{paste};
+ghost use Rattle.plan_marks.specs.declared.Fault.the-variants.{At};
 ghost use Rattle.plan_marks.specs.Code.Marks.{IsMarks, storesBytes};
 ghost use Rattle.plan_marks.specs.Code.RunParts.{leftoverFault, PlanRanOf};
 ghost use Rattle.taskfile.specs.Chains.{mostLocks};
@@ -36,14 +36,11 @@ pub fn copy_guesses(plan: &[u8], k: u8, stores: &mut [u8; STORES])
 
 // A plan at fault before any of its jobs has run.
 pub fn misshapen(place: u32) -> PlanRan
-    ensures fault { λ r. ⌜ r .fault ≡ record { number = 40; place = place } ⌝ }
+    ensures fault { λ r. ⌜ r .fault ≡ At 40 place ⌝ }
     ensures marks { λ r. ⌜ IsMarks (r .marks) ⌝ }
 {
     PlanRan {
-        fault: Fault {
-            number: SHAPE,
-            place: place,
-        },
+        fault: Fault::At(SHAPE, place),
         failed: [false; JOBS],
         stores: [0; STORES],
         marks: [0; MARKS],
@@ -55,16 +52,13 @@ pub fn leftover_fault(plan: &[u8], fault: Fault, offset: usize) -> Fault
     requires { ⌜ offset ≤ planRoom ⌝ }
     ensures { λ r. ⌜ r ≡ leftoverFault (length (now (plan .entry))) fault offset ⌝ }
 {
-    if fault.number != 0 {
+    let Fault::Nothing = fault else {
         return fault;
-    }
+    };
     if offset != plan.len() {
-        return Fault {
-            number: SHAPE,
-            place: offset as u32,
-        };
+        return Fault::At(SHAPE, offset as u32);
     }
-    no_fault()
+    Fault::Nothing
 }
 
 // The run of a plan of k jobs: 40 to 42, or the steps, the stores left in the rounds and the failed jobs.
@@ -86,8 +80,9 @@ pub fn run_plan(program: &[u8; PROGRAM], locks: Ceilings, plan: &[u8], k: u8) ->
     copy_guesses(plan, k, &mut stores);
     let ran = run_jobs(program, locks, plan, k, &mut stores, &mut marks);
     let failed = ran.failed;
+    let fault = ran.fault;
     PlanRan {
-        fault: leftover_fault(plan, ran.fault, ran.offset),
+        fault: leftover_fault(plan, fault, ran.offset),
         failed: failed,
         stores: stores,
         marks: marks,

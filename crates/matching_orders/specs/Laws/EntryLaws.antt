@@ -3,7 +3,6 @@
 -- Assumes nothing.
 use mathlib.Core.Path.{_≡_, refl, sym, ap, _∙_}
 use Prim.Native.Nat.{ℕ, _≤_, _<_}
-use native.Mathlib.Omega.{arith}
 use mathlib.Core.List.{List}
 use lib.Dec.{leb}
 use lib.ListN.{length}
@@ -25,8 +24,10 @@ use Rattle.plan.specs.Plans.{legalRun}
 use Rattle.plan.specs.Runs.{Plan, JobRuns}
 use Rattle.matching.specs.Conversions.{orderOf, planToOrder}
 use Rattle.matching.specs.ConversionEntries.{orderedPlan, planToOrderAnswer, planToOrderAfter}
+use Rattle.plan_marks.specs.declared.Fault.the-variants.{Nothing, At}
 use Rattle.plan_marks.specs.declared.PlanChecked.{PlanChecked}
 use Rattle.plan_marks.specs.Code.TableParts.{PlanCheckedAs, PlanCheckedOf}
+use Rattle.plan_marks.specs.Laws.FaultLaws.{some-fault, fault-same}
 use Rattle.matching_orders.specs.Code.OrderWritten.{OrderWritten}
 
 -- the answer is that of a plan's end and of bytes of this number
@@ -82,25 +83,23 @@ module _ (f : File) (plan : Plan) (buffer : List ℕ) (x : AcceptAnswer) (says :
       same : PlanCheckedAs a r (legalRun a plan)
       same = made .checks a ok (found .2 .table) (found .2 .list)
 
-      plan-fault : (c : Checked ℕ JobRuns) → legalRun a plan ≡ c → PlanCheckedAs a r c → (r .fault .number ≡ 0 → ⊥)
-          → EntryIs (runAnswer (refused (r .fault .number) (r .fault .place))) buffer
-      unfolding planToOrder
-      plan-fault (refused n p) e h faulty =
-          let is = refuses (converted ∙ bind-refused _ e) in
-          (ap runAnswer (λ i. refused (h .number-is i) (h .place-is i)) ∙ is .0, is .1)
-      plan-fault (passed runs) e h faulty = absurd (faulty (h .0))
+      module _ {number place : ℕ} (there : r .fault ≡ At number place) where
+        plan-fault : (c : Checked ℕ JobRuns) → legalRun a plan ≡ c → PlanCheckedAs a r c
+            → EntryIs (runAnswer (refused number place)) buffer
+        unfolding planToOrder
+        plan-fault (refused n p) e h = refuses (converted ∙ bind-refused _ (e ∙ fault-same (sym h ∙ there)))
+        plan-fault (passed runs) e h = absurd (some-fault (sym there ∙ h .0))
 
-      -- a plan that is refused
-      pub entry-fault : (r .fault .number ≡ 0 → ⊥)
-          → EntryIs (runAnswer (refused (r .fault .number) (r .fault .place))) buffer
-      entry-fault faulty = plan-fault (legalRun a plan) refl same faulty
+        -- a plan that is refused
+        pub entry-fault : EntryIs (runAnswer (refused number place)) buffer
+        entry-fault = plan-fault (legalRun a plan) refl same
 
       module _ {after : List ℕ} {n : ℕ} (written : OrderWritten (x .table) (x .list) (r .marks) buffer after n)
           {answer : RunAnswer} (answers : AnswersWith r n answer) where
-        plan-written : (c : Checked ℕ JobRuns) → legalRun a plan ≡ c → PlanCheckedAs a r c → r .fault .number ≡ 0
+        plan-written : (c : Checked ℕ JobRuns) → legalRun a plan ≡ c → PlanCheckedAs a r c → r .fault ≡ Nothing
             → EntryIs answer after
         unfolding planToOrder bufferAfter
-        plan-written (refused m p) e h clean = absurd (omega (arith, h .numbered, h .number-is))
+        plan-written (refused m p) e h clean = absurd (some-fault (sym h ∙ clean))
         plan-written (passed runs) e h clean =
             let order = written .written a ok (found .2 .table) (found .2 .list) plan runs e (h .2) in
             let is = comes (converted ∙ bind-goes _ e) in (
@@ -111,5 +110,5 @@ module _ (f : File) (plan : Plan) (buffer : List ℕ) (x : AcceptAnswer) (says :
             )
 
         -- a plan whose order was written
-        pub entry-written : r .fault .number ≡ 0 → EntryIs answer after
+        pub entry-written : r .fault ≡ Nothing → EntryIs answer after
         entry-written clean = plan-written (legalRun a plan) refl same clean

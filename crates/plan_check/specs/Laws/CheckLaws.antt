@@ -1,9 +1,7 @@
 -- The check of a plan over what is lent of a table's parts comes to what the plan comes to.
 -- Assumes nothing.
 use mathlib.Core.Path.{_≡_, sym, ap, subst, _∙_}
-use mathlib.Core.Logic.{_⊎_, ⊎-elim}
 use Prim.Native.Nat.{ℕ}
-use native.Mathlib.Omega.{arith}
 use mathlib.Core.List.{List}
 use lib.ListN.{length}
 use Rattle.notation.specs.Checked.{Checked, refused, passed, _>>=_, _>>_}
@@ -21,36 +19,19 @@ use Rattle.order_lending.specs.Code.Lending.{TimesOf}
 use Rattle.plan_marks.specs.declared.Fault.{Fault}
 use Rattle.plan_marks.specs.declared.PlanChecked.{PlanChecked}
 use Rattle.plan_marks.specs.declared.PlanRan.{PlanRan}
-use Rattle.plan_marks.specs.Code.Marks.{faultOf, storesIn, stepsIn}
+use Rattle.plan_marks.specs.Code.Marks.{faultOf, faultThen, storesIn, stepsIn}
 use Rattle.plan_marks.specs.Code.PairParts.{legalityIn}
 use Rattle.plan_marks.specs.Code.RunParts.{Holds, PlanRanAs, PlanRanOf}
 use Rattle.plan_marks.specs.Code.TableParts.{PlanCheckedAs, PlanCheckedOf}
-use Rattle.notation.specs.Laws.NumberedLaws.{Numbered, by-number}
-use Rattle.plan.specs.Laws.PlanRefusals.{legality-numbered}
 use Rattle.plan_check.specs.Laws.LegalityLaws.{legality-agreed}
 
--- what a plan's check leaves as its fault: that of the run, or else what the rules come to
-abbrev pub FaultLeft : Fault → Fault → Fault → Type 0
-FaultLeft ran legal fault = ((ran .number ≡ 0) × (fault ≡ legal)) ⊎ ((ran .number ≡ 0 → ⊥) × (fault ≡ ran))
-
-left-faulty : {ran legal fault : Fault} → FaultLeft ran legal fault → (ran .number ≡ 0 → ⊥) → fault ≡ ran
-left-faulty told faulty = ⊎-elim (λ clean. absurd (faulty (clean .0))) (λ same. same .1) told
-
-left-clean : {ran legal fault : Fault} → FaultLeft ran legal fault → ran .number ≡ 0 → fault ≡ legal
-left-clean told clean = ⊎-elim (λ same. same .1) (λ faulty. absurd (faulty .0 clean)) told
-
 -- what the rules come to decides a plan that ran
-rules-decide : (a : Accepted) (r : PlanChecked) (runs : JobRuns) (c : Checked ℕ (Unit {0})) → Numbered c
-    → r .fault ≡ faultOf c → planEnd a runs ≡ record { store = r .store; failed = r .failed }
-    → runs .steps ≡ stepsIn (r .marks) (jobTotal a) → PlanCheckedAs a r (_>>_ c (passed runs))
+rules-decide : (a : Accepted) (r : PlanChecked) (runs : JobRuns) (c : Checked ℕ (Unit {0})) → r .fault ≡ faultOf c
+    → planEnd a runs ≡ record { store = r .store; failed = r .failed } → runs .steps ≡ stepsIn (r .marks) (jobTotal a)
+    → PlanCheckedAs a r (_>>_ c (passed runs))
 unfolding faultOf _>>_
-rules-decide a r runs (refused number place) (by-number least) is ends stepped =
-    record {
-      number-is = ap (λ (f : Fault). f .number) is;
-      place-is = ap (λ (f : Fault). f .place) is;
-      numbered = least;
-    }
-rules-decide a r runs (passed value) some is ends stepped = (ap (λ (f : Fault). f .number) is, ends, stepped)
+rules-decide a r runs (refused number place) is ends stepped = is
+rules-decide a r runs (passed value) is ends stepped = (is, ends, stepped)
 
 module _ (a : Accepted) (program times : List ℕ) (plan : Plan) (k : ℕ) (r : PlanRan) (fault : Fault)
     (store : Store) where
@@ -58,30 +39,24 @@ module _ (a : Accepted) (program times : List ℕ) (plan : Plan) (k : ℕ) (r : 
       → ((runs : JobRuns) → runs .steps ≡ stepsIn (r .marks) k → runs .running .stores ≡ storesIn (r .stores) k
       → legalityIn program times plan (a .table .store) (r .stores) (r .marks) k ≡ legality a plan runs)
       → jobTotal a ≡ k
-      → FaultLeft (r .fault)
-      (faultOf (legalityIn program times plan (a .table .store) (r .stores) (r .marks) k)) fault
+      → fault ≡ faultThen (r .fault) (legalityIn program times plan (a .table .store) (r .stores) (r .marks) k)
       → store ≡ lastOr (a .table .store) (storesIn (r .stores) k)
       → PlanCheckedAs a (record { fault = fault; store = store; failed = r .failed; marks = r .marks })
       (_>>=_ c (λ runs. _>>_ (legality a plan runs) (passed runs)))
-  unfolding _>>=_ planEnd
+  unfolding _>>=_ planEnd faultThen
   checked-as (refused number place) ran agreed total told stored =
-      let same = left-faulty told (λ none. omega (arith, ran .number-is, ran .numbered, none)) in
-      record {
-        number-is = ap (λ (f : Fault). f .number) same ∙ ran .number-is;
-        place-is = ap (λ (f : Fault). f .place) same ∙ ran .place-is;
-        numbered = ran .numbered;
-      }
+      told ∙ ap (λ (f : Fault). faultThen f (legalityIn program times plan (a .table .store) (r .stores) (r .marks) k)) ran
   checked-as (passed runs) ran agreed total told stored =
-      rules-decide a _ runs (legality a plan runs) (legality-numbered a plan runs)
-      (left-clean told (ran .0) ∙ ap faultOf (agreed runs (ran .1) (ran .2)))
+      rules-decide a _ runs (legality a plan runs)
+      (told ∙ (λ i. faultThen (ran .0 i) (agreed runs (ran .1) (ran .2) i)))
       ((λ i. record { store = lastOr (a .table .store) (ran .2 i); failed = ran .3 i })
       ∙ (λ i. record { store = sym stored i; failed = r .failed }))
       (ran .1 ∙ ap (stepsIn (r .marks)) (sym total))
 
 pub table-checked : {t : Table} {list : JobList} {l : LentTimes} (plan : Plan) {r : PlanRan} {fault : Fault} {store : Store}
     → TimesOf t list l → PlanRanOf (l .program) (l .locks) plan (list .count) r
-    → FaultLeft (r .fault)
-    (faultOf (legalityIn (l .program) (l .times) plan (t .store) (r .stores) (r .marks) (list .count))) fault
+    → fault ≡ faultThen (r .fault)
+    (legalityIn (l .program) (l .times) plan (t .store) (r .stores) (r .marks) (list .count))
     → store ≡ lastOr (t .store) (storesIn (r .stores) (list .count))
     → PlanCheckedOf t list plan (record { fault = fault; store = store; failed = r .failed; marks = r .marks })
 unfolding legalRun jobListOf jobTotal
@@ -95,8 +70,8 @@ table-checked {t} {list} {l} plan {r} {fault} {store} lent ran told stored =
           checked-as a (l .program) (l .times) plan (list .count) r fault store (runPlan a plan)
           (ran .ran a (l .times) holds)
           (λ runs stepped left. legality-agreed holds plan (r .stores) (r .marks) runs stepped left) total
-          (subst (λ (u : Table). FaultLeft (r .fault)
-          (faultOf (legalityIn (l .program) (l .times) plan (u .store) (r .stores) (r .marks) (list .count))) fault)
+          (subst (λ (u : Table). fault ≡ faultThen (r .fault)
+          (legalityIn (l .program) (l .times) plan (u .store) (r .stores) (r .marks) (list .count)))
           table told)
           (subst (λ (u : Table). store ≡ lastOr (u .store) (storesIn (r .stores) (list .count))) table stored);
     }

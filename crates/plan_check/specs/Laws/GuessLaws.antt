@@ -15,6 +15,7 @@ use Rattle.machine.specs.Ends.{noStore}
 use Rattle.machine.specs.Instructions.{Store}
 use Rattle.plan.specs.declared.Round.{Round}
 use Rattle.plan.specs.Runs.{Plan, guess}
+use Rattle.plan_marks.specs.declared.Fault.the-variants.{Nothing, At}
 use Rattle.plan_marks.specs.Code.Marks.{faultOf, storeAt, storesIn}
 use Rattle.plan_marks.specs.Code.PairParts.{dueStoreIn, guessFaultFrom, guessFaultIn}
 use Rattle.plan_marks.specs.Laws.StoreLaws.{bytesAt-part, stores-at, stores-length}
@@ -82,7 +83,7 @@ module _ (plan : Plan) (store : Store) (stores : List ℕ) (k : ℕ) where
       record { within = omega arith; on = ap (λ (n : ℕ). guessFaultFrom plan store stores k (from 0 n)) all }
 
   module _ (r : ℕ) (so-far : GuessesFrom plan store stores k r) where
-    pub guess-missing : k ≤ r → record { number = 0; place = 0 } ≡ faultOf (guessFaultIn plan store stores k)
+    pub guess-missing : k ≤ r → Nothing ≡ faultOf (guessFaultIn plan store stores k)
     unfolding guessFaultFrom noneOf faultOf
     guess-missing past =
         sym (ap faultOf (so-far .on ∙ ap (guessFaultFrom plan store stores k) (from-none r k past)))
@@ -98,7 +99,7 @@ module _ (plan : Plan) (store : Store) (stores : List ℕ) (k : ℕ) where
           ∙ guess-here plan store stores k r _ b (ap not ((λ i. same (sym guessed i) (sym due i)) ∙ sym told) ∙ e)
 
       pub guess-found : not same-one ≡ true
-          → record { number = 45; place = r } ≡ faultOf (guessFaultIn plan store stores k)
+          → At 45 r ≡ faultOf (guessFaultIn plan store stores k)
       unfolding faultOf if_then_else_
       guess-found e = sym (ap faultOf (decided true e))
 

@@ -1,8 +1,7 @@
 -- The faults 43 to 45 over marks, stores and the lent table are those of the definition.
 -- Assumes nothing.
-use mathlib.Core.Path.{_≡_, refl, sym, _∙_}
-use Prim.Native.Nat.{ℕ, _≤_}
-use native.Mathlib.Omega.{arith}
+use mathlib.Core.Path.{_≡_, refl, sym, ap, _∙_}
+use Prim.Native.Nat.{ℕ}
 use mathlib.Core.Bool.{Bool, true, false, not}
 use mathlib.Core.List.{List, [], _∷_, map}
 use lib.ListN.{length, getD}
@@ -16,13 +15,13 @@ use Rattle.plan.specs.declared.Round.{Round}
 use Rattle.plan.specs.Legality.{dueStore, guessFault, legality}
 use Rattle.plan.specs.Runs.{Plan, JobRuns, jobTotal, roundNumbers, guess}
 use Rattle.plan_marks.specs.declared.Fault.{Fault}
-use Rattle.plan_marks.specs.Code.Marks.{faultOf, storesIn, stepsIn}
-use Rattle.plan_marks.specs.Code.PairParts.{dueStoreIn, pairFaultAmong, pairFaultIn, guessFaultFrom, guessFaultIn}
+use Rattle.plan_marks.specs.declared.Fault.the-variants.{Nothing, At}
+use Rattle.plan_marks.specs.Code.Marks.{faultOf, faultThen, storesIn, stepsIn}
+use Rattle.plan_marks.specs.Code.PairParts.{dueStoreIn, pairFaultIn, guessFaultFrom, guessFaultIn}
 use Rattle.plan_marks.specs.Code.PairParts.{legalityIn}
 use Rattle.plan_marks.specs.Code.RunParts.{Holds}
 use Rattle.plan_pairs.specs.Laws.PairAgreed.{pairs-agreed}
-use Rattle.notation.specs.Laws.NumberedLaws.{Numbered, noneOf-numbered, placed-numbered}
-use Rattle.plan_check.specs.Laws.FaultLaws.{fault-decides, rest-decides}
+use Rattle.plan_marks.specs.Laws.FaultLaws.{fault-decides, rest-decides}
 
 -- ---- the agreement
 
@@ -65,28 +64,33 @@ legality-agreed {a} {k = k} holds plan stores marks runs stepped left =
 
 -- ---- the first fault of the three
 
-pair-numbered : (number : ℕ) (program times marks : List ℕ) (k : ℕ) → 1 ≤ number
-    → Numbered (pairFaultIn number program times marks k)
-unfolding pairFaultIn pairFaultAmong
-pair-numbered number program times marks k some = placed-numbered _ _ (noneOf-numbered number _ _ some)
+module _ (program times : List ℕ) (plan : Plan) (store : Store) (stores marks : List ℕ) (k : ℕ) where
+  abbrev rules : Checked ℕ (Unit {0})
+  rules = legalityIn program times plan store stores marks k
 
-module _ (program times : List ℕ) (plan : Plan) (store : Store) (stores marks : List ℕ) (k : ℕ)
-    {order : Fault} (is43 : order ≡ faultOf (pairFaultIn 43 program times marks k)) where
-  pub order-first : (order .number ≡ 0 → ⊥) → order ≡ faultOf (legalityIn program times plan store stores marks k)
-  unfolding legalityIn
-  order-first faulty = fault-decides _ _ is43 faulty
+  -- the run met a fault
+  pub ran-first : {ran : Fault} {number place : ℕ} → ran ≡ At number place → ran ≡ faultThen ran rules
+  unfolding faultThen
+  ran-first there = rw there refl
 
-  module _ (ordered : order .number ≡ 0) {lock : Fault} (is44 : lock ≡ faultOf (pairFaultIn 44 program times marks k))
-    where
-      pub lock-next : (lock .number ≡ 0 → ⊥) → lock ≡ faultOf (legalityIn program times plan store stores marks k)
+  -- without one the rules decide
+  module _ {ran : Fault} (clear : ran ≡ Nothing) where
+    rules-left : {fault : Fault} → fault ≡ faultOf rules → fault ≡ faultThen ran rules
+    unfolding faultThen
+    rules-left is = is ∙ ap (λ (f : Fault). faultThen f rules) (sym clear)
+
+    module _ {order : Fault} (is43 : order ≡ faultOf (pairFaultIn 43 program times marks k)) where
+      pub order-first : {number place : ℕ} → order ≡ At number place → order ≡ faultThen ran rules
       unfolding legalityIn
-      lock-next faulty =
-          rest-decides _ _ (pair-numbered 43 program times marks k (omega arith)) is43 ordered
-          (fault-decides _ _ is44 faulty)
+      order-first there = rules-left (fault-decides _ _ is43 there)
 
-      pub guess-last : lock .number ≡ 0 → {r : Fault} → r ≡ faultOf (guessFaultIn plan store stores k)
-          → r ≡ faultOf (legalityIn program times plan store stores marks k)
-      unfolding legalityIn
-      guess-last locked is45 =
-          rest-decides _ _ (pair-numbered 43 program times marks k (omega arith)) is43 ordered
-          (rest-decides _ _ (pair-numbered 44 program times marks k (omega arith)) is44 locked is45)
+      module _ (ordered : order ≡ Nothing) {lock : Fault} (is44 : lock ≡ faultOf (pairFaultIn 44 program times marks k))
+        where
+          pub lock-next : {number place : ℕ} → lock ≡ At number place → lock ≡ faultThen ran rules
+          unfolding legalityIn
+          lock-next there = rules-left (rest-decides _ _ is43 ordered (fault-decides _ _ is44 there))
+
+          pub guess-last : lock ≡ Nothing → {fault : Fault} → fault ≡ faultOf (guessFaultIn plan store stores k)
+              → fault ≡ faultThen ran rules
+          unfolding legalityIn
+          guess-last locked is45 = rules-left (rest-decides _ _ is43 ordered (rest-decides _ _ is44 locked is45))

@@ -14,13 +14,19 @@ use Rattle.machine.specs.Instructions.{Store}
 use Rattle.plan.specs.declared.Round.{Round}
 use Rattle.plan.specs.Runs.{Step, RunState}
 use Rattle.plan_marks.specs.declared.Fault.{Fault}
+use Rattle.plan_marks.specs.declared.Fault.the-variants.{Nothing, At}
 
 -- ---- a fault
 
--- what a check comes to as a fault: its number and place, or 0 and 0
+-- what a check comes to as a fault
 unfoldable pub faultOf : {A : Type 0} → Checked ℕ A → Fault
-faultOf (refused number place) = record { number = number; place = place }
-faultOf (passed value) = record { number = 0; place = 0 }
+faultOf (refused number place) = At number place
+faultOf (passed value) = Nothing
+
+-- a fault, or else what a check comes to
+unfoldable pub faultThen : {A : Type 0} → Fault → Checked ℕ A → Fault
+faultThen (At number place) check = At number place
+faultThen Nothing check = faultOf check
 
 -- ---- the stores of the rounds
 

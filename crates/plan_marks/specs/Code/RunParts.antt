@@ -18,6 +18,7 @@ use Rattle.machine.specs.Instructions.{fresh}
 use Rattle.plan.specs.Runs.{Plan, JobRun, JobRuns, firstRound, runJob, runJobs, runPlan}
 use Rattle.order_states.specs.Code.Shows.{LendsTimes}
 use Rattle.plan_marks.specs.declared.Fault.{Fault}
+use Rattle.plan_marks.specs.declared.Fault.the-variants.{Nothing, At}
 use Rattle.plan_marks.specs.declared.JobRan.{JobRan}
 use Rattle.plan_marks.specs.declared.JobsRan.{JobsRan}
 use Rattle.plan_marks.specs.declared.PlanRan.{PlanRan}
@@ -29,23 +30,13 @@ pub record Holds (a : Accepted) (program times : List ℕ) (locks : Ceilings) (k
   pub lends : LendsTimes a program times locks
   pub total : length (a .jobs) ≡ k
 
--- a fault is this refusal
-pub record FaultIs (fault : Fault) (number place : ℕ) : Type 0 where
-  pub number-is : fault .number ≡ number
-  pub place-is : fault .place ≡ place
-  pub numbered : 1 ≤ number
-
--- there is no fault
-abbrev pub NoFault : Fault → Type 0
-NoFault fault = fault .number ≡ 0
-
 -- ---- one job
 
 -- what a job's run came to, for the flags that it started with: its fault, or its steps and where the run then stands
 abbrev pub JobRanAs : ℕ → ℕ → Flags → List ℕ → List ℕ → JobRan → Checked ℕ JobRun → Type 0
-JobRanAs k x failed stores marks r (refused number place) = FaultIs (r .fault) number place
+JobRanAs k x failed stores marks r (refused number place) = r .fault ≡ At number place
 JobRanAs k x failed stores marks r (passed run) =
-    NoFault (r .fault)
+    (r .fault ≡ Nothing)
     × (run .steps ≡ stepsMarked marks x)
     × (run .running ≡ runStateIn k stores (flagged (r .failed) x failed) (r .offset))
 
@@ -65,9 +56,9 @@ pub record JobRanOf (program : List ℕ) (locks : Ceilings) (plan : Plan) (k x s
 -- ---- all jobs
 
 abbrev pub JobsRanAs : ℕ → List ℕ → List ℕ → JobsRan → Checked ℕ JobRuns → Type 0
-JobsRanAs k stores marks r (refused number place) = FaultIs (r .fault) number place
+JobsRanAs k stores marks r (refused number place) = r .fault ≡ At number place
 JobsRanAs k stores marks r (passed runs) =
-    NoFault (r .fault)
+    (r .fault ≡ Nothing)
     × (runs .steps ≡ stepsIn marks k)
     × (runs .running ≡ runStateIn k stores (r .failed) (r .offset))
 
@@ -84,15 +75,13 @@ pub record JobsRanOf (program : List ℕ) (locks : Ceilings) (plan : Plan) (k : 
 
 -- the fault that is left when the jobs have run, where a plan has so many bytes: theirs, or bytes left over
 unfoldable pub leftoverFault : ℕ → Fault → ℕ → Fault
-leftoverFault size fault offset =
-    if eqb (fault .number) 0
-    then if eqb offset size then record { number = 0; place = 0 } else record { number = 40; place = offset }
-    else fault
+leftoverFault size (At number place) offset = At number place
+leftoverFault size Nothing offset = if eqb offset size then Nothing else At 40 offset
 
 abbrev pub PlanRanAs : ℕ → PlanRan → Checked ℕ JobRuns → Type 0
-PlanRanAs k r (refused number place) = FaultIs (r .fault) number place
+PlanRanAs k r (refused number place) = r .fault ≡ At number place
 PlanRanAs k r (passed runs) =
-    NoFault (r .fault)
+    (r .fault ≡ Nothing)
     × (runs .steps ≡ stepsIn (r .marks) k)
     × (runs .running .stores ≡ storesIn (r .stores) k)
     × (runs .running .failed ≡ r .failed)
@@ -101,5 +90,5 @@ PlanRanAs k r (passed runs) =
 pub record PlanRanOf (program : List ℕ) (locks : Ceilings) (plan : Plan) (k : ℕ) (r : PlanRan) : Type 0 where
   pub isMarks : IsMarks (r .marks)
   -- where there is no fault, the guesses are there
-  pub long : NoFault (r .fault) → 1 + 8 * k ≤ length plan
+  pub long : r .fault ≡ Nothing → 1 + 8 * k ≤ length plan
   pub ran : (a : Accepted) (times : List ℕ) → Holds a program times locks k → PlanRanAs k r (runPlan a plan)

@@ -10,15 +10,15 @@ use Rattle.timing.specs.Code.IsAccepted.{IsAccepted}
 use Rattle.timing.specs.Code.JobParts.{jobListOf}
 use Rattle.plan.specs.Plans.{legalRun, planEnd}
 use Rattle.plan.specs.Runs.{Plan, JobRuns, jobTotal}
+use Rattle.plan_marks.specs.declared.Fault.the-variants.{Nothing, At}
 use Rattle.plan_marks.specs.declared.PlanChecked.{PlanChecked}
 use Rattle.plan_marks.specs.Code.Marks.{stepsIn, IsMarks}
-use Rattle.plan_marks.specs.Code.RunParts.{FaultIs, NoFault}
 
 -- a plan's check came to this: its fault, or its end and its steps
 abbrev pub PlanCheckedAs : Accepted → PlanChecked → Checked ℕ JobRuns → Type 0
-PlanCheckedAs a r (refused number place) = FaultIs (r .fault) number place
+PlanCheckedAs a r (refused number place) = r .fault ≡ At number place
 PlanCheckedAs a r (passed runs) =
-    NoFault (r .fault)
+    (r .fault ≡ Nothing)
     × (planEnd a runs ≡ record { store = r .store; failed = r .failed })
     × (runs .steps ≡ stepsIn (r .marks) (jobTotal a))
 

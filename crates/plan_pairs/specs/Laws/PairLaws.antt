@@ -13,6 +13,7 @@ use Rattle.notation.specs.Laws.SearchLaws.{from-first, from-none}
 use Rattle.notation.specs.Laws.TestLaws.{or-left, or-second, or-neither, test-decided}
 use Rattle.plan.specs.Legality.{Pair}
 use Rattle.order_states.specs.Code.SnapshotSteps.{Program, LentTimes}
+use Rattle.plan_marks.specs.declared.Fault.the-variants.{Nothing, At}
 use Rattle.plan_marks.specs.Code.Marks.{faultOf}
 use Rattle.plan_marks.specs.Code.PairParts.{orderFaulty, lockFaulty, pairFaulty, pairsWith, pairFaultAmong, pairFaultIn}
 
@@ -112,7 +113,7 @@ module _ (number : ℕ) (program : Program) (times : LentTimes) (marks : List �
 
     pub fault-found : x < k
         → {b : Bool} → b ≡ any (pairFaulty number program times marks x) (from (suc x) (k - suc x)) → b ≡ true
-        → record { number = number; place = x } ≡ faultOf (pairFaultIn number program times marks k)
+        → At number x ≡ faultOf (pairFaultIn number program times marks k)
     unfolding pairsWith faultOf
     fault-found lt same h =
         sym (ap faultOf (fault-step lt
@@ -132,7 +133,7 @@ module _ (number : ℕ) (program : Program) (times : LentTimes) (marks : List �
               (from (suc x) (k - suc x)) (sym same ∙ h));
         }
 
-    pub fault-ends : k ≤ x → record { number = 0; place = 0 } ≡ faultOf (pairFaultIn number program times marks k)
+    pub fault-ends : k ≤ x → Nothing ≡ faultOf (pairFaultIn number program times marks k)
     unfolding pairFaultAmong each noneOf placedBy faultOf
     fault-ends le =
         sym (ap faultOf (so-far .same ∙ ap (pairFaultAmong number program times marks k) (from-none x k le)))

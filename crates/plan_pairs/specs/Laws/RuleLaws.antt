@@ -6,7 +6,7 @@ use Prim.Native.Nat.{ℕ, _≤_, _<_}
 use mathlib.Core.Bool.{Bool, true, false, not, _&&_, _||_}
 use mathlib.Core.List.{List}
 use lib.Dec.{ltb}
-use borrow.Author.Tests.{lt-ltb, le-ltb, le-leb, lt-leb, not-true, not-false}
+use borrow.Author.Tests.{le-leb, lt-leb, not-true, not-false}
 use Rattle.notation.specs.Laws.TestLaws.{and-first, and-second, and-last, and-holds, or-left, or-right, or-second}
 use Rattle.plan.specs.declared.Round.{Round}
 use Rattle.plan.specs.Runs.{earlier, notLater}
@@ -25,7 +25,7 @@ asked : (p q : Bool) {b : Bool} → b ≡ p → not b ≡ false → (not p || q)
 asked p q {b} same h = or-second (not p) q (ap not (sym same) ∙ h)
 
 -- two rounds that were read stand as those that are meant
-earlier-read : {e s e′ s′ : Round} → e ≡ e′ → s ≡ s′ → earlier e s ≡ earlier e′ s′
+pub earlier-read : {e s e′ s′ : Round} → e ≡ e′ → s ≡ s′ → earlier e s ≡ earlier e′ s′
 earlier-read p q = λ j. earlier (p j) (q j)
 
 notLater-read : {e s e′ s′ : Round} → e ≡ e′ → s ≡ s′ → notLater e s ≡ notLater e′ s′
@@ -34,20 +34,19 @@ notLater-read p q = λ j. notLater (p j) (q j)
 -- ---- rounds
 
 module _ (marks : List ℕ) (x y : ℕ) where
-  pub apart-first : {e s : Round} → e ≡ roundOfEnd marks x → s ≡ roundOfStart marks y → e .0 < s .0
+  -- x ends before y starts
+  abbrev first : Bool
+  first = earlier (roundOfEnd marks x) (roundOfStart marks y)
+
+  pub apart-first : {b : Bool} → b ≡ earlier (roundOfEnd marks x) (roundOfStart marks y) → b ≡ true
       → true ≡ roundsApart marks x y
   unfolding roundsApart
-  apart-first {e} {s} ends starts h =
-      sym (or-left (earlier (roundOfEnd marks x) (roundOfStart marks y)) _
-      (sym (earlier-read ends starts) ∙ lt-ltb (e .0) (s .0) h))
+  apart-first is h = sym (or-left first _ (sym is ∙ h))
 
-  pub apart-second : {e s f t : Round} → e ≡ roundOfEnd marks x → s ≡ roundOfStart marks y → s .0 ≤ e .0
-      → f ≡ roundOfEnd marks y → t ≡ roundOfStart marks x → earlier f t ≡ roundsApart marks x y
+  pub apart-second : {b c : Bool} → b ≡ earlier (roundOfEnd marks x) (roundOfStart marks y) → b ≡ false
+      → c ≡ earlier (roundOfEnd marks y) (roundOfStart marks x) → c ≡ roundsApart marks x y
   unfolding roundsApart
-  apart-second {e} {s} ends starts h ends′ starts′ =
-      earlier-read ends′ starts′
-      ∙ sym (or-second (earlier (roundOfEnd marks x) (roundOfStart marks y)) _
-      (sym (earlier-read ends starts) ∙ le-ltb (e .0) (s .0) h))
+  apart-second is h other = other ∙ sym (or-second first _ (sym is ∙ h))
 
   -- y starts before x: it is not nested in it
   pub nested-early : {s t : Round} → s ≡ roundOfStart marks y → t ≡ roundOfStart marks x → s .0 < t .0
@@ -74,9 +73,9 @@ module _ (program : Program) (times : LentTimes) (marks : List ℕ) (x y : ℕ) 
   before-free same h = sym (unasked (beforeIn program times x y) _ same h)
 
   pub before-rounds : {b : Bool} → b ≡ beforeIn program times x y → not b ≡ false
-      → {e s : Round} → e ≡ roundOfEnd marks x → s ≡ roundOfStart marks y → earlier e s ≡ beforeKept program times marks x y
+      → {c : Bool} → c ≡ earlier (roundOfEnd marks x) (roundOfStart marks y) → c ≡ beforeKept program times marks x y
   unfolding beforeKept
-  before-rounds same h ends starts = earlier-read ends starts ∙ sym (asked (beforeIn program times x y) _ same h)
+  before-rounds same h ends = ends ∙ sym (asked (beforeIn program times x y) _ same h)
 
 module _ (program : Program) (times : LentTimes) (marks : List ℕ) (y x : ℕ) where
   abbrev preempts : Bool

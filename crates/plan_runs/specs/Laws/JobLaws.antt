@@ -4,12 +4,16 @@
 use mathlib.Core.Path.{_≡_, refl, sym, ap, ap₂, subst, _∙_}
 use Prim.Native.Nat.{ℕ, suc, _+_, _-_, _*_, _≤_, _<_}
 use native.Mathlib.Omega.{arith}
-use mathlib.Core.Bool.{Bool, true, false, _||_}
+use mathlib.Core.Bool.{Bool, true, false, false≢true, _||_}
+use mathlib.Core.Logic.{inl, inr}
 use mathlib.Core.List.{List, [], _∷_, _++_, map, append-nil}
+use lib.Dec.{ltb}
 use lib.ListN.{length, getD}
+use borrow.Author.Tests.{lt-ltb, ltb-false}
 use Rattle.notation.specs.Checked.{Checked, refused, passed}
 use Rattle.notation.specs.Lists.{from, upTo, bytesAt}
 use Rattle.notation.specs.Laws.TabulateLaws.{values-length}
+use Rattle.notation.specs.Laws.TestLaws.{test-decided, and-second, and-holds}
 use Rattle.taskfile.specs.declared.Ceilings.{Ceilings}
 use Rattle.taskfile.specs.declared.Instruction.{Instruction}
 use Rattle.timing.specs.declared.Job.{Job}
@@ -23,15 +27,18 @@ use Rattle.plan.specs.declared.Round.{Round}
 use Rattle.plan.specs.Runs.{Plan, Step, RunState, JobRun, firstRound, roundAt, stepBytes, stepEffect, stepMade, runningAfter, runJob}
 use Rattle.order_states.specs.Code.SnapshotSteps.{ownerIn, instructionIn}
 use Rattle.plan_marks.specs.declared.Fault.{Fault}
+use Rattle.plan_marks.specs.declared.Fault.the-variants.{Nothing, At}
 use Rattle.plan_marks.specs.declared.JobRan.{JobRan}
 use Rattle.plan_marks.specs.Code.Marks.{faultOf, storeAt, withStore, runStateIn, stepMarked, stepCount, stepsMarked, withMark, IsMarks}
-use Rattle.plan_marks.specs.Code.RunParts.{Holds, NoFault, JobRanAs, JobRanOf}
+use Rattle.plan_marks.specs.Code.RunParts.{Holds, JobRanAs, JobRanOf}
 use Rattle.plan.specs.Runs.{stepBytesFor}
 use Rattle.plan_marks.specs.Laws.MarkLaws.{count-here, mark-added, mark-others, mark-whole}
 use Rattle.plan_marks.specs.Laws.StoreLaws.{put-length}
 use Rattle.plan_runs.specs.Laws.ByteLaws.{bytes-refused, bytes-passed, bytes-round}
 use Rattle.plan_runs.specs.Laws.FlagLaws.{flag-kept}
-use Rattle.plan_runs.specs.Laws.LentSteps.{lentStep, bodySize, fresh-inside, inside-short, owner-small, bytes-lent, effect-lent, inside-on, made-lent, after-lent}
+use Rattle.plan_runs.specs.Laws.LentSteps.{lentStep, bodySize, fresh-inside, inside-short, owner-small}
+use Rattle.plan_runs.specs.Laws.LentSteps.{bytes-lent, effect-lent, inside-on, made-lent, after-lent}
+use Rattle.plan_runs.specs.Code.StepBounds.{mayStep}
 use Rattle.machine.specs.Code.Within.{LocksWithin}
 use Rattle.machine.specs.Laws.InstructionLaws.{perform-length}
 use Rattle.machine.specs.Laws.WithinLaws.{fresh-within, perform-within}
@@ -108,15 +115,15 @@ module _ {program : List ℕ} {locks : Ceilings} {plan : Plan} {k x start : ℕ}
   }
 
   -- no accepted table has a base or a position out of bounds
-  pub run-outside : (fault : Fault) → (owner < 8 → local .next < 16 → ⊥) → Ran fault
-  run-outside fault out = ran-as fault (λ a times held isJob flags.
+  run-outside : (owner < 8 → local .next < 16 → ⊥) → Ran Nothing
+  run-outside out = ran-as Nothing (λ a times held isJob flags.
       absurd (out (owner-small held x isJob (run .owned))
       (omega (arith, run .inside a times held isJob, inside-short held x isJob))))
 
   -- all sixteen steps are made
-  pub run-used : (fault : Fault) → NoFault fault → 16 ≤ n → Ran fault
+  run-used : 16 ≤ n → Ran Nothing
   unfolding runJob afterSteps firstSteps stepsMarked
-  run-used fault clear used = ran-as fault (λ a times held isJob flags.
+  run-used used = ran-as Nothing (λ a times held isJob flags.
       (let none : 16 - n ≡ 0 = omega arith in
       let ends : wholeJob a plan x (runStateIn k stores₀ flags start)
       ≡ passed (record {
@@ -125,7 +132,19 @@ module _ {program : List ℕ} {locks : Ceilings} {plan : Plan} {k x start : ℕ}
       }) =
       run .runs a times held isJob flags ∙ rw none refl in
       subst (JobRanAs k x flags stores marks _) (sym ends)
-      (clear, append-nil _ ∙ ap (λ (c : ℕ). map (stepMarked marks x) (upTo c)) (sym (run .counted (omega arith))), refl)))
+      (refl, append-nil _ ∙ ap (λ (c : ℕ). map (stepMarked marks x) (upTo c)) (sym (run .counted (omega arith))), refl)))
+
+  -- no step may be made any more
+  pub run-over : {b : Bool} → b ≡ mayStep owner (local .next) n → b ≡ false → Ran Nothing
+  unfolding mayStep
+  run-over is over =
+      let stops : mayStep owner (local .next) n ≡ false = sym is ∙ over in
+      elim (test-decided (ltb n 16)) [
+        | inl more ↦ run-outside (λ low within.
+            false≢true (sym (sym (and-second (ltb n 16) _ more) ∙ stops)
+            ∙ and-holds (ltb owner 8) _ (lt-ltb _ _ low) (lt-ltb _ _ within)))
+        | inr used ↦ run-used (ltb-false _ _ used)
+      ]
 
   module _ {i : Instruction} (reads : i ≡ instructionIn program owner (local .next)) {fault : Fault}
       (is : fault ≡ faultOf (stepBytesFor k i plan previous offset)) (more : n < 16) where
@@ -133,19 +152,19 @@ module _ {program : List ℕ} {locks : Ceilings} {plan : Plan} {k x start : ℕ}
     left = omega arith
 
     -- the step's bytes are refused
-    pub run-refused : (fault .number ≡ 0 → ⊥) → Ran fault
+    pub run-refused : {number place : ℕ} → fault ≡ At number place → Ran fault
     unfolding afterSteps runStateIn
-    run-refused fails = ran-as fault (λ a times held isJob flags.
-        (let refusal = bytes-refused k i plan previous offset is fails in
-        let inside = run .inside a times held isJob in
-        let bytes = bytes-lent held x isJob (run .owned) local inside reads plan previous offset ∙ refusal .0 in
-        let ends : wholeJob a plan x (runStateIn k stores₀ flags start) ≡ refused (fault .number) (fault .place) =
+    run-refused {number} {place} there = ran-as fault (λ a times held isJob flags.
+        (let inside = run .inside a times held isJob in
+        let bytes =
+        bytes-lent held x isJob (run .owned) local inside reads plan previous offset
+        ∙ bytes-refused k i plan previous offset is there in
+        let ends : wholeJob a plan x (runStateIn k stores₀ flags start) ≡ refused number place =
         run .runs a times held isJob flags
         ∙ rw left (ap (afterSteps (firstSteps marks x n)) (step-refused a plan _ (16 - (n + 1)) local previous _ bytes)) in
-        subst (JobRanAs k x flags stores marks _) (sym ends)
-        (record { number-is = refl; place-is = refl; numbered = refusal .1 })))
+        subst (JobRanAs k x flags stores marks _) (sym ends) there))
 
-    module _ (clear : fault .number ≡ 0) (isX : x < 32) (rounds : k ≤ 32) {effect : Effect}
+    module _ (clear : fault ≡ Nothing) (isX : x < 32) (rounds : k ≤ 32) {effect : Effect}
         (does : effect ≡ perform i (getD plan (offset + 1) 0) local (storeAt stores (roundAt plan offset .0)))
         {stores′ marks′ : List ℕ} (puts : stores′ ≡ withStore stores (roundAt plan offset .0) (effect .store))
         (notes : marks′ ≡ withMark marks x n (lentStep locks plan owner offset effect)) {failed′ : Bool}
@@ -244,23 +263,23 @@ module _ {program : List ℕ} {locks : Ceilings} {plan : Plan} {k x start : ℕ}
             ∙ ap (λ (l : List Step). afterSteps l (onward after)) (sym first-added)
 
       -- the step ends the job
-      pub run-ended : (none : Fault) → NoFault none → effect .ended ≡ true
+      pub run-ended : effect .ended ≡ true
           → JobRanOf program locks plan k x start stores₀ marks₀ stores′ marks′
-          (record { fault = none; offset = offset + 2; failed = failed′ })
-      run-ended none zero ends = record {
+          (record { fault = Nothing; offset = offset + 2; failed = failed′ })
+      run-ended ends = record {
         room = omega (arith, room′);
         isMarks = isMarks′;
         others = others′;
         near = omega (arith, run .near);
         ran = λ a times held isJob flags.
-            subst (JobRanAs k x flags stores′ marks′ _) (sym (ended-is held isJob flags ends)) (zero, refl, refl);
+            subst (JobRanAs k x flags stores′ marks′ _) (sym (ended-is held isJob flags ends)) (refl, refl, refl);
       }
 
       -- the step does not end it
-      pub run-goes : effect .ended ≡ false
-          → Running program locks plan k x start stores₀ marks₀ owner stores′ marks′ (effect .local)
-          (roundAt plan offset) failed′ (offset + 2) (n + 1)
-      run-goes goes = record {
+      pub run-goes : {round : Round} → round ≡ roundAt plan offset → effect .ended ≡ false
+          → Running program locks plan k x start stores₀ marks₀ owner stores′ marks′ (effect .local) round failed′
+          (offset + 2) (n + 1)
+      run-goes noted goes = rw noted record {
         room = room′;
         isMarks = isMarks′;
         others = others′;

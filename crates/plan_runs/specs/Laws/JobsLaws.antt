@@ -19,11 +19,12 @@ use Rattle.timing.specs.Laws.JobNumberLaws.{jobs-length, jobs-at}
 use Rattle.timing.specs.Relations.{IsJob, jobNumbers}
 use Rattle.machine.specs.Ends.{Flags, noFlags, flagged}
 use Rattle.plan.specs.Runs.{Plan, Step, RunState, JobRun, JobRuns, runJobs}
-use Rattle.plan_marks.specs.declared.Fault.{Fault}
+use Rattle.plan_marks.specs.declared.Fault.the-variants.{Nothing, At}
 use Rattle.plan_marks.specs.declared.JobRan.{JobRan}
 use Rattle.plan_marks.specs.Code.Marks.{runStateIn, stepsMarked, stepsIn, IsMarks}
-use Rattle.plan_marks.specs.Code.RunParts.{Holds, FaultIs, NoFault, JobRanAs, JobRanOf, JobsRanAs, JobsRanOf}
+use Rattle.plan_marks.specs.Code.RunParts.{Holds, JobRanAs, JobRanOf, JobsRanAs, JobsRanOf}
 use Rattle.notation.specs.Laws.TabulateLaws.{values-snoc}
+use Rattle.plan_marks.specs.Laws.FaultLaws.{some-fault, fault-same}
 use Rattle.plan_runs.specs.Laws.JobLaws.{wholeJob}
 
 -- ---- jobs before others
@@ -55,12 +56,10 @@ module _ (a : Accepted) (plan : Plan) (x : ℕ) (others : List Job) (running : R
 
   -- its fault is the whole run's
   refused-first : (c : Checked ℕ JobRun) → wholeJob a plan x running ≡ c → JobRanAs k x flags stores marks r c
-      → (NoFault (r .fault) → ⊥)
-      → (number : ℕ) × (place : ℕ) × (runJobs a plan (job ∷ others) running ≡ refused number place)
-      × FaultIs (r .fault) number place
+      → {number place : ℕ} → r .fault ≡ At number place → runJobs a plan (job ∷ others) running ≡ refused number place
   unfolding runJobs _>>=_
-  refused-first (refused number place) is ran fails = (number, place, rw is refl, ran)
-  refused-first (passed run) is ran fails = absurd (fails (ran .0))
+  refused-first (refused number place) is ran there = rw is (fault-same (sym ran ∙ there))
+  refused-first (passed run) is ran there = absurd (some-fault (sym there ∙ ran .0))
 
   -- without one the others run from where it left off
   after-first : (c : Checked ℕ JobRuns) (made : List Step)
@@ -71,12 +70,12 @@ module _ (a : Accepted) (plan : Plan) (x : ℕ) (others : List Job) (running : R
   after-first (passed runs) made = refl
 
   passed-first : (c : Checked ℕ JobRun) → wholeJob a plan x running ≡ c → JobRanAs k x flags stores marks r c
-      → NoFault (r .fault)
+      → r .fault ≡ Nothing
       → runJobs a plan (job ∷ others) running
       ≡ afterJobs (stepsMarked marks x ∷ [])
       (runJobs a plan others (runStateIn k stores (flagged (r .failed) x flags) (r .offset)))
   unfolding runJobs _>>=_
-  passed-first (refused number place) is ran clear = absurd (omega (arith, ran .number-is, ran .numbered))
+  passed-first (refused number place) is ran clear = absurd (some-fault (sym ran ∙ clear))
   passed-first (passed run) is ran clear =
       rw is (after-first (runJobs a plan others (run .running)) (run .steps)
       ∙ ap₂ (λ (s : List Step) (q : RunState). afterJobs (s ∷ []) (runJobs a plan others q)) (ran .1) (ran .2))
@@ -129,11 +128,11 @@ module _ {program : List ℕ} {locks : Ceilings} {plan : Plan} {k : ℕ} {stores
     {offset x : ℕ} (run : JobsRunning program locks plan k stores₀ stores marks failed offset x)
     (whole : length stores₀ ≡ 256) (most : k ≤ 32) where
   -- all jobs have run
-  pub jobs-ended : (fault : Fault) → NoFault fault → k ≤ x
+  pub jobs-ended : k ≤ x
       → JobsRanOf program locks plan k stores₀ stores marks
-      (record { fault = fault; offset = offset; failed = failed })
+      (record { fault = Nothing; offset = offset; failed = failed })
   unfolding runJobs afterJobs
-  jobs-ended fault clear all = record {
+  jobs-ended all = record {
     room = omega (arith, run .room);
     isMarks = run .isMarks;
     near = omega (arith, run .near, run .few);
@@ -144,7 +143,7 @@ module _ {program : List ℕ} {locks : Ceilings} {plan : Plan} {k : ℕ} {stores
         let ends : runJobs a plan (jobNumbers a) (runStateIn k stores₀ noFlags (1 + 8 * k))
         ≡ passed (record { steps = stepsIn marks x ++ []; running = runStateIn k stores failed offset }) =
         run .runs a times held ∙ rw none refl in
-        subst (JobsRanAs k stores marks _) (sym ends) (clear, append-nil _ ∙ ap (stepsIn marks) last, refl));
+        subst (JobsRanAs k stores marks _) (sym ends) (refl, append-nil _ ∙ ap (stepsIn marks) last, refl));
   }
 
   module _ (more : x < k) {stores′ marks′ : List ℕ} {r : JobRan}
@@ -168,11 +167,11 @@ module _ {program : List ℕ} {locks : Ceilings} {plan : Plan} {k : ℕ} {stores
         (next-first a (held .total))
 
     -- its run met a fault
-    pub jobs-refused : (NoFault (r .fault) → ⊥)
+    pub jobs-refused : {number place : ℕ} → r .fault ≡ At number place
         → JobsRanOf program locks plan k stores₀ stores′ marks′
         (record { fault = r .fault; offset = r .offset; failed = failed })
     unfolding afterJobs
-    jobs-refused fails = record {
+    jobs-refused {number} {place} there = record {
       room = omega (arith, one .room, run .room);
       isMarks = one .isMarks;
       near = omega (arith, one .near, run .near);
@@ -180,15 +179,14 @@ module _ {program : List ℕ} {locks : Ceilings} {plan : Plan} {k : ℕ} {stores
           (let isJob : IsJob a (record { 0 = x }) = omega (arith, held .total) in
           let met =
           refused-first a plan x (drop (x + 1) (jobNumbers a)) (runStateIn k stores failed offset) k failed stores′ marks′
-          r _ refl (one .ran a times held isJob failed) fails in
-          let ends : runJobs a plan (jobNumbers a) (runStateIn k stores₀ noFlags (1 + 8 * k))
-          ≡ refused (met .0) (met .1) =
-          next-run a times held ∙ ap (afterJobs (stepsIn marks x)) (met .2) in
-          subst (JobsRanAs k stores′ marks′ _) (sym ends) (met .3));
+          r _ refl (one .ran a times held isJob failed) there in
+          let ends : runJobs a plan (jobNumbers a) (runStateIn k stores₀ noFlags (1 + 8 * k)) ≡ refused number place =
+          next-run a times held ∙ ap (afterJobs (stepsIn marks x)) met in
+          subst (JobsRanAs k stores′ marks′ _) (sym ends) there);
     }
 
     -- its run came to its end
-    pub jobs-go : NoFault (r .fault) → {failed′ : Flags} → failed′ ≡ flagged (r .failed) x failed
+    pub jobs-go : r .fault ≡ Nothing → {failed′ : Flags} → failed′ ≡ flagged (r .failed) x failed
         → JobsRunning program locks plan k stores₀ stores′ marks′ failed′ (r .offset) (x + 1)
     jobs-go clear {failed′} raised = record {
       room = omega (arith, one .room, run .room);

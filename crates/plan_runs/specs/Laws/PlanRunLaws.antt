@@ -23,10 +23,12 @@ use Rattle.machine.specs.Ends.{noFlags}
 use Rattle.machine.specs.Instructions.{Store}
 use Rattle.plan.specs.Runs.{Plan, JobRuns, RunState, jobTotal, guess, roundNumbers, runStart, runJobs, runPlan}
 use Rattle.plan_marks.specs.declared.Fault.{Fault}
+use Rattle.plan_marks.specs.declared.Fault.the-variants.{Nothing, At}
 use Rattle.plan_marks.specs.declared.JobsRan.{JobsRan}
 use Rattle.plan_marks.specs.declared.PlanRan.{PlanRan}
 use Rattle.plan_marks.specs.Code.Marks.{storesIn, stepsIn, runStateIn, IsMarks}
-use Rattle.plan_marks.specs.Code.RunParts.{Holds, NoFault, JobsRanAs, JobsRanOf, PlanRanAs, PlanRanOf, leftoverFault}
+use Rattle.plan_marks.specs.Code.RunParts.{Holds, JobsRanAs, JobsRanOf, PlanRanAs, PlanRanOf, leftoverFault}
+use Rattle.plan_marks.specs.Laws.FaultLaws.{some-fault}
 use Rattle.plan_marks.specs.Laws.StoreLaws.{guesses-copied}
 
 -- ---- the guesses copied: the first v bytes of them
@@ -60,19 +62,22 @@ copying-all plan before most v now done all =
 -- ---- what is left over
 
 module _ (size : ℕ) (fault : Fault) (offset : ℕ) where
-  pub left-faulty : (fault .number ≡ 0 → ⊥) → fault ≡ leftoverFault size fault offset
-  unfolding leftoverFault if_then_else_
-  left-faulty faulty = rw (ne-eqb (fault .number) 0 faulty) refl
+  pub left-faulty : {number place : ℕ} → fault ≡ At number place → fault ≡ leftoverFault size fault offset
+  unfolding leftoverFault
+  left-faulty there = rw there refl
 
-  pub left-over : fault .number ≡ 0 → (offset ≡ size → ⊥)
-      → record { number = 40; place = offset } ≡ leftoverFault size fault offset
-  unfolding leftoverFault if_then_else_
-  left-over good more = rw (eq-eqb (fault .number) 0 good, ne-eqb offset size more) refl
+  -- the jobs' run met no fault
+  unless-left : fault ≡ Nothing → {left : Fault} → left ≡ leftoverFault size Nothing offset
+      → left ≡ leftoverFault size fault offset
+  unless-left clear is = is ∙ ap (λ (f : Fault). leftoverFault size f offset) (sym clear)
 
-  pub left-nothing : fault .number ≡ 0 → offset ≡ size → {r : Fault} → r ≡ record { number = 0; place = 0 }
-      → r ≡ leftoverFault size fault offset
+  pub left-over : fault ≡ Nothing → (offset ≡ size → ⊥) → At 40 offset ≡ leftoverFault size fault offset
   unfolding leftoverFault if_then_else_
-  left-nothing good end made = made ∙ rw (eq-eqb (fault .number) 0 good, eq-eqb offset size end) refl
+  left-over clear more = unless-left clear (rw (ne-eqb offset size more) refl)
+
+  pub left-nothing : fault ≡ Nothing → offset ≡ size → Nothing ≡ leftoverFault size fault offset
+  unfolding leftoverFault if_then_else_
+  left-nothing clear end = unless-left clear (rw (eq-eqb offset size end) refl)
 
 -- ---- a plan's run
 
@@ -84,22 +89,16 @@ first-holds plan n some first =
 
 -- a plan whose first byte or length is wrong
 module _ (program : List ℕ) (locks : Ceilings) (plan : Plan) (k : ℕ) {r : PlanRan} (isMarks : IsMarks (r .marks)) where
-  misshapen-at : (place : ℕ) → r .fault ≡ record { number = 40; place = place }
+  misshapen-at : (place : ℕ) → r .fault ≡ At 40 place
       → ((a : Accepted) (times : List ℕ) → Holds a program times locks k → runPlan a plan ≡ refused 40 place)
       → PlanRanOf program locks plan k r
   misshapen-at place fault ran = record {
     isMarks = isMarks;
-    long = λ none. absurd (let z : _≡_ {A = ℕ} 40 0 = sym (ap (λ (f : Fault). f .number) fault) ∙ none in omega arith);
-    ran = λ a times holds.
-        subst (PlanRanAs k r) (sym (ran a times holds))
-        (record {
-          number-is = ap (λ (f : Fault). f .number) fault;
-          place-is = ap (λ (f : Fault). f .place) fault;
-          numbered = omega arith;
-        });
+    long = λ clear. absurd (some-fault (sym fault ∙ clear));
+    ran = λ a times holds. subst (PlanRanAs k r) (sym (ran a times holds)) fault;
   }
 
-  first-wrong : r .fault ≡ record { number = 40; place = 0 }
+  first-wrong : r .fault ≡ At 40 0
       → ((n : ℕ) → n ≡ k → (ltb 0 (length plan) && eqb (getD plan 0 0) n) ≡ false)
       → PlanRanOf program locks plan k r
   unfolding runPlan jobTotal
@@ -109,17 +108,17 @@ module _ (program : List ℕ) (locks : Ceilings) (plan : Plan) (k : ℕ) {r : Pl
       require-fails (ltb 0 (length plan) && eqb (getD plan 0 0) (jobTotal a)) 40 0 _ (wrong (jobTotal a) (holds .total)))
 
   -- there is no first byte
-  pub ran-empty : length plan ≡ 0 → r .fault ≡ record { number = 40; place = 0 } → PlanRanOf program locks plan k r
+  pub ran-empty : length plan ≡ 0 → r .fault ≡ At 40 0 → PlanRanOf program locks plan k r
   ran-empty none fault = first-wrong fault (λ n is. and-first (ltb 0 (length plan)) _ (le-ltb 0 (length plan) (omega arith)))
 
   -- it is not k
-  pub ran-other : (getD plan 0 0 ≡ k → ⊥) → r .fault ≡ record { number = 40; place = 0 } → PlanRanOf program locks plan k r
+  pub ran-other : (getD plan 0 0 ≡ k → ⊥) → r .fault ≡ At 40 0 → PlanRanOf program locks plan k r
   ran-other other fault =
       first-wrong fault (λ n is. and-last (ltb 0 (length plan)) _ (ne-eqb (getD plan 0 0) n (λ e. other (e ∙ is))))
 
   -- the guesses are not all there
   pub ran-short : (length plan ≡ 0 → ⊥) → getD plan 0 0 ≡ k → length plan < 1 + 8 * k
-      → r .fault ≡ record { number = 40; place = length plan } → PlanRanOf program locks plan k r
+      → r .fault ≡ At 40 (length plan) → PlanRanOf program locks plan k r
   unfolding runPlan jobTotal
   ran-short some first short fault =
       misshapen-at (length plan) fault
@@ -167,37 +166,24 @@ module _ (plan : Plan) (k : ℕ) (stores marks : List ℕ) (r : JobsRan) {fault 
   made = record { fault = fault; failed = r .failed; stores = stores; marks = marks }
 
   -- nothing is left over, or something is
-  ended : (runs : JobRuns) → NoFault (r .fault) → runs .steps ≡ stepsIn marks k
+  ended : (runs : JobRuns) → r .fault ≡ Nothing → runs .steps ≡ stepsIn marks k
       → runs .running ≡ runStateIn k stores (r .failed) (r .offset) → (b : Bool) → eqb (r .offset) (length plan) ≡ b
       → PlanRanAs k made (_>>_ (require b 40 (runs .running .offset)) (passed runs))
   unfolding require _>>_ runStateIn
-  ended runs none steps running true whole =
-      let is : fault ≡ record { number = 0; place = 0 } =
-      left ∙ sym (left-nothing (length plan) (r .fault) (r .offset) none (eqb-true _ _ whole) refl) in (
-        ap (λ (f : Fault). f .number) is,
-        steps,
-        ap (λ (s : RunState). s .stores) running,
-        ap (λ (s : RunState). s .failed) running,
-      )
+  ended runs none steps running true whole = (
+    left ∙ sym (left-nothing (length plan) (r .fault) (r .offset) none (eqb-true _ _ whole)),
+    steps,
+    ap (λ (s : RunState). s .stores) running,
+    ap (λ (s : RunState). s .failed) running,
+  )
   ended runs none steps running false more =
-      let is : fault ≡ record { number = 40; place = r .offset } =
-      left ∙ sym (left-over (length plan) (r .fault) (r .offset) none (eqb-false _ _ more)) in
-      record {
-        number-is = ap (λ (f : Fault). f .number) is;
-        place-is = ap (λ (f : Fault). f .place) is ∙ sym (ap (λ (s : RunState). s .offset) running);
-        numbered = omega arith;
-      }
+      left ∙ sym (left-over (length plan) (r .fault) (r .offset) none (eqb-false _ _ more))
+      ∙ ap (λ (s : RunState). At 40 (s .offset)) (sym running)
 
   judged : (c : Checked ℕ JobRuns) → JobsRanAs k stores marks r c → PlanRanAs k made (_>>=_ c (ending plan))
   unfolding _>>=_ ending runStateIn
   judged (refused number place) ran =
-      let is : fault ≡ r .fault =
-      left ∙ sym (left-faulty (length plan) (r .fault) (r .offset) (λ none. omega (arith, ran .number-is, ran .numbered))) in
-      record {
-        number-is = ap (λ (f : Fault). f .number) is ∙ ran .number-is;
-        place-is = ap (λ (f : Fault). f .place) is ∙ ran .place-is;
-        numbered = ran .numbered;
-      }
+      left ∙ sym (left-faulty (length plan) (r .fault) (r .offset) ran) ∙ ran
   judged (passed runs) ran =
       ended runs (ran .0) (ran .1) (ran .2) (eqb (runs .running .offset) (length plan))
       (ap (λ (n : ℕ). eqb n (length plan)) (sym (ap (λ (s : RunState). s .offset) (ran .2))))

@@ -43,6 +43,9 @@ returns-2 c =
 check-table-requires : tie.Need-check-table-requires
 check-table-requires c κs = parts-lent _ _ (c .before .before .before .accept-file .ensures) (c .before .enum-told .given .1)
 
+enum-known-fault : tie.Need-enum-known-fault
+enum-known-fault c = search needs
+
 refused-run-requires-3 : tie.Need-refused-run-requires-3
 refused-run-requires-3 c κs = search needs
 
@@ -51,12 +54,15 @@ returns-3 c =
     let run = c .before .before .before .before in
     let says = run .before .before .before .before .accept-file .ensures in
     let passes = run .before .before .enum-told .given .1 in
-    let is = entry-fault _ _ _ _ says passes (run .before .if1 .left) (run .check-table .ensures) (c .before .if2 .taken) in
+    let is = entry-fault _ _ _ _ says passes (run .before .if1 .left) (run .check-table .ensures) (c .before .before .fault .given .1) in
     (c .refused-run3 .ensures ∙ is .0, is .1)
+
+enum-told-2 : tie.Need-enum-told-2
+enum-told-2 c = search needs
 
 write-order-requires : tie.Need-write-order-requires
 write-order-requires c κs =
-    let run = c .before .before .before .before .before .before in
+    let run = c .before .before .before .before .before in
     let parts = parts-lent _ _ (run .before .before .before .before .accept-file .ensures) (run .before .before .enum-told .given .1) in
     (parts .0, parts .1, run .check-table .ensures .isMarks, run .before .if1 .left)
 
@@ -72,11 +78,12 @@ same-length c = search needs
 returns-4 : tie.Need-returns-4
 returns-4 c =
     let made = c .before .before .before .before .before in
-    let run = made .before .before .before .before .before .before .before in
+    let clear = made .before .before .before .before in
+    let run = clear .before .before in
     let says = run .before .before .before .before .accept-file .ensures in
     let passes = run .before .before .enum-told .given .1 in
     entry-written _ _ _ _ says passes (run .before .if1 .left) (run .check-table .ensures) (made .write-order .ensures)
-    (c .written-run .ensures) (made .before .before .before .before .if2 .left)
+    (c .written-run .ensures) (clear .enum-told2 .given .1)
 
 pub plan-to-order-spec : {M : Type 1} → statement M
 plan-to-order-spec =
@@ -91,8 +98,10 @@ plan-to-order-spec =
     refused-run-requires-2
     returns-2
     check-table-requires
+    enum-known-fault
     refused-run-requires-3
     returns-3
+    enum-told-2
     write-order-requires
     cast-written-run
     written-run-requires

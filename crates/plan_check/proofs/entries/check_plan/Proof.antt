@@ -31,6 +31,9 @@ enum-told c = search needs
 check-table-requires : tie.Need-check-table-requires
 check-table-requires c κs = parts-lent _ _ (c .before .before .accept-file .ensures) (c .enum-told .given .1)
 
+enum-known-fault : tie.Need-enum-known-fault
+enum-known-fault c = search needs
+
 refused-run-requires-2 : tie.Need-refused-run-requires-2
 refused-run-requires-2 c κs = search needs
 
@@ -39,7 +42,10 @@ returns-2 c =
     let run = c .before .before .before .before in
     c .refused-run2 .ensures
     ∙ answers-fault _ _ (run .before .before .before .accept-file .ensures) (run .before .enum-told .given .1) _ _
-    (run .check-table .ensures) (c .before .if1 .taken)
+    (run .check-table .ensures) (c .before .before .fault .given .1)
+
+enum-told-2 : tie.Need-enum-told-2
+enum-told-2 c = search needs
 
 ended-run-requires : tie.Need-ended-run-requires
 ended-run-requires c κs = search needs
@@ -47,10 +53,10 @@ ended-run-requires c κs = search needs
 returns-3 : tie.Need-returns-3
 returns-3 c =
     let end = c .before .before .before in
-    let run = end .before .before .before in
+    let run = end .before .before in
     c .ended-run .ensures
     ∙ answers-ended _ _ (run .before .before .before .accept-file .ensures) (run .before .enum-told .given .1) _ _
-    (run .check-table .ensures) (end .if1 .left)
+    (run .check-table .ensures) (end .enum-told2 .given .1)
 
 pub check-plan-spec : {M : Type 1} → statement M
 check-plan-spec =
@@ -63,7 +69,9 @@ check-plan-spec =
     returns
     enum-told
     check-table-requires
+    enum-known-fault
     refused-run-requires-2
     returns-2
+    enum-told-2
     ended-run-requires
     returns-3)

@@ -2,8 +2,6 @@
 -- rules over marks come to what the plan comes to.
 -- Assumes nothing.
 use borrow.Author.Needs.{needs}
-use mathlib.Core.Path.{_∙_}
-use mathlib.Core.Logic.{inl, inr, ⊎-elim}
 use Rattle.plan_check.specs.Laws.CheckLaws.{table-checked}
 use Rattle.plan_check.proofs.entries.check_table.Statement.{statement}
 use Rattle.plan_check.proofs.entries.check_table.Tie as tie
@@ -16,21 +14,21 @@ run-plan-requires c κs = search needs
 
 legality-fault-requires : tie.Need-legality-fault-requires
 legality-fault-requires c κs =
-    let test = c .before .before .before .before in
-    let ran = test .before .before .before .before .before .before .before in
+    let last = c .before .before .before .before in
+    let ran = last .before .before .before .before in
     let start = ran .before .before .before .before .before .before in
-    (ran .run-plan .ensures .isMarks, start .pre .1, ran .run-plan .ensures .long (test .if1 .taken))
+    (ran .run-plan .ensures .isMarks, start .pre .1, ran .run-plan .ensures .long)
 
 end-store-requires : tie.Need-end-store-requires
 end-store-requires c κs = search needs
 
 returns : tie.Need-returns
 returns c =
-    let joined = c .before .before in
-    let ran = joined .before .before .before .before .before .before .before in
+    let legal = c .before .before in
+    let last = legal .before .before .before .before .before in
+    let ran = last .before .before .before .before in
     let lent = ran .before .before .before .before in
-    table-checked _ (lent .lend-times .ensures) (ran .run-plan .ensures)
-    (⊎-elim (λ w. inl (w .0 .taken, w .6 ∙ w .5 .ensures)) (λ w. inr (w .0 .left, w .1)) (joined .if1 .came))
+    table-checked _ (lent .lend-times .ensures) (ran .run-plan .ensures) (legal .legality-fault .ensures)
     (c .end-store .ensures)
 
 pub check-table-spec : {M : Type 1} → statement M

@@ -11,19 +11,12 @@ comes-before-requires c κs = search needs
 returns : tie.Need-returns
 returns c = before-free _ _ _ _ _ (c .before .comes-before .ensures) (c .if1 .taken)
 
-end-round-requires : tie.Need-end-round-requires
-end-round-requires c κs = search needs
-
-start-round-requires : tie.Need-start-round-requires
-start-round-requires c κs = search needs
+ends-before-requires : tie.Need-ends-before-requires
+ends-before-requires c κs = search needs
 
 returns-2 : tie.Need-returns-2
 returns-2 c =
-    before-rounds _ _ _ _ _ (c .before .before .before .before .before .comes-before .ensures)
-    (c .before .before .before .before .if1 .left) (c .before .before .before .end-round .ensures)
-    (c .before .before .start-round .ensures)
+    before-rounds _ _ _ _ _ (c .before .before .comes-before .ensures) (c .before .if1 .left) (c .ends-before .ensures)
 
 pub before-kept-spec : {M : Type 1} → statement M
-before-kept-spec =
-    tie.close
-    (tie.spec comes-before-requires returns end-round-requires start-round-requires returns-2)
+before-kept-spec = tie.close (tie.spec comes-before-requires returns ends-before-requires returns-2)

@@ -20,14 +20,14 @@ returns-2 c =
     lock-apart _ _ _ _ _ (c .before .before .before .may-preempt .ensures) (c .before .before .if1 .left)
     (c .before .rounds-nested .ensures) (c .if2 .taken)
 
-cast-base : tie.Need-cast-base
-cast-base c = search needs
+cast-t11 : tie.Need-cast-t11
+cast-t11 c = search needs
 
-add-base : tie.Need-add-base
-add-base c = search needs
+add-t12 : tie.Need-add-t12
+add-t12 c = search needs
 
-element-copy-out-base : tie.Need-element-copy-out-base
-element-copy-out-base c = search needs
+element-copy-out-t15 : tie.Need-element-copy-out-t15
+element-copy-out-t15 c = search needs
 
 start-round-requires : tie.Need-start-round-requires
 start-round-requires c κs = search needs
@@ -35,24 +35,25 @@ start-round-requires c κs = search needs
 priority-up-to-requires : tie.Need-priority-up-to-requires
 priority-up-to-requires c κs = search needs
 
-cast-result : tie.Need-cast-result
-cast-result c = search needs
+cast-t11-2 : tie.Need-cast-t11-2
+cast-t11-2 c = search needs
 
-add-result : tie.Need-add-result
-add-result c = search needs
+add-t12-2 : tie.Need-add-t12-2
+add-t12-2 c = search needs
 
-element-copy-out-result : tie.Need-element-copy-out-result
-element-copy-out-result c = search needs
+element-copy-out-t15-2 : tie.Need-element-copy-out-t15-2
+element-copy-out-t15-2 c = search needs
 
 returns-3 : tie.Need-returns-3
 unfolding ownerIn
 returns-3 c =
-    lock-priority _ _ _ _ _
-    (c .before .before .before .before .before .before .before .before .before .may-preempt .ensures)
-    (c .before .before .before .before .before .before .before .before .if1 .left)
-    (c .before .before .before .before .before .before .before .rounds-nested .ensures)
-    (c .before .before .before .before .before .before .if2 .left) (c .before .before .before .start-round .ensures)
-    (c .before .before .priority-up-to .ensures)
+    let reached = c .before .before .before in
+    let start = reached .before in
+    let nested = start .before .before .before in
+    let may = nested .before .before in
+    lock-priority _ _ _ _ _ (may .before .may-preempt .ensures) (may .if1 .left)
+    (nested .before .rounds-nested .ensures) (nested .if2 .left) (start .start-round .ensures)
+    (reached .priority-up-to .ensures)
 
 pub lock-kept-spec : {M : Type 1} → statement M
 lock-kept-spec =
@@ -62,12 +63,12 @@ lock-kept-spec =
     returns
     rounds-nested-requires
     returns-2
-    cast-base
-    add-base
-    element-copy-out-base
+    cast-t11
+    add-t12
+    element-copy-out-t15
     start-round-requires
     priority-up-to-requires
-    cast-result
-    add-result
-    element-copy-out-result
+    cast-t11-2
+    add-t12-2
+    element-copy-out-t15-2
     returns-3)

@@ -26,10 +26,11 @@ round-at-requires c κs = let start = c .before .before .before .pre in omega (a
 
 returns : tie.Need-returns Inv-loop μ-loop
 returns c =
-    none-found _ _ _ _ _ _ (c .before .before .before .before .before .before .before .before .loop .inv)
-    (c .before .before .before .before .before .before .before .loop-test .taken)
-    (c .before .before .before .before .before .before .round-at .ensures) (c .before .before .before .if1 .taken)
-    (c .if2 .taken)
+    let late = c .before .before .before in
+    let read = late .before .before .before in
+    let entered = read .before in
+    none-found _ _ _ _ _ _ (entered .before .loop .inv) (entered .loop-test .taken) (read .round-at .ensures)
+    (late .if1 .taken) (c .if2 .taken)
 
 add-n : tie.Need-add-n Inv-loop μ-loop
 add-n c = omega arith

@@ -37,11 +37,12 @@ none-within-requires c κs = search needs
 
 returns-4 : tie.Need-returns-4
 returns-4 c =
-    preempt-within _ _ _ _ _ (c .before .before .before .before .before .before .before .before .may-preempt .ensures)
-    (c .before .before .before .before .before .before .before .if1 .left)
-    (c .before .before .before .before .before .before .rounds-apart .ensures)
-    (c .before .before .before .before .before .if2 .left) (c .before .before .before .before .rounds-nested .ensures)
-    (c .before .before .before .if3 .left) (c .before .before .start-round .ensures) (c .before .end-round .ensures)
+    let nested = c .before .before .before in
+    let apart = nested .before .before in
+    let may = apart .before .before in
+    preempt-within _ _ _ _ _ (may .before .may-preempt .ensures) (may .if1 .left)
+    (apart .before .rounds-apart .ensures) (apart .if2 .left) (nested .before .rounds-nested .ensures)
+    (nested .if3 .left) (c .before .before .start-round .ensures) (c .before .end-round .ensures)
     (c .none-within .ensures)
 
 pub preempt-kept-spec : {M : Type 1} → statement M

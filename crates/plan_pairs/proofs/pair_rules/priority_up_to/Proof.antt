@@ -12,10 +12,10 @@ use Rattle.plan_pairs.proofs.pair_rules.priority_up_to.Statement.{state
 use Rattle.plan_pairs.proofs.pair_rules.priority_up_to.Tie as tie
 
 abbrev Inv-loop : tie.InvT-loop
-Inv-loop marks base x r count priority₀ n₀ priority n = PriorityFrom marks base (x .0) r count priority n
+Inv-loop marks x r count base n₀ priority n = PriorityFrom marks base (x .0) r count priority n
 
 abbrev μ-loop : tie.MeasureT-loop
-μ-loop marks base x r count priority₀ n₀ priority n = count - n
+μ-loop marks x r count base n₀ priority n = count - n
 
 count-at-requires : tie.Need-count-at-requires Inv-loop μ-loop
 count-at-requires c κs = search needs

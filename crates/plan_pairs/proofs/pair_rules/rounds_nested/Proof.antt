@@ -24,10 +24,10 @@ end-round-requires-2 c κs = search needs
 
 returns-2 : tie.Need-returns-2
 returns-2 c =
-    nested-ends _ _ _ (c .before .before .before .before .before .before .before .before .start-round .ensures)
-    (c .before .before .before .before .before .before .before .start-round2 .ensures)
-    (c .before .before .before .before .if1 .left) (c .before .before .before .end-round .ensures)
-    (c .before .before .end-round2 .ensures)
+    let first = c .before .before .before .before in
+    let starts = first .before .before .before in
+    nested-ends _ _ _ (starts .before .start-round .ensures) (starts .start-round2 .ensures) (first .if1 .left)
+    (c .before .before .before .end-round .ensures) (c .before .before .end-round2 .ensures)
 
 pub rounds-nested-spec : {M : Type 1} → statement M
 rounds-nested-spec =

@@ -4,8 +4,6 @@
 use Prim.Native.Nat.{_-_}
 use native.Mathlib.Omega.{arith}
 use borrow.Author.Needs.{needs}
-use mathlib.Core.Path.{ap}
-use Rattle.plan_marks.specs.declared.Fault.{Fault}
 use Rattle.plan_runs.specs.Laws.JobsLaws.{JobsRunning, jobs-start, jobs-ended, jobs-refused, jobs-go}
 use Rattle.plan_runs.proofs.job_runs.run_jobs.Statement.{statement}
 use Rattle.plan_runs.proofs.job_runs.run_jobs.Tie as tie
@@ -41,51 +39,52 @@ run-job-requires c κs =
       (loop .loop .inv .room, loop .loop .inv .isMarks),
     )
 
+enum-told : tie.Need-enum-told Inv-loop μ-loop
+enum-told c = search needs
+
+enum-told-2 : tie.Need-enum-told-2 Inv-loop μ-loop
+enum-told-2 c = search needs
+
 returns : tie.Need-returns Inv-loop μ-loop
 returns c =
-    let ran = c .before .before .before in
+    let ran = c .before .before in
     let entered = ran .before .before .before in
     let loop = entered .before in
     let start = loop .before .before in
     jobs-refused (loop .loop .inv) (start .pre .1 .0) (start .pre .0 .1) (entered .loop-test .taken)
-    (ran .run-job .ensures) (c .if1 .taken)
+    (ran .run-job .ensures) (c .enum-told2 .given .1)
 
 flag-job-requires : tie.Need-flag-job-requires Inv-loop μ-loop
 flag-job-requires c κs =
-    let entered = c .before .before .before .before .before .before .before in
+    let entered = c .before .before .before .before .before .before in
     let loop = entered .before in
     (loop .loop .inv .flags, omega (arith, entered .loop-test .taken, loop .before .before .pre .0 .1))
 
 add-x : tie.Need-add-x Inv-loop μ-loop
 add-x c =
-    let entered = c .before .before .before .before .before .before .before .before in
+    let entered = c .before .before .before .before .before .before .before in
     omega (arith, entered .loop-test .taken, entered .before .before .before .pre .0 .1)
 
 loop-less : tie.Need-loop-less Inv-loop μ-loop
 loop-less c =
-    let entered = c .before .before .before .before .before .before .before .before in
+    let entered = c .before .before .before .before .before .before .before in
     omega (arith, entered .loop-test .taken)
 
 loop-again : tie.Need-loop-again Inv-loop μ-loop
 loop-again c =
     let clear = c .before .before in
-    let ran = clear .before .before .before in
+    let ran = clear .before .before in
     let entered = ran .before .before .before in
     let loop = entered .before in
     let start = loop .before .before in
     jobs-go (loop .loop .inv) (start .pre .1 .0) (start .pre .0 .1) (entered .loop-test .taken)
-    (ran .run-job .ensures) (clear .if1 .left) (c .flag-job .ensures)
-
-no-fault-requires : tie.Need-no-fault-requires Inv-loop μ-loop
-no-fault-requires c κs = tt
+    (ran .run-job .ensures) (clear .enum-told .given .1) (c .flag-job .ensures)
 
 returns-2 : tie.Need-returns-2 Inv-loop μ-loop
 returns-2 c =
-    let ended = c .before in
-    let loop = ended .before in
+    let loop = c .before in
     let start = loop .before .before in
-    jobs-ended (loop .loop .inv) (start .pre .1 .0) (start .pre .0 .1) _
-    (ap (λ (f : Fault). f .number) (c .no-fault .ensures)) (ended .loop-test .left)
+    jobs-ended (loop .loop .inv) (start .pre .1 .0) (start .pre .0 .1) (c .loop-test .left)
 
 pub run-jobs-spec : {M : Type 1} → statement M
 run-jobs-spec =
@@ -97,10 +96,11 @@ run-jobs-spec =
     add-offset
     loop-holds
     run-job-requires
+    enum-told
+    enum-told-2
     returns
     flag-job-requires
     add-x
     loop-less
     loop-again
-    no-fault-requires
     returns-2)

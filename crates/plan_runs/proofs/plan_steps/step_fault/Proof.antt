@@ -15,8 +15,8 @@ cast-t11 c = search needs
 returns : tie.Need-returns
 returns c = step-short _ _ _ _ _ (omega arith)
 
-shared-slice-read-round : tie.Need-shared-slice-read-round
-shared-slice-read-round c = search needs
+shared-slice-read-on-offer : tie.Need-shared-slice-read-on-offer
+shared-slice-read-on-offer c = search needs
 
 cast-t14 : tie.Need-cast-t14
 cast-t14 c = search needs
@@ -33,8 +33,8 @@ returns-3 c = step-back _ _ _ _ _ (omega arith) (omega arith)
 add-on-offer : tie.Need-add-on-offer
 add-on-offer c = search needs
 
-shared-slice-read-on-offer : tie.Need-shared-slice-read-on-offer
-shared-slice-read-on-offer c = search needs
+shared-slice-read-on-offer-2 : tie.Need-shared-slice-read-on-offer-2
+shared-slice-read-on-offer-2 c = search needs
 
 on-offer-requires : tie.Need-on-offer-requires
 on-offer-requires c κs = search needs
@@ -58,13 +58,13 @@ step-fault-spec =
     add-if1
     cast-t11
     returns
-    shared-slice-read-round
+    shared-slice-read-on-offer
     cast-t14
     returns-2
     cast-t15
     returns-3
     add-on-offer
-    shared-slice-read-on-offer
+    shared-slice-read-on-offer-2
     on-offer-requires
     add-t18
     cast-t19
