@@ -13,7 +13,8 @@ use Rattle.taskfile.specs.declared.Table.{Table}
 use Rattle.taskfile.specs.declared.Task.{Task}
 use Rattle.notation.specs.Checked.{passed}
 use Rattle.notation.specs.Laws.CheckedLaws.{then-passed, noneOf-passed}
-use Rattle.taskfile.specs.Judgement.{taskNumbers, instructionSites, instructionOf, isEnd, isSkip, ofInstruction, ofTask, bodyFault, rateFault, ceilingFault, judged}
+use Rattle.taskfile.specs.Judgement.{taskNumbers, instructionSites, instructionOf, isEnd, isSkip, ofInstruction}
+use Rattle.taskfile.specs.Judgement.{ofTask, bodyFault, rateFault, ceilingFault, judged}
 use Rattle.notation.specs.Laws.ListLaws.{upTo-member, each-member}
 use Rattle.notation.specs.Laws.TestLaws.{or-neither, other-fails}
 use Rattle.taskfile.specs.Tables.{tasksOf, taskOf, bodyOf}

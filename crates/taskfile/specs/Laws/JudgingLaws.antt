@@ -22,7 +22,9 @@ use Rattle.taskfile.specs.declared.Table.{Table}
 use Rattle.taskfile.specs.declared.Task.{Task}
 use Rattle.taskfile.specs.declared.TaskEntry.{TaskEntry}
 use Rattle.notation.specs.Checked.{Checked, refused, passed, noneOf, _>>_}
-use Rattle.taskfile.specs.Judgement.{numbered, taskNumbers, instructionSites, instructionOf, isEnd, isSkip, isAcquire, isRelease, ofInstruction, ofTask, bodyFault, rateFault, ceilingFault}
+use Rattle.taskfile.specs.Judgement.{numbered, taskNumbers, instructionSites, instructionOf, isEnd, isSkip}
+use Rattle.taskfile.specs.Judgement.{isAcquire, isRelease, ofInstruction, ofTask, bodyFault, rateFault}
+use Rattle.taskfile.specs.Judgement.{ceilingFault}
 use Rattle.taskfile.specs.Code.JudgingParts.{Shaped, ShapedEntry, foundOf, bodyFaultIn, ceilingFaultIn}
 use Rattle.notation.specs.Laws.ListLaws.{getD-any, each-map, each-one}
 use Rattle.notation.specs.Lists.{upTo, firstWith, each, if_then_else_}

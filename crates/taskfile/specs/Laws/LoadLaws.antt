@@ -21,7 +21,9 @@ use Rattle.taskfile.specs.declared.Task.{Task}
 use Rattle.taskfile.specs.Chains.{Chains, chainsOf}
 use Rattle.taskfile.specs.Laws.ChainLaws.{chains-linked, InTable, in-table-sited, site-record}
 use Rattle.notation.specs.Checked.{Checked, refused, passed, require, placedBy, _>>=_, _>>_}
-use Rattle.notation.specs.Laws.CheckedLaws.{passed-same, bind-passed, then-passed, placed-passed, require-holds, require-fails, bind-refused, bind-goes, then-refused, then-goes, noneOf-listed, then-refuses}
+use Rattle.notation.specs.Laws.CheckedLaws.{passed-same, bind-passed, then-passed, placed-passed, require-holds}
+use Rattle.notation.specs.Laws.CheckedLaws.{require-fails, bind-refused, bind-goes, then-refused, then-goes}
+use Rattle.notation.specs.Laws.CheckedLaws.{noneOf-listed, then-refuses}
 use Rattle.taskfile.specs.Laws.CheckSteps.{checkOf-passed, checkOf-refused}
 use Rattle.taskfile.specs.File.{Loaded, load, sized, recordAt}
 use Rattle.taskfile.specs.Judgement.{judged, numbered, taskNumbers, instructionSites, ofInstruction, ofTask, bodyFault, rateFault, ceilingFault}

@@ -31,10 +31,15 @@ empty-table-requires-2 : tie.Need-empty-table-requires-2
 empty-table-requires-2 c κs = search needs
 
 returns-2 : tie.Need-returns-2
-returns-2 c = answers-unchained _ _ (sym (c .before .before .before .before .before .is-sized .ensures) ∙ not-false _ (c .before .before .before .before .if1 .left)) (c .before .before .before .read-chains .ensures) (c .before .enum-told2 .given .1) refl
+returns-2 c =
+    let read = c .before .before .before in
+    answers-unchained _ _ (sym (read .before .before .is-sized .ensures) ∙ not-false _ (read .before .if1 .left))
+    (read .read-chains .ensures) (c .before .enum-told2 .given .1) refl
 
 table-at-requires : tie.Need-table-at-requires
-table-at-requires c κs = sized-within _ (sym (c .before .before .before .before .is-sized .ensures) ∙ not-false _ (c .before .before .before .if1 .left)) .0
+table-at-requires c κs =
+    let tested = c .before .before .before in
+    sized-within _ (sym (tested .before .is-sized .ensures) ∙ not-false _ (tested .if1 .left)) .0
 
 judge-requires : tie.Need-judge-requires
 judge-requires c κs = rw (c .table-at .ensures) (table-shaped _)
@@ -49,13 +54,24 @@ empty-table-requires-3 : tie.Need-empty-table-requires-3
 empty-table-requires-3 c κs = search needs
 
 returns-3 : tie.Need-returns-3
-returns-3 c = answers-faulty _ _ (sym (c .before .before .before .before .before .before .before .before .before .before .before .is-sized .ensures) ∙ not-false _ (c .before .before .before .before .before .before .before .before .before .before .if1 .left)) (c .before .before .before .before .before .before .before .before .before .read-chains .ensures) (c .before .before .before .before .before .before .before .enum-told .given .1) (c .before .before .before .before .before .before .table-at .ensures) (c .before .before .before .before .before .judge .ensures) (c .before .before .before .judged .given .1) (c .before .record-at .ensures) refl
+returns-3 c =
+    let judged = c .before .before .before in
+    let made = judged .before .before .before in
+    let read = made .before .before .before in
+    answers-faulty _ _ (sym (read .before .before .is-sized .ensures) ∙ not-false _ (read .before .if1 .left))
+    (read .read-chains .ensures) (made .before .enum-told .given .1) (made .table-at .ensures)
+    (judged .before .before .judge .ensures) (judged .judged .given .1) (c .before .record-at .ensures) refl
 
 enum-told-3 : tie.Need-enum-told-3
 enum-told-3 c = search needs
 
 returns-4 : tie.Need-returns-4
-returns-4 c = answers-sound _ _ (sym (c .before .before .before .before .before .before .before .before .is-sized .ensures) ∙ not-false _ (c .before .before .before .before .before .before .before .if1 .left)) (c .before .before .before .before .before .before .read-chains .ensures) (c .before .before .before .before .enum-told .given .1) (c .before .before .before .table-at .ensures) (c .before .before .judge .ensures) (c .enum-told3 .given .1) refl refl
+returns-4 c =
+    let made = c .before .before .before in
+    let read = made .before .before .before in
+    answers-sound _ _ (sym (read .before .before .is-sized .ensures) ∙ not-false _ (read .before .if1 .left))
+    (read .read-chains .ensures) (made .before .enum-told .given .1) (made .table-at .ensures)
+    (c .before .before .judge .ensures) (c .enum-told3 .given .1) refl refl
 
 pub load-file-spec : {M : Type 1} → statement M
 load-file-spec =

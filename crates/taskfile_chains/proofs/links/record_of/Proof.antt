@@ -49,7 +49,8 @@ returns-4 : tie.Need-returns-4
 unfolding checkOf
 returns-4 c =
     check-comes
-    (record-passes _ _ _ (same (c .before .before .before .before)) (sym (c .before .before .before .tidy-record .ensures) ∙ not-false _ (c .before .before .if2 .left))
+    (record-passes _ _ _ (same (c .before .before .before .before))
+    (sym (c .before .before .before .tidy-record .ensures) ∙ not-false _ (c .before .before .if2 .left))
     (sym (c .before .record-in-range .ensures) ∙ not-false _ (c .if3 .left)))
 
 pub record-of-spec : {M : Type 1} → statement M

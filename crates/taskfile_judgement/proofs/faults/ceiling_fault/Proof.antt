@@ -32,8 +32,9 @@ array-read-result c = search needs
 
 returns-4 : tie.Need-returns-4
 returns-4 c =
-    acquire-known _ _ _ _ (c .before .before .before .before .before .before .before .before .pre) (named (c .before .before .before .before .before .before))
-    (c .before .before .before .before .if3 .left) (c .before .before .if4 .left)
+    let known = c .before .before .before .before in
+    acquire-known _ _ _ _ (known .before .before .before .before .pre) (named (known .before .before)) (known .if3 .left)
+    (c .before .before .if4 .left)
 
 pub ceiling-fault-spec : {M : Type 1} → statement M
 ceiling-fault-spec =
