@@ -28,11 +28,15 @@ same-length c = search needs
 
 returns-2 : tie.Need-returns-2
 returns-2 c =
-    let lent = c .before .before .before .before .before .before .before .before .before .args .answer .now in
-    let room : wordsOfRun ≤ length lent = omega (arith, c .before .before .before .before .before .if1 .left) in
-    let called = c .before .before .before .before .check-plan .ensures in (
+    let at-put-run = c .before .before in
+    let at-check-plan = at-put-run .before .before in
+    let test1 = at-check-plan .before in
+    let start = test1 .before .before .before .before in
+    let lent = start .args .answer .now in
+    let room : wordsOfRun ≤ length lent = omega (arith, test1 .if1 .left) in
+    let called = at-check-plan .check-plan .ensures in (
       sym (le-leb _ _ room),
-      c .before .before .put-run .ensures ∙ ap (λ (a : RunAnswer). filledWith (runWords a) lent) called,
+      at-put-run .put-run .ensures ∙ ap (λ (a : RunAnswer). filledWith (runWords a) lent) called,
     )
 
 pub adqurim-check-plan-spec : {M : Type 1} → statement M

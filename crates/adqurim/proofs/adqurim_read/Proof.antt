@@ -27,11 +27,15 @@ same-length c = search needs
 
 returns-2 : tie.Need-returns-2
 returns-2 c =
-    let lent = c .before .before .before .before .before .before .before .before .args .answer .now in
-    let room : wordsOfRead ≤ length lent = omega (arith, c .before .before .before .before .before .if1 .left) in
-    let called = c .before .before .before .before .read .ensures in (
+    let at-put-read = c .before .before in
+    let at-read = at-put-read .before .before in
+    let test1 = at-read .before in
+    let start = test1 .before .before .before in
+    let lent = start .args .answer .now in
+    let room : wordsOfRead ≤ length lent = omega (arith, test1 .if1 .left) in
+    let called = at-read .read .ensures in (
       sym (le-leb _ _ room),
-      c .before .before .put-read .ensures ∙ ap (λ (a : ReadAnswer). filledWith (readWords a) lent) called,
+      at-put-read .put-read .ensures ∙ ap (λ (a : ReadAnswer). filledWith (readWords a) lent) called,
     )
 
 pub adqurim-read-spec : {M : Type 1} → statement M

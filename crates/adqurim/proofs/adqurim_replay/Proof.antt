@@ -28,11 +28,15 @@ same-length c = search needs
 
 returns-2 : tie.Need-returns-2
 returns-2 c =
-    let lent = c .before .before .before .before .before .before .before .before .before .args .answer .now in
-    let room : wordsOfRun ≤ length lent = omega (arith, c .before .before .before .before .before .if1 .left) in
-    let called = c .before .before .before .before .replay .ensures in (
+    let at-put-run = c .before .before in
+    let at-replay = at-put-run .before .before in
+    let test1 = at-replay .before in
+    let start = test1 .before .before .before .before in
+    let lent = start .args .answer .now in
+    let room : wordsOfRun ≤ length lent = omega (arith, test1 .if1 .left) in
+    let called = at-replay .replay .ensures in (
       sym (le-leb _ _ room),
-      c .before .before .put-run .ensures ∙ ap (λ (a : RunAnswer). filledWith (runWords a) lent) called,
+      at-put-run .put-run .ensures ∙ ap (λ (a : RunAnswer). filledWith (runWords a) lent) called,
     )
 
 pub adqurim-replay-spec : {M : Type 1} → statement M

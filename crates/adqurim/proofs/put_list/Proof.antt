@@ -20,7 +20,13 @@ cast-answer-2 : tie.Need-cast-answer-2
 cast-answer-2 c = search needs
 
 slice-write-answer-2 : tie.Need-slice-write-answer-2
-slice-write-answer-2 c = omega (arith, c .before .before .if1 .left, length-set (c .before .before .before .args .answer .now) 0 (c .before .before .before .args .from .answer .number))
+slice-write-answer-2 c =
+    omega (
+      arith,
+      c .before .before .if1 .left,
+      length-set (c .before .before .before .args .answer .now) 0
+          (c .before .before .before .args .from .answer .number),
+    )
 
 cast-answer-3 : tie.Need-cast-answer-3
 cast-answer-3 c = search needs

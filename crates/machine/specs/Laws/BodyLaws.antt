@@ -20,7 +20,9 @@ use Rattle.notation.specs.Lists.{if_then_else_}
 use Rattle.taskfile.specs.Tables.{tasksOf, taskOf, bodyOf}
 use Rattle.machine.specs.declared.Effect.{Effect}
 use Rattle.machine.specs.declared.Local.{Local}
-use Rattle.machine.specs.Instructions.{Store, fresh, perform, operationEffects, endJob, loadVariable, store, setNumber, add, subtract, skipLess, skipEqual, pick, acquireLock, releaseLock, assert, skipping, withRegister, withHeld, register}
+use Rattle.machine.specs.Instructions.{Store, fresh, perform, operationEffects, endJob, loadVariable, store}
+use Rattle.machine.specs.Instructions.{setNumber, add, subtract, skipLess, skipEqual, pick, acquireLock}
+use Rattle.machine.specs.Instructions.{releaseLock, assert, skipping, withRegister, withHeld, register}
 
 -- what a job meets at a step: the Pick's choice, and the store that others left
 pub record Met : Type 0 where
@@ -52,7 +54,8 @@ chosen false n = omega arith
 -- each operation by its number; a number above 11 is taken as End
 onward : (o : ℕ) (i : Instruction) (v : ℕ) (l : Local) (s : Store)
     → Onward l (if eqb o 6 || eqb o 7 then i .c else 0) (getD operationEffects o endJob i v l s)
-unfolding operationEffects endJob loadVariable store setNumber add subtract skipLess skipEqual pick acquireLock releaseLock assert skipping withRegister withHeld if_then_else_
+unfolding operationEffects endJob loadVariable store setNumber add subtract skipLess skipEqual pick acquireLock
+    releaseLock assert skipping withRegister withHeld if_then_else_
 onward zero i v l s = omega arith
 onward (suc zero) i v l s = omega arith
 onward (suc (suc zero)) i v l s = omega arith

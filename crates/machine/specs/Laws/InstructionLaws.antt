@@ -9,7 +9,10 @@ use Rattle.taskfile.specs.declared.Instruction.{Instruction}
 use Rattle.machine.specs.declared.Local.{Local}
 use Rattle.machine.specs.Held.{Held}
 use Rattle.machine.specs.Laws.HeldLaws.{none-length, acquire-length, release-length}
-use Rattle.machine.specs.Instructions.{Store, Operation, fresh, minus, operationEffects, perform, register, skipping, withRegister, withHeld, endJob, loadVariable, store, setNumber, add, subtract, skipLess, skipEqual, pick, acquireLock, releaseLock, assert}
+use Rattle.machine.specs.Instructions.{Store, Operation, fresh, minus, operationEffects, perform, register}
+use Rattle.machine.specs.Instructions.{skipping, withRegister, withHeld, endJob, loadVariable, store, setNumber}
+use Rattle.machine.specs.Instructions.{add, subtract, skipLess, skipEqual, pick, acquireLock, releaseLock}
+use Rattle.machine.specs.Instructions.{assert}
 
 -- the number that y added to wraps back to x is the difference
 pub minus-wraps : (r x y : ℕ) → (r + y) % 256 ≡ x → r < 256 → x < 256 → y < 256 → r ≡ minus x y

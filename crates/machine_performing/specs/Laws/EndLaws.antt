@@ -11,7 +11,8 @@ use borrow.Author.Tests.{lt-ltb}
 use Rattle.taskfile.specs.declared.Instruction.{Instruction}
 use Rattle.machine.specs.declared.Local.{Local}
 use Rattle.machine.specs.declared.Effect.{Effect}
-use Rattle.machine.specs.Instructions.{operationEffects, perform, endJob, loadVariable, store, setNumber, add, subtract, skipLess, skipEqual, pick, acquireLock, releaseLock, assert}
+use Rattle.machine.specs.Instructions.{operationEffects, perform, endJob, loadVariable, store, setNumber, add}
+use Rattle.machine.specs.Instructions.{subtract, skipLess, skipEqual, pick, acquireLock, releaseLock, assert}
 use Rattle.machine.specs.Laws.InstructionLaws.{perform-operation}
 
 -- each operation but 0 by its number

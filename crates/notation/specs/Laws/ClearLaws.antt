@@ -56,7 +56,9 @@ cleared-more {room} {from} {before} {i} {now} cleared enough lt =
           ap (λ (xs : List ℕ). set xs i 0) split
           ∙ set-at (front ++ zeros) (getD before i 0) (drop (suc i) before) 0 i long
           ∙ append-assoc front zeros (0 ∷ drop (suc i) before)
-          ∙ ap (λ (xs : List ℕ). front ++ xs) (sym (append-assoc zeros (0 ∷ []) (drop (suc i) before)) ∙ ap (λ (xs : List ℕ). xs ++ drop (suc i) before) (replicate-more (i - from)))
+          ∙ ap (λ (xs : List ℕ). front ++ xs)
+          (sym (append-assoc zeros (0 ∷ []) (drop (suc i) before)) ∙ ap
+          (λ (xs : List ℕ). xs ++ drop (suc i) before) (replicate-more (i - from)))
           ∙ ap (λ (n : ℕ). front ++ (replicate n 0 ++ drop (suc i) before)) (sym more)
           ∙ ap (λ (n : ℕ). front ++ (replicate (i + 1 - from) 0 ++ drop n before)) (sym (add-one i));
       least = omega (arith, cleared .least);

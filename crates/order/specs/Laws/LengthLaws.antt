@@ -34,7 +34,9 @@ use Rattle.order.specs.Orders.{Turn, startOf, turnAmong, turnOf, nextOf,
 use Rattle.timing.specs.Laws.JobNumberLaws.{first-job, jobs-at, jobs-length}
 use Rattle.timing.specs.Code.IsAccepted.{IsAccepted}
 use Rattle.order.specs.States.{State, initial, hasEnded, isActive, mayStart}
-use Rattle.order.specs.Laws.StepLaws.{GoodTurn, flag-here, start-says, map-some, good-turn, afterEffect, performed-is, flagged-here, ended-other, unended-here, active-ended, active-goes, step-says, step-keeps, initial-invariant}
+use Rattle.order.specs.Laws.StepLaws.{GoodTurn, flag-here, start-says, map-some, good-turn, afterEffect}
+use Rattle.order.specs.Laws.StepLaws.{performed-is, flagged-here, ended-other, unended-here, active-ended}
+use Rattle.order.specs.Laws.StepLaws.{active-goes, step-says, step-keeps, initial-invariant}
 use Rattle.notation.specs.Laws.SumLaws.{sum-most, sum-falls}
 
 -- the position of job x among active jobs: its next instruction, or 0 where it is not active
@@ -133,7 +135,8 @@ left-unended : (s : State) (x : Job) → hasEnded s x ≡ false → leftOf s x �
 unfolding leftOf if_then_else_
 left-unended s x e = rw e refl
 
-module _ {a : Accepted} (ok : IsAccepted a) {s : State} (inv : Invariant a s) {turn : Turn} (good : GoodTurn a s turn) (placed : Placed s turn) (effect : Effect) where
+module _ {a : Accepted} (ok : IsAccepted a) {s : State} (inv : Invariant a s) {turn : Turn} (good : GoodTurn a s turn)
+    (placed : Placed s turn) (effect : Effect) where
   -- another job has as many steps left as before
   left-other : (y : Job) → (y .0 ≡ turn .frame .job .0 → ⊥) → leftOf (afterEffect s turn effect) y ≡ leftOf s y
   unfolding leftOf

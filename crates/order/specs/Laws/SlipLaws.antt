@@ -11,7 +11,9 @@ use mathlib.Core.Option.{Option, none, some, bind}
 use lib.ListN.{getD, take}
 use borrow.Author.Tests.{lt-ltb}
 use Rattle.notation.specs.Checked.{Checked, refused, passed, require, given, _>>=_, _>>_}
-use Rattle.notation.specs.Laws.CheckedLaws.{refused-passed, passed-same, bind-passed, then-passed, require-passed, given-passed, require-holds, require-fails, bind-refused, bind-goes, bind-passes}
+use Rattle.notation.specs.Laws.CheckedLaws.{refused-passed, passed-same, bind-passed, then-passed, require-passed}
+use Rattle.notation.specs.Laws.CheckedLaws.{given-passed, require-holds, require-fails, bind-refused, bind-goes}
+use Rattle.notation.specs.Laws.CheckedLaws.{bind-passes}
 use Rattle.notation.specs.Laws.TestLaws.{test-decided, not-both, test-holds}
 use Rattle.notation.specs.Lists.{if_then_else_, member}
 use Rattle.taskfile.specs.Records.{File}
@@ -125,7 +127,9 @@ module _ {a : Accepted} (ok : IsAccepted a) where
       let made = step-says a s byte e in
       let running = good-turn ok inv (taskOfByte byte) (made .due) .0 .running in
       elim (test-decided (allEnded a s)) [
-        | inl ended ↦ absurd (not-both (hasEnded s (made .turn .frame .job)) (all-jobs a (hasEnded s) ended (made .turn .frame .job) (running .job)) (running .unended))
+        | inl ended ↦ absurd
+            (not-both (hasEnded s (made .turn .frame .job))
+            (all-jobs a (hasEnded s) ended (made .turn .frame .job) (running .job)) (running .unended))
         | inr going ↦ going
       ]
 

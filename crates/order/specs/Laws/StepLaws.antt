@@ -94,7 +94,9 @@ pub record Startable (a : Accepted) (s : State) (y : Job) : Type 0 where
 pub start-says : (a : Accepted) (s : State) (y : Job) → mayStart a s y ≡ true → Startable a s y
 unfolding mayStart hasBegun
 start-says a s y h =
-    let third = and-both (not (hasEnded s y || isActive s y) && all (λ x. not (before a x y) || hasEnded s x) (jobNumbers a) && all (λ f. mayPreempt a y (f .job)) (s .active)) _ h in
+    let third = and-both
+    (not (hasEnded s y || isActive s y) && all (λ x. not (before a x y) || hasEnded s x) (jobNumbers a) && all
+    (λ f. mayPreempt a y (f .job)) (s .active)) _ h in
     let second = and-both (not (hasEnded s y || isActive s y) && all (λ x. not (before a x y) || hasEnded s x) (jobNumbers a)) _ (third .0) in
     let first = and-both (not (hasEnded s y || isActive s y)) _ (second .0) in
     record {
@@ -164,7 +166,8 @@ module _ {a : Accepted} (ok : IsAccepted a) {s : State} (inv : Invariant a s) wh
           let running = subst (Every (IsRunning a s)) same (inv .running) in
           let stacked = subst (Ordered (Over a)) same (inv .stacked) in
           let active : any (λ g. eqb (g .job .0) (f .job .0)) (s .active) ≡ true =
-          ap (any (λ g. eqb (g .job .0) (f .job .0))) same ∙ or-left (eqb (f .job .0) (f .job .0)) (any (λ g. eqb (g .job .0) (f .job .0)) under) (eq-eqb (f .job .0) (f .job .0) refl) in
+          ap (any (λ g. eqb (g .job .0) (f .job .0))) same ∙ or-left (eqb (f .job .0) (f .job .0))
+          (any (λ g. eqb (g .job .0) (f .job .0)) under) (eq-eqb (f .job .0) (f .job .0) refl) in
           record {
             running = running .0;
             over = stacked .0;
@@ -328,8 +331,11 @@ module _ {a : Accepted} (ok : IsAccepted a) {s : State} (inv : Invariant a s) {t
         | inl ended ↦ keeps (turn .under) (active-ended ended) under (good .stacked)
         | inr goes ↦
             keeps _ (active-goes goes)
-            (record { job = good .running .job; unended = unended-here goes; inside = inside goes }, under)
-            (every-imp (Over a (turn .frame)) (Over a _) (λ f over. record { preempts = over .preempts; above = over .above }) (turn .under) (good .over), good .stacked)
+            (record { job = good .running .job; unended = unended-here goes; inside = inside goes }, under) (
+              every-imp (Over a (turn .frame)) (Over a _)
+                  (λ f over. record { preempts = over .preempts; above = over .above }) (turn .under) (good .over),
+              good .stacked,
+            )
       ]
     where
       under : Every (IsRunning a (afterEffect s turn effect)) (turn .under)

@@ -46,7 +46,8 @@ module _ {t : Table} {list : JobList} {program times : List ℕ} {locks : Ceilin
   pub times-of : TimesOf t list (record { program = program; times = times; locks = locks })
   times-of = record { few = few; lends = holds }
 
-  module _ {waits : List ℕ} (start : List ℕ) (made : WaitsTo program times (list .count) (list .count) waits) (first : snapshotIn start ≡ firstSnapshot program (t .store)) where
+  module _ {waits : List ℕ} (start : List ℕ) (made : WaitsTo program times (list .count) (list .count) waits)
+      (first : snapshotIn start ≡ firstSnapshot program (t .store)) where
     steps-lent : (a : Accepted) → IsAccepted a → t ≡ a .table → list ≡ jobListOf (a .jobs)
         → Lends a program waits locks
     unfolding jobListOf

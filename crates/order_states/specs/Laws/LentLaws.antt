@@ -158,7 +158,8 @@ past-bodies : (program : List ℕ) (x v i p : ℕ) → p < 16 → 16 * i + p < 1
     → instructionIn (set program (512 + x) v) i p ≡ instructionIn program i p
 unfolding instructionIn
 past-bodies program x v i p low lt =
-    let off : (k : ℕ) → k < 512 → getD (set program (512 + x) v) k 0 ≡ getD program k 0 = λ k below. getD-set-other program (512 + x) k v 0 (λ e. omega arith) in
+    let off : (k : ℕ) → k < 512 → getD (set program (512 + x) v) k 0 ≡ getD program k 0 =
+    λ k below. getD-set-other program (512 + x) k v 0 (λ e. omega arith) in
     let first = off (64 * i + 4 * p) (omega arith) in
     let second = off (64 * i + 4 * p + 1) (omega arith) in
     let third = off (64 * i + 4 * p + 2) (omega arith) in

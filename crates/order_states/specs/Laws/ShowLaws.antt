@@ -88,7 +88,8 @@ module _ {a : Accepted} {p : Snapshot} {s : State} (shows : Shows a p s) where
   -- the depth is the number of active jobs
   pub depth-active : length (s .active) ≡ p .depth
   unfolding stackOf
-  depth-active = ap (λ (fs : List Frame). length fs) (shows .active) ∙ length-reverse (take (p .depth) (p .stack)) ∙ length-take-le (p .depth) (p .stack) (omega (arith, shows .depth, shows .full))
+  depth-active = ap (λ (fs : List Frame). length fs) (shows .active) ∙ length-reverse (take (p .depth) (p .stack)) ∙
+      length-take-le (p .depth) (p .stack) (omega (arith, shows .depth, shows .full))
 
 -- ---- the first job of a task not yet ended
 
@@ -109,4 +110,8 @@ module _ {a : Accepted} (ok : IsAccepted a) {p : Snapshot} {s : State} (shows : 
   -- its task's first job not yet ended has not ended
   pub first-open : (k : ℕ) → IsJob a (unended k) → base a (unended k) ≡ k → hasEnded s (unended k) ≡ true → ⊥
   first-open k isJob same h =
-      omega (arith, ltb-true (getD (p .unended) k 0) (getD (p .unended) k 0) (sym (shows .ended (unended k) isJob ∙ ap (λ (n : ℕ). ltb (getD (p .unended) k 0) (getD (p .unended) n 0)) same) ∙ h))
+      omega (
+        arith,
+        ltb-true (getD (p .unended) k 0) (getD (p .unended) k 0)
+            (sym (shows .ended (unended k) isJob ∙ ap (λ (n : ℕ). ltb (getD (p .unended) k 0) (getD (p .unended) n 0)) same) ∙ h),
+      )

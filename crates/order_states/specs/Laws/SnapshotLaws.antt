@@ -38,10 +38,13 @@ use Rattle.timing.specs.Laws.JobNumberLaws.{all-jobs, jobs-all}
 use Rattle.order_states.specs.Laws.ShowLaws.{active-top, unended, owned-shown, job-owned, first-unended, first-open}
 use Rattle.timing.specs.Laws.BaseLaws.{base-rises, base-small}
 use Rattle.order_states.specs.Code.Shows.{Lends, Shows}
-use Rattle.order_states.specs.Code.SnapshotSteps.{instructionIn, ownedBy, stackOf, topOf, turnIn, afterIn, offeredIn, madeIn, stepWithIn, dueStep, stepIn, hasUnended, finishedIn}
+use Rattle.order_states.specs.Code.SnapshotSteps.{instructionIn, ownedBy, stackOf, topOf, turnIn, afterIn}
+use Rattle.order_states.specs.Code.SnapshotSteps.{offeredIn, madeIn, stepWithIn, dueStep, stepIn, hasUnended}
+use Rattle.order_states.specs.Code.SnapshotSteps.{finishedIn}
 use Rattle.timing.specs.Code.IsAccepted.{IsAccepted}
 use Rattle.order.specs.States.{State, hasEnded, allEnded}
-use Rattle.order.specs.Laws.StepLaws.{GoodTurn, good-turn, afterEffect, performed-is, ended-here, ended-stays, ended-other, unended-here, active-ended, active-goes}
+use Rattle.order.specs.Laws.StepLaws.{GoodTurn, good-turn, afterEffect, performed-is, ended-here, ended-stays}
+use Rattle.order.specs.Laws.StepLaws.{ended-other, unended-here, active-ended, active-goes}
 use Rattle.order_states.specs.Laws.TurnAgreed.{Turned, turn-turned}
 
 -- ---- the step
@@ -161,7 +164,8 @@ module _ {a : Accepted} (ok : IsAccepted a) {program waits : List ℕ} {locks : 
             | yes same ↦
                 let lower : x .0 ≤ y .0 → ⊥ = λ le. omega (arith, base-rises ok x y le isY) in
                 let stored : getD (set (p .unended) i (x .0 + 1)) k 0 ≡ x .0 + 1 =
-                ap (λ (n : ℕ). getD (set (p .unended) i (x .0 + 1)) n 0) same ∙ getD-set-same (p .unended) i (x .0 + 1) 0 (omega (arith, shows .places, small)) in
+                ap (λ (n : ℕ). getD (set (p .unended) i (x .0 + 1)) n 0) same ∙ getD-set-same (p .unended) i
+                (x .0 + 1) 0 (omega (arith, shows .places, small)) in
                 omega arith
             | no apart ↦ rw (getD-set-other (p .unended) i k (x .0 + 1) 0 apart) (shows .lowest k y lt isY low)
           ]
@@ -200,7 +204,12 @@ module _ {a : Accepted} (ok : IsAccepted a) {program waits : List ℕ} {locks : 
 
     with-of : stepWithIn program p (turn .frame) under (taskOfByte byte) (valueOfByte byte)
         ≡ (if offered
-        then record { allowed = true; state = afterIn p (turn .frame .job) under (taskOfByte byte) (perform (nextOf a (turn .frame)) (valueOfByte byte) (turn .frame .local) (s .store)) }
+        then record {
+          allowed = true;
+          state =
+              afterIn p (turn .frame .job) under (taskOfByte byte)
+              (perform (nextOf a (turn .frame)) (valueOfByte byte) (turn .frame .local) (s .store));
+        }
         else record { allowed = false; state = p })
     unfolding stepWithIn offeredIn madeIn
     with-of =
@@ -221,7 +230,8 @@ module _ {a : Accepted} (ok : IsAccepted a) {program waits : List ℕ} {locks : 
                 λ h. absurd (true≢false h),
               )
           | inr e ↦
-              let is : stepWithIn program p (turn .frame) under (taskOfByte byte) (valueOfByte byte) ≡ record { allowed = false; state = p } = with-of ∙ rw e refl in
+              let is : stepWithIn program p (turn .frame) under (taskOfByte byte) (valueOfByte byte) ≡ record
+              { allowed = false; state = p } = with-of ∙ rw e refl in
               subst (Agreed byte) (sym is) (λ h. absurd (true≢false (sym h)), λ h. step-of ∙ rw e refl)
         ]
 
@@ -232,7 +242,8 @@ module _ {a : Accepted} (ok : IsAccepted a) {program waits : List ℕ} {locks : 
       elim (test-decided (d .due)) [
         | inl e ↦
             let shown = turned .0 e in
-            let is : stepWithIn program p (shown .turn .frame) (d .under) (taskOfByte byte) (valueOfByte byte) ≡ dueStep program p (taskOfByte byte) (valueOfByte byte) d =
+            let is : stepWithIn program p (shown .turn .frame) (d .under) (taskOfByte byte) (valueOfByte byte) ≡
+            dueStep program p (taskOfByte byte) (valueOfByte byte) d =
             rw (e, shown .frame) refl in
             subst (Agreed byte) is (with-agreed byte (shown .turn) (shown .due) (d .under) (shown .under) (shown .room))
         | inr e ↦

@@ -21,7 +21,9 @@ use Rattle.machine.specs.Laws.WithinLaws.{fresh-within}
 use Rattle.order.specs.declared.Frame.{Frame}
 use Rattle.order_states.specs.declared.Due.{Due}
 use Rattle.order_states.specs.Code.Snapshots.{Snapshot}
-use Rattle.order_states.specs.Code.SnapshotSteps.{Program, noFrame, nobody, beyond, startsIn, startTurn, startIn, topOf, runsIn, topTurn, turnIn, afterIn, firstSnapshot}
+use Rattle.order_states.specs.Code.SnapshotSteps.{Program, noFrame, nobody, beyond, startsIn, startTurn}
+use Rattle.order_states.specs.Code.SnapshotSteps.{startIn, topOf, runsIn, topTurn, turnIn, afterIn}
+use Rattle.order_states.specs.Code.SnapshotSteps.{firstSnapshot}
 use Rattle.order_states.specs.Code.SnapshotWithin.{AllWithin}
 
 -- the job in a frame holds no more than it can

@@ -142,7 +142,8 @@ module _ {a : Accepted} (ok : IsAccepted a) {program waits : List ℕ} {locks : 
     | yes lt ↦
         let over = level-over program locks p (λ flat. omega arith) n small le in
         subst (Every (λ f. presentPriority a f < n)) (sym (active-top shows lt))
-        (above-all a n (topOf p) (reverse (take (p .depth - 1) (p .stack))) (subst (Ordered (Over a)) (active-top shows lt) (inv .stacked)) (omega (arith, over, bar-present lt)))
+        (above-all a n (topOf p) (reverse (take (p .depth - 1) (p .stack)))
+        (subst (Ordered (Over a)) (active-top shows lt) (inv .stacked)) (omega (arith, over, bar-present lt)))
     | no flat ↦ subst (Every (λ f. presentPriority a f < n)) (sym (no-active shows (omega arith))) tt
   ]
 
@@ -153,7 +154,8 @@ module _ {a : Accepted} (ok : IsAccepted a) {program waits : List ℕ} {locks : 
   active-above n small h = elim (decLt 0 (p .depth)) [
     | yes lt ↦
         let under = reverse (take (p .depth - 1) (p .stack)) in
-        let top = and-both (ltb (presentPriority a (topOf p)) n) (all (λ f. ltb (presentPriority a f) n) under) (sym (ap (all (λ f. ltb (presentPriority a f) n)) (active-top shows lt)) ∙ h) in
+        let top = and-both (ltb (presentPriority a (topOf p)) n) (all (λ f. ltb (presentPriority a f) n) under)
+        (sym (ap (all (λ f. ltb (presentPriority a f) n)) (active-top shows lt)) ∙ h) in
         let isTop = subst (Every (IsRunning a s)) (active-top shows lt) (inv .running) .0 .job in
         over-level program locks p (λ flat. omega arith) (omega (arith, isTop, jobs-few (ok .isTimed))) n small
         (omega (arith, ltb-true (presentPriority a (topOf p)) n (top .0), bar-present lt))
@@ -207,13 +209,15 @@ module _ {a : Accepted} (ok : IsAccepted a) {program waits : List ℕ} {locks : 
     unfolding isActive
     not-active =
         at-none (λ f. eqb (f .job .0) (y .0)) (s .active) noFrame
-        (λ k lt. ne-eqb _ _ (λ same. (let equal : base a (at k .job) ≡ base a y = ap (λ (n : ℕ). base a (record { 0 = n })) same in omega (arith, higher k lt))))
+        (λ k lt. ne-eqb _ _ (λ same. (let equal : base a (at k .job) ≡ base a y =
+        ap (λ (n : ℕ). base a (record { 0 = n })) same in omega (arith, higher k lt))))
 
     -- so it may start
     may-start : mayStart a s y ≡ true
     unfolding mayStart
     may-start =
-        and-holds (not (hasEnded s y || isActive s y) && all (λ x. not (before a x y) || hasEnded s x) (jobNumbers a) && all (λ f. mayPreempt a y (f .job)) (s .active)) _
+        and-holds (not (hasEnded s y || isActive s y) && all (λ x. not (before a x y) || hasEnded s x) (jobNumbers a)
+        && all (λ f. mayPreempt a y (f .job)) (s .active)) _
         (and-holds (not (hasEnded s y || isActive s y) && all (λ x. not (before a x y) || hasEnded s x) (jobNumbers a)) _
         (and-holds (not (hasEnded s y || isActive s y)) _ (rw (unfinished, not-active) refl)
         (jobs-all a (λ x. not (before a x y) || hasEnded s x) (λ x isX. holds-implied (before a x y) _ (preceded x isX))))

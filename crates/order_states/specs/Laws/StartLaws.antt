@@ -14,7 +14,9 @@ use mathlib.Core.List.{List}
 use Rattle.notation.specs.Lists.{if_then_else_, any, from, upTo}
 use Rattle.notation.specs.Laws.TestLaws.{and-both, and-holds, and-first, and-second, and-last, or-right, test-decided}
 use Rattle.order_states.specs.Code.Snapshots.{Snapshot}
-use Rattle.order_states.specs.Code.SnapshotSteps.{Program, WaitTable, ownerIn, ownedBy, waitsFor, mustWait, barIn, levelIn, topOf, nobody, startsAbove, startsIn, startTurn, startIn}
+use Rattle.order_states.specs.Code.SnapshotSteps.{Program, WaitTable, ownerIn, ownedBy, waitsFor, mustWait}
+use Rattle.order_states.specs.Code.SnapshotSteps.{barIn, levelIn, topOf, nobody, startsAbove, startsIn}
+use Rattle.order_states.specs.Code.SnapshotSteps.{startTurn, startIn}
 
 -- ---- what a job waits for
 

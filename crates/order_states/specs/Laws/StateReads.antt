@@ -18,7 +18,9 @@ use Rattle.machine.specs.Held.{priority}
 use Rattle.machine.specs.Instructions.{fresh, values}
 use Rattle.order_states.specs.declared.Due.{Due}
 use Rattle.order.specs.declared.Frame.{Frame}
-use Rattle.order_states.specs.Code.SnapshotSteps.{ownerIn, instructionIn, ownedBy, waitIn, waitsFor, mustWait, barIn, levelIn, nobody, beyond, startsAbove, startsIn, startTurn, startIn, topOf, runsIn, topTurn, turnIn, offeredIn}
+use Rattle.order_states.specs.Code.SnapshotSteps.{ownerIn, instructionIn, ownedBy, waitIn, waitsFor, mustWait}
+use Rattle.order_states.specs.Code.SnapshotSteps.{barIn, levelIn, nobody, beyond, startsAbove, startsIn}
+use Rattle.order_states.specs.Code.SnapshotSteps.{startTurn, startIn, topOf, runsIn, topTurn, turnIn, offeredIn}
 use Rattle.order_states.specs.Laws.StartLaws as start
 use Rattle.order_states.specs.Laws.TurnLaws as turn
 use Rattle.order_states.specs.Code.StateBytes.{frameAt, frameIn, snapshotIn, IsState}
@@ -214,7 +216,9 @@ module _ (program waits : List ℕ) (locks : Ceilings) (bytes : List ℕ) (i : �
 
   -- else it is for a start
   pub turn-starts-read : b ≡ false → {d : Due} → d ≡ startIn program waits locks (snapshotIn bytes) i → Made d
-  turn-starts-read h starts = turn.turn-made program waits locks (snapshotIn bytes) i (turn.turn-starts program waits locks (snapshotIn bytes) i runs h starts) few
+  turn-starts-read h starts =
+      turn.turn-made program waits locks (snapshotIn bytes) i
+      (turn.turn-starts program waits locks (snapshotIn bytes) i runs h starts) few
 
 -- ---- what a job is offered
 

@@ -58,7 +58,14 @@ module _ {a : Accepted} (ok : IsAccepted a) {program waits : List ℕ} {locks : 
             let is : startIn program waits locks p i ≡ startTurn p i = rw e refl in
             subst (Turned i) (sym is)
             (shown-turned i (startTurn p i) refl
-            (record { turn = _; due = through ∙ start-is ok lends inv shows i e; frame = refl; under = shows .active; room = starts-says program waits (levelIn program locks p) p i e .room }))
+            (record {
+              turn = _;
+              due = through ∙ start-is ok lends inv shows i e;
+              frame = refl;
+              under =
+                  shows .active;
+              room = starts-says program waits (levelIn program locks p) p i e .room;
+            }))
         | inr e ↦
             let is : startIn program waits locks p i ≡ nobody = rw e refl in
             subst (Turned i) (sym is) (λ h. absurd (true≢false (sym h)), λ h. through ∙ start-agreed-none ok lends inv shows i e)

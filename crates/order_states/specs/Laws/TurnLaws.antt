@@ -17,7 +17,8 @@ use Rattle.notation.specs.Laws.TestLaws.{and-both, and-holds, and-first, and-se
 use Rattle.order_states.specs.declared.Due.{Due}
 use Rattle.order_states.specs.Code.Snapshots.{Snapshot, Stepped}
 use Rattle.order_states.specs.Laws.StartLaws.{owned-job, starts-says}
-use Rattle.order_states.specs.Code.SnapshotSteps.{ownedBy, nobody, levelIn, startsIn, startTurn, startIn, topOf, runsIn, topTurn, turnIn, stepWithIn, dueStep, stepIn}
+use Rattle.order_states.specs.Code.SnapshotSteps.{ownedBy, nobody, levelIn, startsIn, startTurn, startIn, topOf}
+use Rattle.order_states.specs.Code.SnapshotSteps.{runsIn, topTurn, turnIn, stepWithIn, dueStep, stepIn}
 
 -- ---- who runs
 

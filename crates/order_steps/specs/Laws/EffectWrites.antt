@@ -71,7 +71,8 @@ module _ (before : List ℕ) (x : ℕ) (whole : length before ≡ 192) (job : x 
     unfolding if_then_else_ flagIn
     noted-false = record {
       same = length-set flags 48 (under + 1) ∙ long ∙ sym whole;
-      unended = bytes-same before (set flags 48 (under + 1)) 8 8 (λ k low high. getD-set-other flags 48 k (under + 1) 0 (λ e. omega arith) ∙ kept k (inl (omega arith)));
+      unended = bytes-same before (set flags 48 (under + 1)) 8 8
+          (λ k low high. getD-set-other flags 48 k (under + 1) 0 (λ e. omega arith) ∙ kept k (inl (omega arith)));
       flags =
           same-values (flagIn (set flags 48 (under + 1))) (flagIn flags) 32
           (λ k lt. ap (λ (n : ℕ). not (eqb n 0)) (getD-set-other flags 48 (16 + k) (under + 1) 0 (λ e. omega arith))) ∙ marked;

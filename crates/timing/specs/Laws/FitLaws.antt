@@ -20,7 +20,8 @@ use Rattle.taskfile.specs.Judgement.{numbered}
 use Rattle.notation.specs.Lists.{sum}
 use Rattle.taskfile.specs.Tables.{tasksOf}
 use Rattle.timing.specs.Response.{roundedUp, interference}
-use Rattle.timing.specs.Laws.ResponseLaws.{roundedUp-covers, roundedUp-tight, roundedUp-below, roundedUp-before, roundedUp-by-zero, roundedUp-positive, roundedUp-mono}
+use Rattle.timing.specs.Laws.ResponseLaws.{roundedUp-covers, roundedUp-tight, roundedUp-below, roundedUp-before}
+use Rattle.timing.specs.Laws.ResponseLaws.{roundedUp-by-zero, roundedUp-positive, roundedUp-mono}
 use Rattle.timing.specs.Code.ResponseParts.{Timeable, Fits, AllFit, fitsFrom}
 use Rattle.timing.specs.Laws.TimeableLaws.{TimesRead, tasks-next, times-end}
 
@@ -200,7 +201,8 @@ pub from-some : {P b n : ℕ} → 1 ≤ P → n ≡ roundedUp b P → (n * P ≡
 from-some {P} {b} {n = zero} positive same part = absurd (part (omega (arith, rw (← same) at (roundedUp-covers b P positive))))
 from-some {n = suc n} positive same part = suc-le-suc zero-le
 
-module _ {t : Table} (timeable : Timeable t) {j C P base b n : ℕ} (lt : j < t .tasks) (read : TimesRead t (numbered j) C P) (le : base ≤ b) (same : n ≡ roundedUp b P) where
+module _ {t : Table} (timeable : Timeable t) {j C P base b n : ℕ} (lt : j < t .tasks)
+    (read : TimesRead t (numbered j) C P) (le : base ≤ b) (same : n ≡ roundedUp b P) where
   -- one step of the test, with the times as read
   from-step : fitsFrom (drop j (tasksOf t)) base b
       ≡ (fitsFrom (drop (j + 1) (tasksOf t)) (base + n * C) b

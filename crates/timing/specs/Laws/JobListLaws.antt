@@ -59,7 +59,9 @@ none-added f list l e = e ∙ ap jobListOf (sym (append-nil l))
 pub one-added : (f : ℕ → JobRecord) (k : ℕ) (before after : JobList)
     → ((l : List JobRecord) → before ≡ jobListOf l → after ≡ jobListOf (l ++ (f k ∷ [])))
     → (l : List JobRecord) → before ≡ jobListOf (l ++ map f (upTo k)) → after ≡ jobListOf (l ++ map f (upTo (k + 1)))
-one-added f k before after added l e = added (l ++ map f (upTo k)) e ∙ ap jobListOf (append-assoc l (map f (upTo k)) (f k ∷ []) ∙ ap (λ (m : List JobRecord). l ++ m) (sym (values-snoc f k)))
+one-added f k before after added l e =
+    added (l ++ map f (upTo k)) e ∙ ap jobListOf
+    (append-assoc l (map f (upTo k)) (f k ∷ []) ∙ ap (λ (m : List JobRecord). l ++ m) (sym (values-snoc f k)))
 
 pub all-added : (i : Task) (e : TaskEntry) {first period : ℕ} (response n : ℕ) → first ≡ e .arrival
     → period ≡ e .period → (l : List JobRecord)
@@ -131,7 +133,9 @@ unfolding jobsOfTask
 task-added {t} timeable times i d lt {n} counted added e =
     added (jobsBelow t times i) e
     ∙ ap (λ (m : ℕ). jobListOf (jobsBelow t times i ++ map (jobOf (numbered i) (getD (t .entries) i d) (getD times i 0)) (upTo m))) counted
-    ∙ ap (λ (x : TaskEntry). jobListOf (jobsBelow t times i ++ map (jobOf (numbered i) x (getD times i 0)) (upTo (jobsWithin (t .window) x)))) (task-read (timeable .shaped) i d lt)
+    ∙ ap (λ (x : TaskEntry). jobListOf
+    (jobsBelow t times i ++ map (jobOf (numbered i) x (getD times i 0)) (upTo (jobsWithin (t .window) x))))
+    (task-read (timeable .shaped) i d lt)
     ∙ ap jobListOf (sym (below-more t times i))
 
 pub none-below : (t : Table) (times : List ℕ) → jobListOf [] ≡ jobListOf (jobsBelow t times 0)

@@ -46,7 +46,8 @@ module _ (a : Accepted) (test : Job → Bool) where
       → firstWith test (jobNumbers a) ≡ some y
   only-job y isJob h only =
       first-only test (jobNumbers a) (y .0) y (omega (arith, jobs-length a)) (ap test (jobs-at a y y isJob) ∙ h)
-      (λ j lt t. (let x : Job = record { 0 = j } in let known : IsJob a x = omega (arith, jobs-length a) in only x known (ap test (sym (jobs-at a x y known)) ∙ t)))
+      (λ j lt t. (let x : Job = record { 0 = j } in let known : IsJob a x =
+      omega (arith, jobs-length a) in only x known (ap test (sym (jobs-at a x y known)) ∙ t)))
       ∙ ap some (jobs-at a y y isJob)
 
   pub no-job : ((x : Job) → IsJob a x → test x ≡ false) → firstWith test (jobNumbers a) ≡ none

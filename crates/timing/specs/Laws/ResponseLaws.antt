@@ -4,7 +4,9 @@
 use mathlib.Core.Path.{_≡_, refl, ap, subst}
 use mathlib.Core.Logic.{_↔_}
 use Prim.Native.Nat.{ℕ, zero, suc, _+_, _-_, _*_, _/_, _%_, _≤_, _<_, zero-le, suc-le-suc}
-use native.Mathlib.Nat.{le-antisymm, le-trans, le-refl, not-suc-le-zero, le-of-suc-le-suc, add-zero, add-le-add, zero-mul, suc-mul, mul-sub, mul-le-mul-right, lt-of-mul-lt-mul-right, div-add-mod', mod-lt, div-zero, mod-zero}
+use native.Mathlib.Nat.{le-antisymm, le-trans, le-refl, not-suc-le-zero, le-of-suc-le-suc, add-zero, add-le-add}
+use native.Mathlib.Nat.{zero-mul, suc-mul, mul-sub, mul-le-mul-right, lt-of-mul-lt-mul-right, div-add-mod', mod-lt}
+use native.Mathlib.Nat.{div-zero, mod-zero}
 use native.Mathlib.Numerals.{add-one}
 use native.Mathlib.Omega.{arith}
 use mathlib.Core.Bool.{Bool, true, false}

@@ -3,7 +3,9 @@
 -- Assumes nothing.
 use mathlib.Core.Path.{_≡_, ap}
 use Prim.Native.Nat.{ℕ, _+_, _-_, _*_, _/_, _^_, _≤_, _<_, _∣_}
-use native.Mathlib.Nat.{one-le-mul, mul-le-mul-left, mul-le-mul-right, le-of-mul-le-mul-right, le-mul-of-pos-right, div-le-self, div-le-of-le-mul, mul-div-le, div-mul-le-self, le-div-iff-mul-le, le-of-dvd, mul-div-cancel'}
+use native.Mathlib.Nat.{one-le-mul, mul-le-mul-left, mul-le-mul-right, le-of-mul-le-mul-right, le-mul-of-pos-right}
+use native.Mathlib.Nat.{div-le-self, div-le-of-le-mul, mul-div-le, div-mul-le-self, le-div-iff-mul-le, le-of-dvd}
+use native.Mathlib.Nat.{mul-div-cancel'}
 use native.Mathlib.Numerals.{add-one}
 use native.Mathlib.Omega.{arith}
 use lib.ListN.{drop}

@@ -71,7 +71,9 @@ returns c =
       λ l e.
           inv .2 l e
           ∙ ap
-          (λ (k : ℕ). jobListOf (l ++ map (jobAs (args .i) (c .before .before .before .wide .result) (c .before .before .wide2 .result) (args .response)) (upTo k)))
+          (λ (k : ℕ). jobListOf
+          (l ++ map (jobAs (args .i) (c .before .before .before .wide .result) (c .before .before .wide2 .result)
+          (args .response)) (upTo k)))
           ended
           ∙ all-added (args .i) (args .e) (args .response) (args .n) (c .before .before .before .wide .ensures .0) (c .before .before .wide2 .ensures .0) l,
     )

@@ -6,7 +6,8 @@ use mathlib.Core.Logic.{inl, inr}
 use Prim.Native.Nat.{ℕ, _+_, _*_, _≤_, _<_}
 use native.Mathlib.Omega.{arith}
 use mathlib.Core.Bool.{Bool, true, false, _&&_}
-use mathlib.Core.List.{List, [], _∷_, _++_, List·Memᴰ, List·Memᴰ·not-nil, List·Memᴰ·append-cases, Memᴰ·cast, Memᴰ·append-left, Memᴰ·append-right, Memᴰ·map, Memᴰ·of-map}
+use mathlib.Core.List.{List, [], _∷_, _++_, List·Memᴰ, List·Memᴰ·not-nil, List·Memᴰ·append-cases, Memᴰ·cast}
+use mathlib.Core.List.{Memᴰ·append-left, Memᴰ·append-right, Memᴰ·map, Memᴰ·of-map}
 use mathlib.Core.Option.{Option, none, some}
 use lib.Dec.{eqb}
 use borrow.Author.Tests.{ne-eqb}
@@ -139,7 +140,9 @@ module _ {a : Accepted} (ok : IsAccepted a) {s : State} (inv : Invariant a s) wh
       let turn : Turn = record { frame = f; under = under } in
       let bytes = turn-bytes ok s turn in
       ordered-append Ascending (turnMoves a s turn) (allStarts a s) (turn-ascends a s turn) starts-ascend
-      (every-imp (OfTask (base a (f .job))) _ (λ m h. every-imp _ (Ascending m) (λ n above. omega arith) (allStarts a s) (starts-above f under same)) (turnMoves a s turn) bytes)
+      (every-imp (OfTask (base a (f .job))) _
+      (λ m h. every-imp _ (Ascending m) (λ n above. omega arith) (allStarts a s) (starts-above f under same))
+      (turnMoves a s turn) bytes)
 
   -- the moves ascend in their byte
   pub moves-ascend : Ordered (λ m n. m .byte < n .byte) (moves a s)

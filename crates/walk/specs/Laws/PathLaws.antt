@@ -6,7 +6,9 @@ use mathlib.Core.Path.{_≡_, refl, sym, ap, subst}
 use mathlib.Core.Logic.{_⊎_, inl, inr}
 use Prim.Native.Nat.{ℕ, zero, suc, _≤_, _<_}
 use native.Mathlib.Omega.{arith}
-use mathlib.Core.List.{List, [], _∷_, map, List·Memᴰ, List·Memᴰ·head, List·Memᴰ·tail, List·Memᴰ·not-nil, List·Memᴰ·cases-cons, List·Memᴰ·append-cases, Memᴰ·append-left, Memᴰ·append-right, Memᴰ·map, Memᴰ·of-map}
+use mathlib.Core.List.{List, [], _∷_, map, List·Memᴰ, List·Memᴰ·head, List·Memᴰ·tail, List·Memᴰ·not-nil}
+use mathlib.Core.List.{List·Memᴰ·cases-cons, List·Memᴰ·append-cases, Memᴰ·append-left, Memᴰ·append-right, Memᴰ·map}
+use mathlib.Core.List.{Memᴰ·of-map}
 use mathlib.Core.Option.{some}
 use lib.ListN.{length, length-append}
 use Rattle.notation.specs.Laws.PairLaws.{every-of, every-imp, every-map, every-append, ordered-imp, ordered-map, ordered-append, every-listed}
@@ -49,7 +51,8 @@ module _ (below : State → List (List ℕ)) where
       elim (List·Memᴰ·cases-cons here) [
         | inl same ↦
             List·Memᴰ·tail (Memᴰ·append-left (pathsThrough below ns)
-            (subst (λ (k : Move). List·Memᴰ (m .byte ∷ path) (map (λ rest. k .byte ∷ rest) (below (k .after)))) same (Memᴰ·map (λ rest. m .byte ∷ rest) deeper)))
+            (subst (λ (k : Move). List·Memᴰ (m .byte ∷ path) (map (λ rest. k .byte ∷ rest) (below (k .after)))) same
+            (Memᴰ·map (λ rest. m .byte ∷ rest) deeper)))
         | inr later ↦
             List·Memᴰ·tail (Memᴰ·append-right (map (λ rest. n .byte ∷ rest) (below (n .after))) (through-below ns later deeper))
       ]

@@ -23,7 +23,8 @@ use Rattle.machine.specs.Buffers.{orderRoom, filled}
 use Rattle.walk.specs.declared.Verdict.the-variants.{Holds, Fails}
 use Rattle.walk.specs.Laws.FailingLaws.{walk-first, walk-short, walk-fails, walk-holds}
 use Rattle.walk.specs.FailingOrders.{SomeFails, FirstFailing, answeredEnd}
-use Rattle.walk.specs.WalkEntry.{admitted, decided, refusal, verdictOf, decidedAnswer, shown, decidedBytes, walkAnswerOf, walkAfterOf, walkAnswer, walkAfter}
+use Rattle.walk.specs.WalkEntry.{admitted, decided, refusal, verdictOf, decidedAnswer, shown, decidedBytes}
+use Rattle.walk.specs.WalkEntry.{walkAnswerOf, walkAfterOf, walkAnswer, walkAfter}
 use Rattle.walk.specs.Walks.{EndedOrder, Walked, walk}
 
 -- ---- a walk that the allowance covers, and one that it does not

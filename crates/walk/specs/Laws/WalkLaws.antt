@@ -83,10 +83,12 @@ through-first below listed finds (m ∷ ms) = go (below (m .after) .failing) ref
         (map (starting (m .byte)) (listed (m .after)) ++ ordersThrough listed ms)
     go none e later =
         ap (λ (w : Walked). w .failing) (after-none (m .byte) (below (m .after)) (trial below ms) e)
-        ∙ later ∙ sym (first-skips (λ f. fails (f .ending)) (map (starting (m .byte)) (listed (m .after))) (ordersThrough listed ms) (front ∙ ap (Option·map (starting (m .byte))) e))
+        ∙ later ∙ sym (first-skips (λ f. fails (f .ending)) (map (starting (m .byte)) (listed (m .after)))
+        (ordersThrough listed ms) (front ∙ ap (Option·map (starting (m .byte))) e))
     go (some f) e later =
         ap (λ (w : Walked). w .failing) (after-some (m .byte) (below (m .after)) (trial below ms) e)
-        ∙ sym (first-stays (λ f. fails (f .ending)) (map (starting (m .byte)) (listed (m .after))) (ordersThrough listed ms) (front ∙ ap (Option·map (starting (m .byte))) e))
+        ∙ sym (first-stays (λ f. fails (f .ending)) (map (starting (m .byte)) (listed (m .after)))
+        (ordersThrough listed ms) (front ∙ ap (Option·map (starting (m .byte))) e))
 
 end-first : (s : State) → atEnd s .failing ≡ firstFailing (record { bytes = []; ending = orderEnd s } ∷ [])
 unfolding atEnd firstWith

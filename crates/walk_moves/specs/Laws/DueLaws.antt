@@ -16,7 +16,8 @@ use Rattle.notation.specs.Laws.TestLaws.{and-both, and-holds, test-decided}
 use Rattle.machine.specs.Laws.HeldLaws.{priority-base}
 use Rattle.order_states.specs.declared.Due.{Due}
 use Rattle.order_states.specs.Code.Snapshots.{Snapshot}
-use Rattle.order_states.specs.Code.SnapshotSteps.{ownerIn, ownedBy, barIn, levelIn, nobody, startsAbove, startsIn, startTurn, startIn, topOf, runsIn, topTurn, turnIn}
+use Rattle.order_states.specs.Code.SnapshotSteps.{ownerIn, ownedBy, barIn, levelIn, nobody, startsAbove, startsIn}
+use Rattle.order_states.specs.Code.SnapshotSteps.{startTurn, startIn, topOf, runsIn, topTurn, turnIn}
 use Rattle.order_states.specs.Laws.StartLaws as start
 use Rattle.order_states.specs.Laws.TurnLaws.{runs-says, turn-runs, turn-starts}
 use Rattle.walk_moves.specs.Code.MoveParts.{runningTask}
@@ -65,7 +66,8 @@ module _ (program : List ℕ) (p : Snapshot) (i : ℕ) (small : i < 8) {top : �
   runs-here here =
       let says = running-says program p (omega (arith, is)) in
       and-holds (ltb i 8 && ltb 0 (p .depth)) _ (and-holds (ltb i 8) _ (lt-ltb i 8 small) (lt-ltb 0 (p .depth) (says .0)))
-      (and-holds (ltb (topOf p .job .0) 32) _ (lt-ltb (topOf p .job .0) 32 (says .1)) (eq-eqb (ownerIn program (topOf p .job .0)) i (omega (arith, says .2, is))))
+      (and-holds (ltb (topOf p .job .0) 32) _ (lt-ltb (topOf p .job .0) 32 (says .1))
+      (eq-eqb (ownerIn program (topOf p .job .0)) i (omega (arith, says .2, is))))
 
   runs-not : (i ≡ top → ⊥) → runsIn program p i ≡ false
   unfolding runsIn ownedBy

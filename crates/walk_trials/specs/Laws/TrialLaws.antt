@@ -37,7 +37,11 @@ pub rest-all : {a : Accepted} → IsAccepted a → {s : State} → Invariant a s
     → Rest a s left count count 0
 rest-all {a} ok {s} inv left count =
     let same = moves-steps ok inv in
-    record { failing = ap (λ (ms : List Move). trial (walkFrom a left) ms .failing) same; total = ap (λ (ms : List Move). count + trial (walkFrom a left) ms .count) same }
+    record {
+      failing = ap (λ (ms : List Move). trial (walkFrom a left) ms .failing) same;
+      total =
+          ap (λ (ms : List Move). count + trial (walkFrom a left) ms .count) same;
+    }
 
 -- bytes that are no steps are passed over
 pub rest-skip : {a : Accepted} {s : State} {left count made : ℕ} (byte next : ℕ) → byte ≤ next → next ≤ 128
@@ -128,7 +132,12 @@ module _ {a : Accepted} {s : State} {left count made allowance byte : ℕ} (few 
       record {
         kept = path .kept;
         cut = λ over. absurd (omega arith);
-        whole = λ fits. (is .1, subst (λ (o : Option EndedOrder). WalkEndsAs o (count + whole .count) (511 - left) now r) (sym nothing) (is .0, omega (arith, is .2)));
+        whole = λ fits. (
+          is .1,
+          subst
+              (λ (o : Option EndedOrder). WalkEndsAs o (count + whole .count) (511 - left) now r) (sym nothing)
+              (is .0, omega (arith, is .2)),
+        );
       }
 
   module _ (lt : byte < 128) {after : State} (steps : step a s byte ≡ some after) where
@@ -154,7 +163,8 @@ module _ {a : Accepted} {s : State} {left count made allowance byte : ℕ} (few 
       whole = λ fits. absurd (omega (arith, here .1, counts));
     }
 
-    module _ {out : List ℕ} {r : Outcome} (room : 512 ≤ length now) (child : Came below (made + 1) allowance (512 - left) (set now (511 - left) byte) out r) where
+    module _ {out : List ℕ} {r : Outcome} (room : 512 ≤ length now)
+        (child : Came below (made + 1) allowance (512 - left) (set now (511 - left) byte) out r) where
       child-path : Path (512 - left) (set now (511 - left) byte) out
       child-path = record { kept = child .kept }
 
@@ -174,7 +184,9 @@ module _ {a : Accepted} {s : State} {left count made allowance byte : ℕ} (few 
           let longer : (512 - left) + length (f .bytes) ≡ (511 - left) + suc (length (f .bytes)) = omega arith in
           let shown : take ((511 - left) + suc (length (f .bytes))) out ≡ take (511 - left) out ++ (byte ∷ f .bytes) =
           ap (λ (n : ℕ). take n out) (sym longer) ∙ ends .3 ∙ ap (λ (n : ℕ). take n out ++ f .bytes) (place left few)
-          ∙ ap (λ (xs : List ℕ). xs ++ f .bytes) (path-on left byte few room path child-path ∙ ap (λ (xs : List ℕ). xs ++ (byte ∷ [])) (sym (path-front left byte few room path child-path)))
+          ∙ ap (λ (xs : List ℕ). xs ++ f .bytes)
+          (path-on left byte few room path child-path ∙ ap (λ (xs : List ℕ). xs ++ (byte ∷ []))
+          (sym (path-front left byte few room path child-path)))
           ∙ append-assoc (take (511 - left) out) (byte ∷ []) (f .bytes) in (
             total,
             subst (λ (o : Option EndedOrder). WalkEndsAs o (count + whole .count) (511 - left) out r) (sym (here .0 ∙ moved .0))

@@ -56,7 +56,11 @@ came-held count allowance at buffer le walked nothing zero-moves {r} is =
     record {
       kept = refl;
       cut = λ over. absurd (omega arith);
-      whole = λ within. (is .1, subst (λ (o : Option EndedOrder). WalkEndsAs o (count + walked .count) at buffer r) (sym nothing) (is .0, omega (arith, is .2)));
+      whole = λ within. (
+        is .1,
+        subst (λ (o : Option EndedOrder). WalkEndsAs o (count + walked .count) at buffer r)
+            (sym nothing) (is .0, omega (arith, is .2)),
+      );
     }
 
 -- a complete order fails if a job has
@@ -72,7 +76,8 @@ ended-came p s store failed count allowance at buffer le short =
           let none-more : at + 0 ≡ at = omega arith in
           let same : take (at + 0) buffer ≡ take at buffer ++ [] = ap (λ (n : ℕ). take n buffer) none-more ∙ sym (append-nil (take at buffer)) in
           subst (λ (w : Walked). Came w count allowance at buffer buffer (outcomeOf (endedAt p at) count p)) (sym ended)
-          (subst (λ (r : ℕ). Came (record { failing = some (record { bytes = []; ending = orderEnd s }); count = 0 }) count allowance at buffer buffer (outcomeOf r count p)) (sym is)
+          (subst (λ (r : ℕ). Came (record { failing = some (record { bytes = []; ending = orderEnd s }); count = 0 })
+          count allowance at buffer buffer (outcomeOf r count p)) (sym is)
           (record {
             kept = refl;
             cut = λ over. absurd (omega arith);

@@ -14,8 +14,10 @@ put-rounds-requires c κs = let pre = c .before .before .before .before .pre in 
 
 clear-from-requires : tie.Need-clear-from-requires
 clear-from-requires c κs =
-    let does = c .before .before .before .put-rounds .ensures in
-    let room = c .before .before .before .before .before .before .before .before .pre .3 in
+    let at-put-rounds = c .before .before .before in
+    let start = at-put-rounds .before .before .before .before .before in
+    let does = at-put-rounds .put-rounds .ensures in
+    let room = start .pre .3 in
     (appends-within does (omega arith), omega (arith, room, appends-length does room))
 
 same-length : tie.Need-same-length

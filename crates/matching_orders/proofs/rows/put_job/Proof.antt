@@ -45,7 +45,8 @@ order-byte-requires c κs = tt
 
 write-byte-requires : tie.Need-write-byte-requires Inv-loop μ-loop
 write-byte-requires c κs =
-    let turn = c .before .before .before .before .before .before .before .before in
+    let place7 = c .before .before .before .before .before .before .before in
+    let turn = place7 .before in
     omega (arith, row-length (turn .loop .inv) (turn .before .before .before .before .before .pre .2))
 
 add-n : tie.Need-add-n Inv-loop μ-loop

@@ -33,7 +33,8 @@ write-byte-requires c κs =
 
 value-at-requires : tie.Need-value-at-requires Inv-loop μ-loop
 value-at-requires c κs =
-    let counted = c .before .before .before .before .before .before .before .before in
+    let place7 = c .before .before .before .before .before .before .before in
+    let counted = place7 .before in
     let start = counted .before .before .pre in
     (start .1, omega (arith, counted .count-at .ensures, start .0 .few _ (start .1)))
 

@@ -46,11 +46,13 @@ same-length c = search needs
 
 returns : tie.Need-returns
 returns c =
-    let traced = c .before .before .before .before .before .before .before .before .before .before in
+    let at-clear-from = c .before .before in
+    let at-put-plan = at-clear-from .before .before .before .before in
+    let traced = at-put-plan .before .before .before .before in
     let begun = traced .before .before .before .before .before in
     let made = begun .before .before .before .before .before .before in
     plan-written _ _ (made .lend .ensures) (made .before .before .before .pre .2) (begun .put-store .ensures) (traced .trace-order .ensures)
-    (c .before .before .before .before .before .before .put-plan .ensures) (c .before .before .clear-from .ensures)
+    (at-put-plan .put-plan .ensures) (at-clear-from .clear-from .ensures)
 
 pub write-plan-spec : {M : Type 1} → statement M
 write-plan-spec =

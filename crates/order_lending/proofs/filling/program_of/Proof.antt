@@ -43,11 +43,16 @@ loop-less : tie.Need-loop-less Inv-loop μ-loop
 loop-less c = omega arith
 
 loop-again : tie.Need-loop-again Inv-loop μ-loop
-loop-again c =
-    (λ t eight bodies. owners-more (c .before .before .loop .inv .0 t eight bodies) eight (omega (arith, c .before .before .before .before .pre .1)) refl, omega arith)
+loop-again c = (
+  λ t eight bodies. owners-more (c .before .before .loop .inv .0 t eight bodies) eight
+      (omega (arith, c .before .before .before .before .pre .1)) refl,
+  omega arith,
+)
 
 returns : tie.Need-returns Inv-loop μ-loop
-returns c = owners-all (c .before .loop .inv .0 _ (c .before .before .before .pre .0 .tasksWithin) (c .before .before .bodies-of .ensures)) (omega (arith, c .before .loop .inv .1))
+returns c = owners-all
+    (c .before .loop .inv .0 _ (c .before .before .before .pre .0 .tasksWithin)
+    (c .before .before .bodies-of .ensures)) (omega (arith, c .before .loop .inv .1))
 
 pub program-of-spec : {M : Type 1} → statement M
 program-of-spec =

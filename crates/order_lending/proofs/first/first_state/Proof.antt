@@ -41,7 +41,8 @@ put-eight-requires-2 c κs = search needs
 returns : tie.Need-returns
 returns c =
     let listed = c .before .before .before .before in
-    let start = listed .before .before .before .before .before .before .before .before in
+    let given = listed .before .before .before .before in
+    let start = given .before .before .before .before in
     let firsts =
     eight-values (λ k. firstFrom _ k 0 32)
     (listed .before .before .before .before .before .before .before .first-unended .ensures)

@@ -77,7 +77,8 @@ returns : tie.Need-returns Inv-loop μ-loop
 returns c =
     let start = c .before .before in
     let done : c .before .loop .x ≡ start .args .count = omega (arith, c .before .loop .inv .0, c .loop-test .left) in
-    subst (λ (n : ℕ). RowFilled (start .args .program .now) (start .args .times .now) (start .args .y .0) n (start .args .waits .now) (c .before .loop .waits)) done
+    subst (λ (n : ℕ). RowFilled (start .args .program .now) (start .args .times .now) (start .args .y .0) n
+    (start .args .waits .now) (c .before .loop .waits)) done
     (c .before .loop .inv .1)
 
 pub fill-row-spec : {M : Type 1} → statement M

@@ -51,8 +51,11 @@ loop-less c = omega arith
 loop-again : tie.Need-loop-again Inv-loop μ-loop
 unfolding hasUnended
 loop-again c =
-    let lt = c .before .before .before .loop-test .taken in
-    (omega arith, some-later _ 8 _ (c .before .before .before .before .loop .inv .1) lt (sym (unended-owned _ _ _ lt (c .before .owned-by .ensures)) ∙ c .if1 .left))
+    let lt = c .before .before .before .loop-test .taken in (
+      omega arith,
+      some-later _ 8 _ (c .before .before .before .before .loop .inv .1) lt
+          (sym (unended-owned _ _ _ lt (c .before .owned-by .ensures)) ∙ c .if1 .left),
+    )
 
 returns-2 : tie.Need-returns-2 Inv-loop μ-loop
 returns-2 c = sym (some-missing _ 8 _ (c .before .loop .inv .1) (c .loop-test .left))

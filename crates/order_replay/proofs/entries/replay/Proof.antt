@@ -35,7 +35,11 @@ replay-table-requires c κs = parts-lent _ _ (c .before .before .accept-file .en
 cast-refused-run-2 : tie.Need-cast-refused-run-2
 cast-refused-run-2 c =
     let run = c .before .before .before in
-    omega (arith, answers-place _ _ (run .before .before .before .accept-file .ensures) (run .before .enum-told .given .1) _ _ (run .replay-table .ensures) (c .before .if1 .taken))
+    omega (
+      arith,
+      answers-place _ _ (run .before .before .before .accept-file .ensures)
+          (run .before .enum-told .given .1) _ _ (run .replay-table .ensures) (c .before .if1 .taken),
+    )
 
 refused-run-requires-2 : tie.Need-refused-run-requires-2
 refused-run-requires-2 c κs = search needs
@@ -44,7 +48,8 @@ returns-2 : tie.Need-returns-2
 returns-2 c =
     let run = c .before .before .before .before in
     c .refused-run2 .ensures
-    ∙ answers-fault _ _ (run .before .before .before .accept-file .ensures) (run .before .enum-told .given .1) _ _ (run .replay-table .ensures) (c .before .before .if1 .taken)
+    ∙ answers-fault _ _ (run .before .before .before .accept-file .ensures) (run .before .enum-told .given .1) _ _
+    (run .replay-table .ensures) (c .before .before .if1 .taken)
 
 ended-run-requires : tie.Need-ended-run-requires
 ended-run-requires c κs = search needs

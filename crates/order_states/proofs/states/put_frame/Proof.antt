@@ -49,8 +49,9 @@ put-eight-requires-2 c κs = search needs
 returns : tie.Need-returns
 unfolding ownBytes
 returns c =
-    let start = c .before .before .before .before .before .before .before .before in
-    frame-put _ _ _ _ _ (start .args .local) (registers-length start) (held-length start) (c .before .before .put-eight .ensures)
+    let at-put-eight = c .before .before in
+    let start = at-put-eight .before .before .before .before .before .before in
+    frame-put _ _ _ _ _ (start .args .local) (registers-length start) (held-length start) (at-put-eight .put-eight .ensures)
     (c .put-eight2 .ensures)
 
 pub put-frame-spec : {M : Type 1} → statement M

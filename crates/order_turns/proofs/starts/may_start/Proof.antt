@@ -33,7 +33,8 @@ owned-by-requires c κs = search needs
 
 returns-4 : tie.Need-returns-4
 returns-4 c =
-    let task = c .before .before .before .before .before .before .before .before in
+    let place7 = c .before .before .before .before .before .before .before in
+    let task = place7 .before in
     starts-unowned-read _ _ _ _ _ (task .if1 .left) (c .before .owned-by .ensures) (c .if4 .taken)
 
 must-wait-requires : tie.Need-must-wait-requires

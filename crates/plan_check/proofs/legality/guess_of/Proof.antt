@@ -61,7 +61,8 @@ shared-slice-read-t26 c = search needs
 
 returns : tie.Need-returns
 returns c =
-    let start = c .before .before .before .before .before .before .before .before .before in
+    let place7 = c .before .before .before .before .before .before .before in
+    let start = place7 .before .before in
     guess-read _ (start .args .r) (start .pre .1)
 
 pub guess-of-spec : {M : Type 1} → statement M

@@ -46,7 +46,8 @@ shared-slice-read-t17 c = search needs
 returns : tie.Need-returns
 unfolding from
 returns c =
-    let s = c .before .before .before .before .before .before .before .before in
+    let place7 = c .before .before .before .before .before .before .before in
+    let s = place7 .before in
     part-at (s .args .file .now) 8 8 0 (s .pre)
 
 pub store-at-spec : {M : Type 1} → statement M

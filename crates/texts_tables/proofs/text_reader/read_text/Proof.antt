@@ -44,7 +44,10 @@ line-found c =
 
 -- where the line was found whose part was added
 abbrev found : tie.After-stage-after Inv-loop μ-loop → tie.Else1 Inv-loop μ-loop
-found c = c .before .before .before .before .before .before .before .before
+found c =
+    let place7 = c .before .before .before .before .before .before .before in
+    let at-place = place7 .before in
+    at-place
 
 -- the table has the line's part, where it was added and where it would have changed nothing
 part-added : (c : tie.Joined3 Inv-loop μ-loop)

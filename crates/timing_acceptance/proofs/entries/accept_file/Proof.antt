@@ -38,34 +38,56 @@ refused-file-requires-2 c κs = search needs
 
 returns-2 : tie.Need-returns-2
 returns-2 c =
-    answers-overload _ _ (c .before .before .before .before .before .before .before .before .before .before .load-file .ensures) (c .before .before .before .before .before .before .before .enum-told .given .1) _ (c .before .before .before .before .before .before .responses-of .ensures) _
-    (c .before .before .before .timed .given .1) (c .before .record-at .ensures) (c .refused-file2 .ensures)
+    let at-timed = c .before .before .before in
+    let at-responses-of = at-timed .before .before .before in
+    let told = at-responses-of .before in
+    let at-load-file = told .before .before .before in
+    answers-overload _ _ (at-load-file .load-file .ensures) (told .enum-told .given .1) _ (at-responses-of .responses-of .ensures) _
+    (at-timed .timed .given .1) (c .before .record-at .ensures) (c .refused-file2 .ensures)
 
 enum-told-2 : tie.Need-enum-told-2
 enum-told-2 c = search needs
 
 job-total-requires : tie.Need-job-total-requires
-job-total-requires c κs = answers-timeable _ _ (c .before .before .before .before .before .before .before .load-file .ensures) (c .before .before .before .before .enum-told .given .1)
+job-total-requires c κs =
+    answers-timeable _ _ (c .before .before .before .before .before .before .before .load-file .ensures)
+    (c .before .before .before .before .enum-told .given .1)
 
 refused-file-requires-3 : tie.Need-refused-file-requires-3
 refused-file-requires-3 c κs = search needs
 
 returns-3 : tie.Need-returns-3
 returns-3 c =
-    answers-many _ _ (c .before .before .before .before .before .before .before .before .before .before .load-file .ensures) (c .before .before .before .before .before .before .before .enum-told .given .1) _ (c .before .before .before .before .before .before .responses-of .ensures) (c .before .before .before .enum-told2 .given .1) _
-    (c .before .before .job-total .ensures) (c .before .if1 .taken) (c .refused-file3 .ensures)
+    let at-job-total = c .before .before in
+    let told = at-job-total .before in
+    let at-responses-of = told .before .before .before in
+    let told-2 = at-responses-of .before in
+    let at-load-file = told-2 .before .before .before in
+    answers-many _ _ (at-load-file .load-file .ensures) (told-2 .enum-told .given .1) _ (at-responses-of .responses-of .ensures) (told .enum-told2 .given .1) _
+    (at-job-total .job-total .ensures) (c .before .if1 .taken) (c .refused-file3 .ensures)
 
 jobs-of-requires : tie.Need-jobs-of-requires
-jobs-of-requires c κs = (
-  answers-timeable _ _ (c .before .before .before .before .before .before .before .before .before .load-file .ensures) (c .before .before .before .before .before .before .enum-told .given .1),
-  subst (λ (n : ℕ). n ≤ 32) (c .before .job-total .ensures) (c .if1 .left),
-  answers-within _ _ (c .before .before .before .before .before .before .before .before .before .load-file .ensures) (c .before .before .before .before .before .before .enum-told .given .1) _ (c .before .before .before .before .before .responses-of .ensures) (c .before .before .enum-told2 .given .1),
-)
+jobs-of-requires c κs =
+    let told = c .before .before in
+    let at-responses-of = told .before .before .before in
+    let told-2 = at-responses-of .before in
+    let at-load-file = told-2 .before .before .before in (
+      answers-timeable _ _ (at-load-file .load-file .ensures) (told-2 .enum-told .given .1),
+      subst (λ (n : ℕ). n ≤ 32) (c .before .job-total .ensures) (c .if1 .left),
+      answers-within _ _ (at-load-file .load-file .ensures) (told-2 .enum-told .given .1) _
+          (at-responses-of .responses-of .ensures) (told .enum-told2 .given .1),
+    )
 
 returns-4 : tie.Need-returns-4
 returns-4 c =
-    answers-accepted _ _ (c .before .before .before .before .before .before .before .before .before .before .load-file .ensures) (c .before .before .before .before .before .before .before .enum-told .given .1) _ (c .before .before .before .before .before .before .responses-of .ensures) (c .before .before .before .enum-told2 .given .1) _
-    (c .before .before .job-total .ensures) (omega (arith, c .before .if1 .left)) refl refl refl (c .jobs-of .ensures)
+    let at-job-total = c .before .before in
+    let told = at-job-total .before in
+    let at-responses-of = told .before .before .before in
+    let told-2 = at-responses-of .before in
+    let at-load-file = told-2 .before .before .before in
+    answers-accepted _ _ (at-load-file .load-file .ensures) (told-2 .enum-told .given .1) _
+    (at-responses-of .responses-of .ensures) (told .enum-told2 .given .1) _
+    (at-job-total .job-total .ensures) (omega (arith, c .before .if1 .left)) refl refl refl (c .jobs-of .ensures)
 
 pub accept-file-spec : {M : Type 1} → statement M
 accept-file-spec =

@@ -24,9 +24,12 @@ use sound.Loop.{loop-rule}
 use sound.WpLaws.{FmC, fmOf, WpFn-mono}
 use contract.Monad.{Fun, fact}
 use contract.Running.{givenOf, tables, tablesOf}
-use types.Kit.{Given, Item, Sq, runs, ‵, raw, _⊛_, some, later, ⋆, anyQ, atRet, _$_, _∵_, !, qed, by, move, keep, use1, drop, split, join, pick, rewrite, fsplit, fjoin, feqI, suffices, frame, await, done}
+use types.Kit.{Given, Item, Sq, runs, ‵, raw, _⊛_, some, later, ⋆, anyQ, atRet, _$_, _∵_, !, qed, by, move, keep}
+use types.Kit.{use1, drop, split, join, pick, rewrite, fsplit, fjoin, feqI, suffices, frame, await, done}
 use types.Part.{whole, sub, look-in}
-use types.Run.{look, store, init, forget, stop, hop, fld, from, load, lit, unit-lit, of-opd, bin, and-then, no-more, land, assigns, assigns-last, stays, leaves-loop, returns, enter, alloc1, alloc0, params1, pass1, pass0, free1, free0, exec}
+use types.Run.{look, store, init, forget, stop, hop, fld, from, load, lit, unit-lit, of-opd, bin, and-then, no-more}
+use types.Run.{land, assigns, assigns-last, stays, leaves-loop, returns, enter, alloc1, alloc0, params1, pass1, pass0}
+use types.Run.{free1, free0, exec}
 use denote.Exit.{yes}
 use denote.RattleType.{RattleType, owns}
 use denote.Shadow.{pureI}
@@ -92,7 +95,9 @@ abbrev recordTy : Ty
 recordTy = tyStruct (J.struct .name) (tcons (tyStruct (Task.struct .name) (tcons (tyInt w8) tnil)) (tcons word (tcons word tnil)))
 
 abbrev listedTy : Ty
-listedTy = tyStruct (L.struct .name) (tcons (tyStruct (Answer.struct .name) (tcons (tyInt w8) (tcons (tyInt w32) (tcons (tyInt w8) tnil)))) (tcons (tyArray recordTy 32) tnil))
+listedTy = tyStruct (L.struct .name)
+    (tcons (tyStruct (Answer.struct .name) (tcons (tyInt w8) (tcons (tyInt w32) (tcons (tyInt w8) tnil))))
+    (tcons (tyArray recordTy 32) tnil))
 
 abbrev R : RattleType
 R = J.the-row
@@ -105,10 +110,13 @@ module _ {M : Type 1} (𝓤 : URA M) (H : Heap 𝓤) (A : Atoms 𝓤) (at-mem : 
   abbrev RecordOf : Contract 𝓤
   RecordOf = tripleOf 𝓤 H A record-of.signature (record-of.spec 𝓤 H A at-mem run)
 
-  got-of : (x : Listed) (i : ℕ) (r : JobRecord) → ent 𝓤 (ensured 𝓤 H A record-of.ended (record-of.clauses 𝓤 H A at-mem run) tt (x, (i, tt)) tt r) (fact 𝓤 (r ≡ jobRecordOf x i))
+  got-of : (x : Listed) (i : ℕ) (r : JobRecord) → ent 𝓤
+      (ensured 𝓤 H A record-of.ended (record-of.clauses 𝓤 H A at-mem run) tt (x, (i, tt)) tt r) (fact 𝓤 (r ≡ jobRecordOf x i))
   got-of x i r = exE 𝓤 _ (λ ws. snd∗ 𝓤 (sem 𝓤 H A (lasts record-of.ended tt (x, (i, tt)) ws)) (fact 𝓤 (r ≡ jobRecordOf x i)))
 
-module _ {M : Type 1} (𝓤 : URA M) (H : Heap 𝓤) (A : Atoms 𝓤) (W : Given 𝓤 H A) (at-mem : Memory → SProp 𝓤) (run : Routine → Fun 𝓤) (κ : Lft) (q : Share) (b o : ℕ) (γ : GName) (ys : List JobRecord) (x : Listed) (w : Val) (is-x : Is L.the-row x (w ∷ [])) (c : ℕ) (c-fits : c < 2 ^ 64) (gn : Room J.the-row (length ys)) where
+module _ {M : Type 1} (𝓤 : URA M) (H : Heap 𝓤) (A : Atoms 𝓤) (W : Given 𝓤 H A) (at-mem : Memory → SProp 𝓤)
+    (run : Routine → Fun 𝓤) (κ : Lft) (q : Share) (b o : ℕ) (γ : GName) (ys : List JobRecord) (x : Listed) (w : Val)
+    (is-x : Is L.the-row x (w ∷ [])) (c : ℕ) (c-fits : c < 2 ^ 64) (gn : Room J.the-row (length ys)) where
   abbrev n : ℕ
   n = length ys
 
@@ -136,10 +144,16 @@ module _ {M : Type 1} (𝓤 : URA M) (H : Heap 𝓤) (A : Atoms 𝓤) (W : Given
   exits : ent 𝓤 (⋆ 𝓤 H A (‵ (fobs γ (codedHoleys R .code (heres R zs))) ∷ ‵ (fbor κ (Held R (length zs) b o γ)) ∷ ‵ (flft κ q) ∷ [])) (Post vunit)
   exits =
       qed W (‵ (fobs γ (codedHoleys R .code (heres R zs))) ∷ ‵ (fbor κ (Held R (length zs) b o γ)) ∷ ‵ (flft κ q) ∷ []) ∵
-      suffices ! _ (ends-at 𝓤 H A fill.ended stayed (fill.clauses 𝓤 H A at-mem run) W bound vunit tt (zs, (tt, (tt, tt))) (filled-length x c ys, (tt, (tt, tt)))) $ says ! refl $
+      suffices ! _ (ends-at 𝓤 H A fill.ended stayed (fill.clauses 𝓤 H A at-mem run) W bound vunit tt
+      (zs, (tt, (tt, tt))) (filled-length x c ys, (tt, (tt, tt)))) $ says ! refl $
       nothing ! $ move ! (3 ∷ 0 ∷ []) $ join ! $
-      frame ! $ fjoin ! $ pureI ! (at-slice R y (at .0)) (tt, (tt, tt)) (ap (λ (m : ℕ). sliceVal (b, o) m ∷ []) (sym (filled-length x c ys)), subst (Room R) (sym (filled-length x c ys)) gn) $ fjoin ! $
-      nothing ! $ owned ! usize (Is usize) (uint-makes 𝓤 H A W w64) c _ (refl, c-fits) $ fjoin ! $ owned ! L.the-row (Is L.the-row) ((LL.makes L.the-type L′.the-plain) 𝓤 H A) x (w ∷ []) is-x $ fjoin ! $ move ! (1 ∷ 0 ∷ []) $ fjoin ! $ frame ! $
+      frame ! $ fjoin ! $ pureI ! (at-slice R y (at .0)) (tt, (tt, tt)) (
+        ap (λ (m : ℕ). sliceVal (b, o) m ∷ []) (sym (filled-length x c ys)),
+        subst (Room R)
+            (sym (filled-length x c ys)) gn,
+      ) $ fjoin ! $
+      nothing ! $ owned ! usize (Is usize) (uint-makes 𝓤 H A W w64) c _ (refl, c-fits) $ fjoin ! $ owned ! L.the-row
+      (Is L.the-row) ((LL.makes L.the-type L′.the-plain) 𝓤 H A) x (w ∷ []) is-x $ fjoin ! $ move ! (1 ∷ 0 ∷ []) $ fjoin ! $ frame ! $
       feqI ! (List Val) (vunit ∷ []) (vunit ∷ []) refl $ done !
 
   -- what `record_of`'s triple binds outside
@@ -151,7 +165,9 @@ module _ {M : Type 1} (𝓤 : URA M) (H : Heap 𝓤) (A : Atoms 𝓤) (W : Given
       qed W (‵ (L.the-row .own x (w ∷ [])) ∷ []) ∵ says ! small $ nothing ! $ frame ! $ frame ! $
       owned ! usize (Is usize) (uint-makes 𝓤 H A W w64) i _ (refl, fits) $ frame ! $ nothing ! $ done !
 
-  module _ (𝓣 : Tables 𝓤 H) (fm : FmC 𝓤 H (W .laws) (𝓣 .C)) (known : Triple 𝓤 (𝓣 .C #job-list·record-of) (RecordOf 𝓤 H A at-mem run)) (most : c ≤ 32) (within : c ≤ length ys) (l₀ l₁ l₂ l₃ l₄ l₅ l₆ l₇ l₈ : ℕ) where
+  module _ (𝓣 : Tables 𝓤 H) (fm : FmC 𝓤 H (W .laws) (𝓣 .C))
+      (known : Triple 𝓤 (𝓣 .C #job-list·record-of) (RecordOf 𝓤 H A at-mem run)) (most : c ≤ 32)
+      (within : c ≤ length ys) (l₀ l₁ l₂ l₃ l₄ l₅ l₆ l₇ l₈ : ℕ) where
     abbrev C : Calls 𝓤 H
     C = 𝓣 .C
 
@@ -163,13 +179,16 @@ module _ {M : Type 1} (𝓤 : URA M) (H : Heap 𝓤) (A : Atoms 𝓤) (W : Given
 
     -- what no turn touches
     abbrev Frame : List (Item 𝓤)
-    Frame = ‵ (fat fullShare slice l₁ 0 (sliceVal (b, o) n)) ∷ ‵ (fat fullShare listedTy l₂ 0 w) ∷ ‵ (fat fullShare word l₃ 0 (vint w64 c)) ∷ ‵ (froom tyUnit l₀ 0)
+    Frame = ‵ (fat fullShare slice l₁ 0 (sliceVal (b, o) n)) ∷ ‵ (fat fullShare listedTy l₂ 0 w) ∷ ‵
+        (fat fullShare word l₃ 0 (vint w64 c)) ∷ ‵ (froom tyUnit l₀ 0)
         ∷ ‵ (fobor κ q (Held R n b o γ)) ∷ ‵ (fobs γ (codedHoleys R .code (heres R ys))) ∷ ‵ (fauth γ (codedHoleys R .code (heres R ys)))
-        ∷ ‵ (fdies tyUnit l₀) ∷ ‵ (fdies slice l₁) ∷ ‵ (fdies listedTy l₂) ∷ ‵ (fdies word l₃) ∷ ‵ (fdies word l₄) ∷ ‵ (fdies tyBool l₅) ∷ ‵ (fdies recordTy l₆) ∷ ‵ (fdies word l₇) ∷ ‵ (fdies tyPtr l₈) ∷ []
+        ∷ ‵ (fdies tyUnit l₀) ∷ ‵ (fdies slice l₁) ∷ ‵ (fdies listedTy l₂) ∷ ‵ (fdies word l₃) ∷ ‵ (fdies word l₄) ∷ ‵
+        (fdies tyBool l₅) ∷ ‵ (fdies recordTy l₆) ∷ ‵ (fdies word l₇) ∷ ‵ (fdies tyPtr l₈) ∷ []
 
     -- i records are stored
     abbrev At : ℕ → List (Item 𝓤)
-    At i = ‵ (row R fullShare (listFilled x i ys) b o) ∷ ‵ (fat fullShare word l₄ 0 (vint w64 i)) ∷ ‵ (froom tyBool l₅ 0) ∷ ‵ (froom recordTy l₆ 0) ∷ ‵ (froom word l₇ 0) ∷ ‵ (froom tyPtr l₈ 0) ∷ Frame
+    At i = ‵ (row R fullShare (listFilled x i ys) b o) ∷ ‵ (fat fullShare word l₄ 0 (vint w64 i)) ∷ ‵
+        (froom tyBool l₅ 0) ∷ ‵ (froom recordTy l₆ 0) ∷ ‵ (froom word l₇ 0) ∷ ‵ (froom tyPtr l₈ 0) ∷ Frame
 
     -- the invariant, where t records are left
     abbrev Inv : ℕ → SProp 𝓤
@@ -195,7 +214,8 @@ module _ {M : Type 1} (𝓤 : URA M) (H : Heap 𝓤) (A : Atoms 𝓤) (W : Given
         -- [obs; the borrow; the token; _4; _5; _6; _7; _8; _1; _2; _3; _0; and that each local dies]
         returns ! (look ! 11 refl) $ forget ! 3 refl $ forget ! 4 refl $ forget ! 8 refl $ forget ! 9 refl $ forget ! 10 refl $ forget ! 11 refl $
         move ! (11 ∷ 12 ∷ []) $ free1 ! $ move ! (8 ∷ 11 ∷ []) $ free1 ! $ move ! (8 ∷ 10 ∷ []) $ free1 ! $ move ! (8 ∷ 9 ∷ []) $ free1 ! $
-        move ! (3 ∷ 8 ∷ []) $ free1 ! $ move ! (3 ∷ 7 ∷ []) $ free1 ! $ move ! (3 ∷ 6 ∷ []) $ free1 ! $ move ! (3 ∷ 5 ∷ []) $ free1 ! $ move ! (3 ∷ 4 ∷ []) $ free1 ! $ free0 ! $ by ! exits
+        move ! (3 ∷ 8 ∷ []) $ free1 ! $ move ! (3 ∷ 7 ∷ []) $ free1 ! $ move ! (3 ∷ 6 ∷ []) $ free1 ! $
+        move ! (3 ∷ 5 ∷ []) $ free1 ! $ move ! (3 ∷ 4 ∷ []) $ free1 ! $ free0 ! $ by ! exits
 
     -- the machine value that lies at a place
     abbrev was : ℕ → Val
@@ -210,24 +230,37 @@ module _ {M : Type 1} (𝓤 : URA M) (H : Heap 𝓤) (A : Atoms 𝓤) (W : Given
         rewrite ! 2 (λ (t : Bool). ‵ (fat fullShare tyBool l₅ 0 (vbool t))) (holds (ltb i c) (lt→ltb i c small)) refl $
         stays ! (load ! (from ! (stop !)) (look ! 2 refl)) $
         -- `record_of` is called
-        owned ! L.the-row (Is L.the-row) ((LL.makes L.the-type L′.the-plain) 𝓤 H A) x (w ∷ []) is-x $ use1 W (raw (RecordOf 𝓤 H A at-mem run .pre (to-record-of i))) (goes i i-fits i-few) $
-        calls-at ! fm (RecordOf 𝓤 H A at-mem run) known (to-record-of i) (and-then ! (load ! (from ! (stop !)) (look ! 8 refl)) (and-then ! (load ! (from ! (stop !)) (look ! 2 refl)) (no-more !))) (λ v.
-        use1 W (later (some (λ (r : JobRecord). (‵ ftrue ⊛ ‵ (R .own r (v ∷ []))) ⊛ raw (ensured 𝓤 H A record-of.ended (record-of.clauses 𝓤 H A at-mem run) tt (x, (i, tt)) tt r)))) (id⊢ 𝓤 _) $ await ! tt $ pick ! (λ r.
-        split ! $ move ! (1 ∷ []) $ use1 W (raw (fact 𝓤 (r ≡ jobRecordOf x i))) (got-of 𝓤 H A at-mem run x i r) $ heard ! (r ≡ jobRecordOf x i) (λ e. split ! $ drop ! $
-        peeks ! R (Is R) (shows 𝓤 H A R) r (v ∷ []) (λ is. land ! (from ! (stop !)) (init ! 4 refl (LL.lawful J.the-type J′.the-laws 𝓤 H A W .typed r _ is .0)) $
+        owned ! L.the-row (Is L.the-row) ((LL.makes L.the-type L′.the-plain) 𝓤 H A) x (w ∷ []) is-x $ use1 W
+        (raw (RecordOf 𝓤 H A at-mem run .pre (to-record-of i))) (goes i i-fits i-few) $
+        calls-at ! fm (RecordOf 𝓤 H A at-mem run) known (to-record-of i)
+        (and-then ! (load ! (from ! (stop !)) (look ! 8 refl))
+        (and-then ! (load ! (from ! (stop !)) (look ! 2 refl)) (no-more !))) (λ v.
+        use1 W (later (some (λ (r : JobRecord). (‵ ftrue ⊛ ‵ (R .own r (v ∷ []))) ⊛ raw
+        (ensured 𝓤 H A record-of.ended (record-of.clauses 𝓤 H A at-mem run) tt (x, (i, tt)) tt r)))) (id⊢ 𝓤 _) $
+        await ! tt $ pick ! (λ r.
+        split ! $ move ! (1 ∷ []) $ use1 W (raw (fact 𝓤 (r ≡ jobRecordOf x i))) (got-of 𝓤 H A at-mem run x i r) $
+        heard ! (r ≡ jobRecordOf x i) (λ e. split ! $ drop ! $
+        peeks ! R (Is R) (shows 𝓤 H A R) r (v ∷ [])
+        (λ is. land ! (from ! (stop !)) (init ! 4 refl (LL.lawful J.the-type J′.the-laws 𝓤 H A W .typed r _ is .0)) $
         -- [what the record owns; the row; _4; _5; _6; _7; _8; _1; _2; _3; ..]: the place is computed
-        assigns ! (bin ! (load ! (from ! (stop !)) (look ! 2 refl)) (lit ! tt) (record { fits = place-fits })) (from ! (stop !)) (init ! 5 refl (tt, record { fits = place-fits })) $
-        assigns ! (bin ! (load ! (from ! (fld ! refl (stop !))) (look-in ! 7 (sub ! 0 refl (whole !)))) (load ! (from ! (stop !)) (look ! 5 refl)) tt) (from ! (stop !)) (init ! 6 refl (tt, tt)) $
+        assigns ! (bin ! (load ! (from ! (stop !)) (look ! 2 refl)) (lit ! tt) (record { fits = place-fits }))
+        (from ! (stop !)) (init ! 5 refl (tt, record { fits = place-fits })) $
+        assigns ! (bin ! (load ! (from ! (fld ! refl (stop !))) (look-in ! 7 (sub ! 0 refl (whole !))))
+        (load ! (from ! (stop !)) (look ! 5 refl)) tt) (from ! (stop !)) (init ! 6 refl (tt, tt)) $
         rewrite ! 6 (λ (p : ℕ). ‵ (fat fullShare tyPtr l₈ 0 (vptr b p))) (sym (place-is 24 o i)) refl $
         -- the element is taken out of the row, stored to, and put back
-        move ! (1 ∷ []) $ elem-out ! R (Is R) (shows 𝓤 H A R) (LL.vals J.the-type J′.the-laws) (LL.tells J.the-type J′.the-laws) fullShare (listFilled x i ys) i noJob b o in-row (λ _.
+        move ! (1 ∷ []) $ elem-out ! R (Is R) (shows 𝓤 H A R) (LL.vals J.the-type J′.the-laws)
+        (LL.tells J.the-type J′.the-laws) fullShare (listFilled x i ys) i noJob b o in-row (λ _.
         use1 W (‵ (fat fullShare recordTy b (place 24 o i) (was i))) (W .laws .raw-at fullShare recordTy b (place 24 o i) (was i)) $
-        assigns ! (of-opd ! (load ! (from ! (stop !)) (look ! 6 refl))) (from ! (hop ! (look ! 8 refl) (stop !))) (store ! 0 refl (LL.lawful J.the-type J′.the-laws 𝓤 H A W .typed r _ is .0)) $
+        assigns ! (of-opd ! (load ! (from ! (stop !)) (look ! 6 refl))) (from ! (hop ! (look ! 8 refl) (stop !)))
+        (store ! 0 refl (LL.lawful J.the-type J′.the-laws 𝓤 H A W .typed r _ is .0)) $
         use1 W (‵ (cellAt fullShare (R .mir) (v ∷ []) b (place 24 o i))) (W .laws .at-raw fullShare recordTy b (place 24 o i) v) $
         move ! (1 ∷ []) $ drop ! $ move ! (0 ∷ 2 ∷ []) $ elem-put ! R fullShare (listFilled x i ys) i r (v ∷ []) b o in-row $
-        assigns-last ! (bin ! (load ! (from ! (stop !)) (look ! 1 refl)) (lit ! tt) (record { fits = next-fits })) (from ! (stop !)) (store ! 1 refl (tt, record { fits = next-fits })) $
+        assigns-last ! (bin ! (load ! (from ! (stop !)) (look ! 1 refl)) (lit ! tt) (record { fits = next-fits }))
+        (from ! (stop !)) (store ! 1 refl (tt, record { fits = next-fits })) $
         forget ! 2 refl $ forget ! 3 refl $ forget ! 4 refl $ forget ! 5 refl $
-        rewrite ! 1 (λ (j : ℕ). ‵ (fat fullShare word l₄ 0 (vint w64 j))) (one-more i) refl $ rewrite ! 0 (λ (us : List JobRecord). ‵ (row R fullShare us b o)) (filled-next x i ys e) refl $ by ! k)))))
+        rewrite ! 1 (λ (j : ℕ). ‵ (fat fullShare word l₄ 0 (vint w64 j))) (one-more i) refl $ rewrite ! 0
+        (λ (us : List JobRecord). ‵ (row R fullShare us b o)) (filled-next x i ys e) refl $ by ! k)))))
       where
         i-few : i < 32
         i-few = omega (arith, small, most)
@@ -253,7 +286,9 @@ module _ {M : Type 1} (𝓤 : URA M) (H : Heap 𝓤) (A : Atoms 𝓤) (W : Given
 
     -- a turn from the invariant at t leaves the loop, or ends in the invariant below t
     turn-at : (t i : ℕ) → i + t ≡ c → ent 𝓤 (⋆ 𝓤 H A (At i)) (Wp 𝓤 H C Λ En piece.turn-1 (afterTurn 𝓤 H (Below t) Left))
-    turn-at zero i e = subst (λ (k : ℕ). ent 𝓤 (⋆ 𝓤 H A (At k)) (Wp 𝓤 H C Λ En piece.turn-1 (afterTurn 𝓤 H (Below zero) Left))) (sym e ∙ add-zero i) (ends (Below zero))
+    turn-at zero i e = subst
+        (λ (k : ℕ). ent 𝓤 (⋆ 𝓤 H A (At k)) (Wp 𝓤 H C Λ En piece.turn-1 (afterTurn 𝓤 H (Below zero) Left)))
+        (sym e ∙ add-zero i) (ends (Below zero))
     turn-at (suc t) i e = more i (Below (suc t)) (omega (arith, e)) (below t i (omega (arith, e)))
 
     turns : (t : ℕ) → ent 𝓤 (Inv t) (Wp 𝓤 H C Λ En piece.turn-1 (afterTurn 𝓤 H (Below t) Left))
@@ -262,12 +297,15 @@ module _ {M : Type 1} (𝓤 : URA M) (H : Heap 𝓤) (A : Atoms 𝓤) (W : Given
     loops : ent 𝓤 (⋆ 𝓤 H A (At 0)) (Wp 𝓤 H C Λ En (loop piece.turn-1) Left)
     loops =
         via 𝓤 (Inv c)
-        (via 𝓤 (guard 𝓤 (0 + c ≡ c) (⋆ 𝓤 H A (At 0))) (guardI 𝓤 (0 + c ≡ c) (⋆ 𝓤 H A (At 0)) (zero-add c)) (exI 𝓤 (λ (j : ℕ). guard 𝓤 (j + c ≡ c) (⋆ 𝓤 H A (At j))) 0))
+        (via 𝓤 (guard 𝓤 (0 + c ≡ c) (⋆ 𝓤 H A (At 0))) (guardI 𝓤 (0 + c ≡ c) (⋆ 𝓤 H A (At 0)) (zero-add c))
+        (exI 𝓤 (λ (j : ℕ). guard 𝓤 (j + c ≡ c) (⋆ 𝓤 H A (At j))) 0))
         (loop-rule 𝓤 H (W .laws) 𝓣 _<_ (Nat·lt-wfRel .wf) En piece.turn-1 Left Inv turns c)
 
     -- the code up to the loop: the borrow is opened once, before it
-    starts : Sq W (‵ (froom tyPtr l₈ 0) ∷ ‵ (fdies tyPtr l₈) ∷ ‵ (froom word l₇ 0) ∷ ‵ (fdies word l₇) ∷ ‵ (froom recordTy l₆ 0) ∷ ‵ (fdies recordTy l₆) ∷ ‵ (froom tyBool l₅ 0) ∷ ‵ (fdies tyBool l₅)
-        ∷ ‵ (froom word l₄ 0) ∷ ‵ (fdies word l₄) ∷ ‵ (fat fullShare word l₃ 0 (vint w64 c)) ∷ ‵ (fdies word l₃) ∷ ‵ (fat fullShare listedTy l₂ 0 w) ∷ ‵ (fdies listedTy l₂)
+    starts : Sq W (‵ (froom tyPtr l₈ 0) ∷ ‵ (fdies tyPtr l₈) ∷ ‵ (froom word l₇ 0) ∷ ‵ (fdies word l₇) ∷ ‵
+        (froom recordTy l₆ 0) ∷ ‵ (fdies recordTy l₆) ∷ ‵ (froom tyBool l₅ 0) ∷ ‵ (fdies tyBool l₅)
+        ∷ ‵ (froom word l₄ 0) ∷ ‵ (fdies word l₄) ∷ ‵ (fat fullShare word l₃ 0 (vint w64 c)) ∷ ‵ (fdies word l₃) ∷ ‵
+        (fat fullShare listedTy l₂ 0 w) ∷ ‵ (fdies listedTy l₂)
         ∷ ‵ (fat fullShare slice l₁ 0 (sliceVal (b, o) n)) ∷ ‵ (fdies slice l₁) ∷ ‵ (froom tyUnit l₀ 0) ∷ ‵ (fdies tyUnit l₀)
         ∷ (‵ (flft κ q) ⊛ ‵ ftrue) ∷ ‵ (owns (MutSlice (named 0) κ R ∷ L.the-row ∷ usize ∷ []) a at) ∷ []) (runs C Λ En piece.t-1 (atRet En Post))
     starts =
@@ -279,20 +317,32 @@ module _ {M : Type 1} (𝓤 : URA M) (H : Heap 𝓤) (A : Atoms 𝓤) (W : Given
   walk : (𝓣 : Tables 𝓤 H) → FmC 𝓤 H (W .laws) (𝓣 .C) → Triple 𝓤 (𝓣 .C #job-list·record-of) (RecordOf 𝓤 H A at-mem run) → (c ≤ 32) × (c ≤ length ys)
       → ent 𝓤 (onEntry 𝓤 H A fill.signature (κ, tt) (q, tt) a at) (WpFn 𝓤 H (𝓣 .C) (𝓣 .Λ) code.function (sliceVal (b, o) n ∷ w ∷ vint w64 c ∷ []) Post)
   walk 𝓣 fm known few =
-      qed W ((‵ (flft κ q) ⊛ ‵ ftrue) ∷ ‵ (owns (MutSlice (named 0) κ R ∷ L.the-row ∷ usize ∷ []) a at) ∷ []) ∵ enter ! (𝓣 .C) (𝓣 .Λ) code.function (sliceVal (b, o) n ∷ w ∷ vint w64 c ∷ []) _ $
-      alloc1 ! (λ l₀. alloc1 ! (λ l₁. alloc1 ! (λ l₂. alloc1 ! (λ l₃. alloc1 ! (λ l₄. alloc1 ! (λ l₅. alloc1 ! (λ l₆. alloc1 ! (λ l₇. alloc1 ! (λ l₈. alloc0 ! $ params1 ! $
-      pass1 ! (init ! 14 refl (tt, (tt, (record { fits = gn .0 }, tt)))) $ pass1 ! (init ! 12 refl (LL.lawful L.the-type L′.the-laws 𝓤 H A W .typed x _ is-x .0)) $ pass1 ! (init ! 10 refl (tt, record { fits = c-fits })) $ pass0 ! $
+      qed W ((‵ (flft κ q) ⊛ ‵ ftrue) ∷ ‵ (owns (MutSlice (named 0) κ R ∷ L.the-row ∷ usize ∷ []) a at) ∷ []) ∵
+      enter ! (𝓣 .C) (𝓣 .Λ) code.function (sliceVal (b, o) n ∷ w ∷ vint w64 c ∷ []) _ $
+      alloc1 ! (λ l₀. alloc1 ! (λ l₁.
+      alloc1 ! (λ l₂. alloc1 ! (λ l₃.
+      alloc1 ! (λ l₄. alloc1 ! (λ l₅. alloc1 ! (λ l₆. alloc1 ! (λ l₇. alloc1 ! (λ l₈. alloc0 ! $ params1 ! $
+      pass1 ! (init ! 14 refl (tt, (tt, (record { fits = gn .0 }, tt)))) $
+      pass1 ! (init ! 12 refl (LL.lawful L.the-type L′.the-laws 𝓤 H A W .typed x _ is-x .0)) $
+      pass1 ! (init ! 10 refl (tt, record { fits = c-fits })) $ pass0 ! $
       starts 𝓣 fm known (few .0) (few .1) l₀ l₁ l₂ l₃ l₄ l₅ l₆ l₇ l₈)))))))))
 
-module _ {M : Type 1} (𝓤 : URA M) (H : Heap 𝓤) (A : Atoms 𝓤) (W : Given 𝓤 H A) (at-mem : Memory → SProp 𝓤) (run : Routine → Fun 𝓤) (𝓣 : Tables 𝓤 H) (known : Triple 𝓤 (𝓣 .C #job-list·record-of) (RecordOf 𝓤 H A at-mem run)) where
+module _ {M : Type 1} (𝓤 : URA M) (H : Heap 𝓤) (A : Atoms 𝓤) (W : Given 𝓤 H A) (at-mem : Memory → SProp 𝓤)
+    (run : Routine → Fun 𝓤) (𝓣 : Tables 𝓤 H) (known : Triple 𝓤 (𝓣 .C #job-list·record-of) (RecordOf 𝓤 H A at-mem run)) where
   fill-walks : Walks 𝓤 H A fill.ended stayed (WpFn 𝓤 H (𝓣 .C) (𝓣 .Λ) code.function) (fill.clauses 𝓤 H A at-mem run)
   fill-walks = walked 𝓤 H A fill.ended stayed (fill.clauses 𝓤 H A at-mem run) (WpFn 𝓤 H (𝓣 .C) (𝓣 .Λ) code.function)
-      (λ κs. (slice-vals, (LL.vals L.the-type L′.the-laws, (uint-vals w64, tt)))) (λ κs. (mut-slice-tells (named 0) (κs .0) R, (LL.tells L.the-type L′.the-laws, (uint-tells w64, tt))))
+      (λ κs. (slice-vals, (LL.vals L.the-type L′.the-laws, (uint-vals w64, tt))))
+      (λ κs. (mut-slice-tells (named 0) (κs .0) R, (LL.tells L.the-type L′.the-laws, (uint-tells w64, tt))))
       (λ κs qs bounds a g are. needs 𝓤 ((a .1 .1 .0 ≤ 32) × (a .1 .1 .0 ≤ length (now (a .0)))) _
-      (walk 𝓤 H A W at-mem run (κs .0) (qs .0) (a .0 .ptr .0) (a .0 .ptr .1) (a .0 .name) (a .0 .now) (a .1 .0) (LL.val L.the-type L′.the-laws (a .1 .0)) (are .1 .0) (a .1 .1 .0) (are .1 .1 .0 .1) (are .0 .0 .1) 𝓣 (fmOf 𝓤 H (W .laws) 𝓣) known))
+      (walk 𝓤 H A W at-mem run (κs .0) (qs .0) (a .0 .ptr .0) (a .0 .ptr .1) (a .0 .name) (a .0 .now) (a .1 .0)
+      (LL.val L.the-type L′.the-laws (a .1 .0)) (are .1 .0) (a .1 .1 .0) (are .1 .1 .0 .1) (are .0 .0 .1) 𝓣
+      (fmOf 𝓤 H (W .laws) 𝓣) known))
 
   fill-meets : Meets 𝓤 H A fill.signature (WpFn 𝓤 H (𝓣 .C) (𝓣 .Λ) code.function) (fill.spec 𝓤 H A at-mem run)
-  fill-meets = walk-meets 𝓤 H A fill.ended stayed W (goes-slice 𝓤 H A W 1 0 tt (plain (λ _. J.the-row)), (goes-none 𝓤 H A W 1 (λ _. L.the-row) yes (λ κs x f. refl), (goes-none 𝓤 H A W 1 (λ _. usize) yes (λ κs x f. refl), tt)))
+  fill-meets = walk-meets 𝓤 H A fill.ended stayed W (
+    goes-slice 𝓤 H A W 1 0 tt (plain (λ _. J.the-row)),
+    (goes-none 𝓤 H A W 1 (λ _. L.the-row) yes (λ κs x f. refl), (goes-none 𝓤 H A W 1 (λ _. usize) yes (λ κs x f. refl), tt)),
+  )
       (fill.clauses 𝓤 H A at-mem run) (WpFn 𝓤 H (𝓣 .C) (𝓣 .Λ) code.function) (WpFn-mono 𝓤 H (W .laws) 𝓣 code.function) fill-walks
 
 pub fill-spec : {M : Type 1} → stated.statement M
@@ -301,4 +351,5 @@ fill-spec 𝓤 H 𝓜 𝓖 𝓡 =
     entered 𝓤 H (tripleOf 𝓤 H (𝓖 .A) fill.signature (fill.spec 𝓤 H (𝓖 .A) (𝓜 .mem) (𝓡 .run)))
     (tables 𝓤 H 𝓜 𝓡 code.env .C) (tables 𝓤 H 𝓜 𝓡 code.env .Λ) #job-list·fill code.function (code.unfolded 𝓤 H 𝓜 𝓡)
     (fill-meets 𝓤 H (𝓖 .A) (givenOf 𝓤 H 𝓜 𝓖) (𝓜 .mem) (𝓡 .run) (tablesOf 𝓤 H 𝓜 (tables 𝓤 H 𝓜 𝓡 code.env))
-    (cited 𝓤 H (RecordOf 𝓤 H (𝓖 .A) (𝓜 .mem) (𝓡 .run)) 𝓜 𝓡 code.env #job-list·record-of record-of-def.routine code.calls-timing-acceptance·job-list·record-of (record-of-thm.met 𝓤 H 𝓜 𝓖 𝓡)))
+    (cited 𝓤 H (RecordOf 𝓤 H (𝓖 .A) (𝓜 .mem) (𝓡 .run)) 𝓜 𝓡 code.env #job-list·record-of record-of-def.routine
+    code.calls-timing-acceptance·job-list·record-of (record-of-thm.met 𝓤 H 𝓜 𝓖 𝓡)))

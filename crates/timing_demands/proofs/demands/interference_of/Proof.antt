@@ -80,7 +80,12 @@ loop-again c =
     let turn = c .before .before .before in (
       omega arith,
       omega (arith, term (c .before)),
-      λ t times. omega (arith, lent-step times (start .loop .k) (start .before .before .args .r) (turn .loop-test .taken) (c .before .rounded-up .ensures), start .loop .inv .2 t times),
+      λ t times. omega (
+        arith,
+        lent-step times (start .loop .k) (start .before .before .args .r)
+            (turn .loop-test .taken) (c .before .rounded-up .ensures),
+        start .loop .inv .2 t times,
+      ),
     )
 
 returns : tie.Need-returns Inv-loop μ-loop
@@ -88,7 +93,12 @@ unfolding tasksAbove
 returns c =
     let start = c .before in (
       omega arith,
-      λ t times. rw (← add-one) (omega (arith, lent-end times (start .loop .k) (start .before .before .args .r) (c .loop-test .left), start .loop .inv .2 t times)),
+      λ t times. rw (← add-one)
+          (omega (
+            arith,
+            lent-end times (start .loop .k) (start .before .before .args .r) (c .loop-test .left),
+            start .loop .inv .2 t times,
+          )),
     )
 
 pub interference-of-spec : {M : Type 1} → statement M

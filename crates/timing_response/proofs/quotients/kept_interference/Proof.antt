@@ -60,8 +60,12 @@ more c =
 -- and it is kept
 raised : (c : tie.After-passed Inv-loop μ-loop)
     → Kept (entry (head c) .args .executions .now) (entry (head c) .args .periods .now) (entry (head c) .args .tasks) (entry (head c) .args .r)
-    (set (head c .loop .ends) (head c .loop .k) (getD (head c .loop .ends) (head c .loop .k) 0 + c .passed .result * getD (entry (head c) .args .periods .now) (head c .loop .k) 0))
-    (set (head c .loop .busy) (head c .loop .k) (getD (head c .loop .busy) (head c .loop .k) 0 + c .passed .result * getD (entry (head c) .args .executions .now) (head c .loop .k) 0))
+    (set (head c .loop .ends) (head c .loop .k)
+    (getD (head c .loop .ends) (head c .loop .k) 0 + c .passed .result * getD (entry (head c) .args .periods .now)
+    (head c .loop .k) 0))
+    (set (head c .loop .busy) (head c .loop .k)
+    (getD (head c .loop .busy) (head c .loop .k) 0 + c .passed .result * getD
+    (entry (head c) .args .executions .now) (head c .loop .k) 0))
 raised c = kept-more (entry (head c) .pre .0) _ (below c) (head c .loop .inv .3) (c .passed .ensures .0) (c .passed .ensures .1)
 
 -- the new end fits

@@ -23,7 +23,10 @@ outcome-of-requires c κs = search needs
 
 -- from where the first state's end is known back to what was lent
 abbrev lentAt : tie.After-finished → tie.After-lend
-lentAt asked = asked .before .before .before .before .before .before .before .before
+lentAt asked =
+    let asked-place7 = asked .before .before .before .before .before .before .before in
+    let at-place = asked-place7 .before in
+    at-place
 
 returns : tie.Need-returns
 returns c =

@@ -103,7 +103,10 @@ module _ (t : ℕ) where
 
   -- from the loop's head back to the running job's task, and from there to the start
   abbrev ran : Head → Ran
-  ran head = head .before .before .before .before .before .before .before .before
+  ran head =
+      let head-place7 = head .before .before .before .before .before .before .before in
+      let at-place = head-place7 .before in
+      at-place
 
   abbrev begin : Head → Begin
   begin head = ran head .before .before
@@ -242,7 +245,10 @@ trial-walk-requires-2 t c κs =
 
 -- from where the walk of a move made on a copy is known back to where the next move is
 abbrev chosenOf : (t : ℕ) → trial-lts.After-walk2 (trial-claims t) (trial-at t) trial.Post trial-Inv-loop trial-μ-loop → Chosen t
-chosenOf t walked = walked .before .before .before .before .before .before .before .before
+chosenOf t walked =
+    let walked-place7 = walked .before .before .before .before .before .before .before in
+    let at-place = walked-place7 .before in
+    at-place
 
 trial-returns-3 : (t : ℕ) → trial-lts.Need-returns-3 (trial-claims t) (trial-at t) trial.Post trial-Inv-loop trial-μ-loop
 trial-returns-3 t c =
