@@ -90,19 +90,20 @@ pub fn position_of(s: &[u8; STATE], top: Task, i: Task) -> u16
 }
 
 // The first byte of a task from i on that is a start, or `NO_MOVE`, where `low` is the level that a start must reach.
+// That task is a plain number, as a level is: given a `Task` the compiler did not unroll the loop.
 pub fn start_from(
     program: &[u8; PROGRAM],
     waits: &[u8; WAITS],
     s: &[u8; STATE],
     low: u8,
-    i: Task,
+    i: u8,
 ) -> u8
-    requires { ⌜ IsState (now s) × (i .0 ≤ 8) ⌝ }
+    requires { ⌜ IsState (now s) × (i ≤ mostTasks) ⌝ }
     ensures { λ m. ⌜ ((locks : Ceilings) → low ≡ levelIn (now (program .entry)) locks (snapshotIn (now (s .entry)))
-        → low ≤ i .0
-        → NextStep (now (program .entry)) (now (waits .entry)) locks (snapshotIn (now (s .entry))) (16 * i .0) m) ⌝ }
+        → low ≤ i
+        → NextStep (now (program .entry)) (now (waits .entry)) locks (snapshotIn (now (s .entry))) (16 * i) m) ⌝ }
 {
-    let mut k = i.0;
+    let mut k = i;
     while k < MOST_TASKS {
         if may_start(program, waits, s, low, Task(k)) {
             let m = byte_from(program, Task(k), 0, 0);
@@ -157,5 +158,5 @@ pub fn next_move(
     if i.0 == top.0 {
         return start;
     }
-    start_from(program, waits, s, low, Task(i.0 + 1))
+    start_from(program, waits, s, low, i.0 + 1)
 }

@@ -12,7 +12,6 @@ use order_states::WAITS;
 use order_steps::make_move;
 use order_turns::precedence::level;
 use taskfile::Ceilings;
-use taskfile::Task;
 use taskfile::limits::LOCKS;
 use walk_moves::first_move;
 use walk_moves::next_move;
@@ -100,7 +99,7 @@ pub fn trial(
         },
         s,
     );
-    let start = start_from(program, waits, s, low, Task(low));
+    let start = start_from(program, waits, s, low, low);
     let mut at = first_move(program, s, top, start);
     while at < NO_MOVE {
         if allowance <= *count {

@@ -31,8 +31,8 @@ returns-2 c locks level first allowed =
     after-top _ _ locks _ (given .2) _ (given .1) allowed (placed .position-of .ensures) (ended .before .byte-from .ensures) (ended .if1 .left)
     (c .if2 .taken) first
 
-add-t10 : tie.Need-add-t10
-add-t10 c = omega arith
+add-start-from : tie.Need-add-start-from
+add-start-from c = omega arith
 
 start-from-requires : tie.Need-start-from-requires
 start-from-requires c κs =
@@ -57,6 +57,6 @@ next-move-spec =
     byte-from-requires
     returns
     returns-2
-    add-t10
+    add-start-from
     start-from-requires
     returns-3)
