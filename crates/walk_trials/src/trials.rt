@@ -12,6 +12,7 @@ use order_states::WAITS;
 use order_steps::make_move;
 use order_turns::precedence::level;
 use taskfile::Ceilings;
+use taskfile::Task;
 use taskfile::limits::LOCKS;
 use walk_moves::first_move;
 use walk_moves::next_move;
@@ -109,7 +110,7 @@ pub fn trial(
         path[LAST_STEP - left] = at;
         let after = next_move(program, waits, s, top, low, start, at);
         if NO_MOVE <= after {
-            make_move(program, s, top, at);
+            make_move(program, s, Task(top), at);
             return walk(
                 program,
                 waits,
@@ -123,7 +124,7 @@ pub fn trial(
             );
         }
         let mut next = *s;
-        make_move(program, &mut next, top, at);
+        make_move(program, &mut next, Task(top), at);
         let r = walk(
             program,
             waits,
