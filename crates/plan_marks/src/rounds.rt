@@ -10,7 +10,7 @@ use taskfile::limits::INSTRUCTIONS;
 use taskfile::limits::VARIABLES;
 use timing::Job;
 ghost use mathlib.Core.Path.{_≡_};
-ghost use Prim.Native.Nat.{_<_};
+ghost use Prim.Native.Nat.{_+_, _*_, _<_};
 ghost use lib.ListN.{length};
 ghost use Rattle.notation.specs.Lists.{same};
 ghost use Rattle.plan_marks.specs.Code.Marks.{storeAt, withStore, stepMarked, stepCount, withMark};
@@ -63,13 +63,21 @@ pub fn same_store(x: [u8; VARIABLES], y: [u8; VARIABLES]) -> bool
     true
 }
 
+// Where step n of job x stands in each part of the marks.
+fn step_index(x: Job, n: u8) -> usize
+    requires { ⌜ (x .0 < mostJobs) × (n < mostInstructions) ⌝ }
+    ensures { λ at. ⌜ at ≡ 16 * x .0 + n ⌝ }
+{
+    INSTRUCTIONS * (x.0 as usize) + (n as usize)
+}
+
 // Makes step n, with its round, its value and the priority after it, the last of job x.
 pub fn put_mark(marks: &mut [u8; MARKS], x: Job, n: u8, r: Round, value: u8, priority: u8)
     requires { ⌜ (length (now marks) ≡ 1568) × (x .0 < mostJobs) × (n < mostInstructions) ⌝ }
     ensures { λ _. ⌜ now (marks .exit) ≡ withMark (now (marks .entry)) (x .0) n
         (record { round = r; value = value; priorityAfter = priority }) ⌝ }
 {
-    let at = INSTRUCTIONS * (x.0 as usize) + (n as usize);
+    let at = step_index(x, n);
     marks[ROUNDS + at] = r.0;
     marks[CHOICES + at] = value;
     marks[PRIORITIES + at] = priority;
@@ -89,7 +97,7 @@ pub fn round_at(marks: &[u8; MARKS], x: Job, n: u8) -> Round
     requires { ⌜ (x .0 < mostJobs) × (n < mostInstructions) ⌝ }
     ensures { λ r. ⌜ r ≡ stepMarked (now (marks .entry)) (x .0) n .round ⌝ }
 {
-    Round(marks[ROUNDS + (INSTRUCTIONS * (x.0 as usize) + (n as usize))])
+    Round(marks[ROUNDS + step_index(x, n)])
 }
 
 // The value of step n of job x.
@@ -97,7 +105,7 @@ pub fn value_at(marks: &[u8; MARKS], x: Job, n: u8) -> u8
     requires { ⌜ (x .0 < mostJobs) × (n < mostInstructions) ⌝ }
     ensures { λ v. ⌜ v ≡ stepMarked (now (marks .entry)) (x .0) n .value ⌝ }
 {
-    marks[CHOICES + (INSTRUCTIONS * (x.0 as usize) + (n as usize))]
+    marks[CHOICES + step_index(x, n)]
 }
 
 // The priority of job x after its step n.
@@ -105,5 +113,5 @@ pub fn priority_after(marks: &[u8; MARKS], x: Job, n: u8) -> u8
     requires { ⌜ (x .0 < mostJobs) × (n < mostInstructions) ⌝ }
     ensures { λ p. ⌜ p ≡ stepMarked (now (marks .entry)) (x .0) n .priorityAfter ⌝ }
 {
-    marks[PRIORITIES + (INSTRUCTIONS * (x.0 as usize) + (n as usize))]
+    marks[PRIORITIES + step_index(x, n)]
 }

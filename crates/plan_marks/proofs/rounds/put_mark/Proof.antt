@@ -7,14 +7,8 @@ use borrow.Author.Needs.{needs}
 use Rattle.plan_marks.proofs.rounds.put_mark.Statement.{statement}
 use Rattle.plan_marks.proofs.rounds.put_mark.Tie as tie
 
-cast-at : tie.Need-cast-at
-cast-at c = search needs
-
-mul-at : tie.Need-mul-at
-mul-at c = search needs
-
-add-at : tie.Need-add-at
-add-at c = search needs
+step-index-requires : tie.Need-step-index-requires
+step-index-requires c κs = search needs
 
 add-marks : tie.Need-add-marks
 add-marks c = search needs
@@ -48,15 +42,13 @@ element-write-marks-4 c = search needs
 
 returns : tie.Need-returns
 unfolding withMark
-returns c = rw zero-add refl
+returns c = rw (c .before .step-index .ensures, zero-add) refl
 
 pub put-mark-spec : {M : Type 1} → statement M
 put-mark-spec =
     tie.close
     (tie.spec
-    cast-at
-    mul-at
-    add-at
+    step-index-requires
     add-marks
     element-write-marks
     add-marks-2

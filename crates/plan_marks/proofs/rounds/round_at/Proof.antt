@@ -7,24 +7,18 @@ use borrow.Author.Needs.{needs}
 use Rattle.plan_marks.proofs.rounds.round_at.Statement.{statement}
 use Rattle.plan_marks.proofs.rounds.round_at.Tie as tie
 
-cast-t4 : tie.Need-cast-t4
-cast-t4 c = search needs
+step-index-requires : tie.Need-step-index-requires
+step-index-requires c κs = search needs
 
-mul-t5 : tie.Need-mul-t5
-mul-t5 c = search needs
+add-t5 : tie.Need-add-t5
+add-t5 c = search needs
 
-add-t7 : tie.Need-add-t7
-add-t7 c = search needs
-
-add-t8 : tie.Need-add-t8
-add-t8 c = search needs
-
-element-copy-out-t11 : tie.Need-element-copy-out-t11
-element-copy-out-t11 c = search needs
+element-copy-out-t8 : tie.Need-element-copy-out-t8
+element-copy-out-t8 c = search needs
 
 returns : tie.Need-returns
 unfolding stepMarked
-returns c = rw zero-add refl
+returns c = rw (c .before .step-index .ensures, zero-add) refl
 
 pub round-at-spec : {M : Type 1} → statement M
-round-at-spec = tie.close (tie.spec cast-t4 mul-t5 add-t7 add-t8 element-copy-out-t11 returns)
+round-at-spec = tie.close (tie.spec step-index-requires add-t5 element-copy-out-t8 returns)
