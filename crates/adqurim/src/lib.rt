@@ -47,7 +47,8 @@ ghost use Rattle.matching.specs.ConversionEntries.{orderToPlanAnswer, orderToPl
 ghost use Rattle.matching.specs.ConversionEntries.{planToOrderAnswer, planToOrderAfter};
 ghost use Rattle.sheets.specs.Sheets.{sheetAnswer, sheetAfter};
 ghost use Rattle.texts.specs.TextEntries.{toFileAnswer, toFileAfter, toTextAnswer, toTextAfter};
-ghost use Rattle.adqurim_words.specs.Words.{wordsOfRead, wordsOfRun, wordsOfWalk, readWords, runWords, walkWords, filledWith};
+ghost use Rattle.adqurim_words.specs.Words.{wordsOfRead, wordsOfRun, wordsOfWalk, readWords, runWords, walkWords};
+ghost use Rattle.adqurim_words.specs.Words.{filledWith};
 ghost use Rattle.adqurim_words.specs.Words.{wordsOfList, wordsOfSheet, wordsOfWrite, listWords, sheetWords, writeWords};
 ghost use Rattle.writer.specs.WriteEntries.{tableAnswer, tableAfter};
 
@@ -200,9 +201,9 @@ pub extern "C" fn adqurim_sheet(file: &[u8], text: &mut [u8], answer: &mut [u64]
 }
 
 // The table's entry. Word 0 is the number, 1 to 11 for the file or 20 if the table is below 696 bytes, word 1 the
-// place, word 2 how many bytes were written, 696. The table's layout is the header's; a refusal leaves it as it was, and
-// bytes past it never change. It answers whether there was room for the words; without room nothing changes, the table
-// neither.
+// place, word 2 how many bytes were written, 696. The table's layout is the header's; a refusal leaves it as it was,
+// and bytes past it never change. It answers whether there was room for the words; without room nothing changes, the
+// table neither.
 #[no_mangle]
 pub extern "C" fn adqurim_table(file: &[u8], table: &mut [u8], answer: &mut [u64]) -> bool
     ensures room { λ r. ⌜ r ≡ leb wordsOfWrite (length (now (answer .entry))) ⌝ }

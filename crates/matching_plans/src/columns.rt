@@ -20,7 +20,8 @@ ghost use Rattle.timing.specs.Accepted.{mostJobs};
 // Writes the guesses of k rounds.
 pub fn put_guesses(guesses: &[u8; STORES], k: u8, at: usize, out: &mut [u8]) -> usize
     requires { ⌜ (length (now guesses) ≡ storesBytes) × (k ≤ mostJobs) × (planRoom ≤ length (now out)) ⌝ }
-    ensures { λ n. ⌜ Appends planRoom (now (out .entry)) at (take (8 * k) (now (guesses .entry))) (now (out .exit)) n ⌝ }
+    ensures { λ n. ⌜ Appends planRoom (now (out .entry)) at (take (8 * k) (now (guesses .entry)))
+        (now (out .exit)) n ⌝ }
 {
     let most = VARIABLES * (k as usize);
     let mut next = at;
@@ -35,7 +36,8 @@ pub fn put_guesses(guesses: &[u8; STORES], k: u8, at: usize, out: &mut [u8]) -> 
 // Writes the steps of job x: two bytes each, round and value.
 pub fn put_steps(marks: &[u8; MARKS], x: Job, at: usize, out: &mut [u8]) -> usize
     requires { ⌜ IsMarks (now marks) × (x .0 < mostJobs) × (planRoom ≤ length (now out)) ⌝ }
-    ensures { λ n. ⌜ Appends planRoom (now (out .entry)) at (jobColumn (now (marks .entry)) (x .0)) (now (out .exit)) n ⌝ }
+    ensures { λ n. ⌜ Appends planRoom (now (out .entry)) at (jobColumn (now (marks .entry)) (x .0))
+        (now (out .exit)) n ⌝ }
 {
     let count = count_at(marks, x);
     let mut next = at;
@@ -64,7 +66,8 @@ pub fn put_jobs(marks: &[u8; MARKS], k: u8, at: usize, out: &mut [u8]) -> usize
 
 // Writes a plan of k jobs at the front of the buffer: k, the guesses, the steps.
 pub fn put_plan(guesses: &[u8; STORES], marks: &[u8; MARKS], k: u8, out: &mut [u8]) -> usize
-    requires { ⌜ (length (now guesses) ≡ storesBytes) × IsMarks (now marks) × (k ≤ mostJobs) × (planRoom ≤ length (now out)) ⌝ }
+    requires { ⌜ (length (now guesses) ≡ storesBytes) × IsMarks (now marks) × (k ≤ mostJobs)
+        × (planRoom ≤ length (now out)) ⌝ }
     ensures { λ n. ⌜ Appends planRoom (now (out .entry)) 0
         (planIn (now (guesses .entry)) (now (marks .entry)) k) (now (out .exit)) n ⌝ }
 {

@@ -25,7 +25,8 @@ ghost use Prim.Native.Nat.{_≤_, _<_};
 ghost use lib.ListN.{length};
 ghost use Rattle.notation.specs.Lists.{bytesAt};
 ghost use Rattle.plan_marks.specs.Code.Marks.{IsMarks, storesBytes};
-ghost use Rattle.matching_plans.specs.Code.Tracing.{noteIn, guessIn, roundIn, notedOf, AreNoted, NotedStep, NotedOrder};
+ghost use Rattle.matching_plans.specs.Code.Tracing.{noteIn, guessIn, roundIn, notedOf, AreNoted, NotedStep};
+ghost use Rattle.matching_plans.specs.Code.Tracing.{NotedOrder};
 ghost use Rattle.taskfile.specs.Chains.{mostLocks};
 ghost use Rattle.timing.specs.Accepted.{mostJobs};
 

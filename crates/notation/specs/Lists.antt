@@ -1,12 +1,12 @@
 -- Short words for lists and choices that the definitions of every section use. How a definition is read:
 --   `f x y` is the function f of x and y; `(x : A) → B` says B of each x of A; `λ x. b` is the function that yields b
 --   `elim x [ p ↦ a | q ↦ b ]` is a where x has the form p, and b where it has the form q
---   `r .field` is a field of r; `i .0` is the number of a task, a job or a round, and `p .0`, `p .1` the parts of a pair
+--   `r .field` is a field of r; `i .0` is the number of a task, a job or a round, and `p .0`, `p .1` a pair's parts
 --   `[]`, `x ∷ xs`, `xs ++ ys` are no elements, x and then xs, xs and then ys; `getD xs k d` is element k, else d
 --   `A × B`, `A ⊎ B`, `A ↔ B` say both, one of the two, each if the other; `(x : A) × B` that B holds of some x of A
 --   `leb a b`, `ltb a b`, `eqb a b` test that a is at most b, below b, equal to b; `suc n` is one more than n
 --   `a - b` stops at zero, and `/` and `%` are the quotient and the rest
---   `unfoldable` is before a definition that a proof opens by name, `abbrev` before a short name that is its text everywhere
+--   `unfoldable` is before a definition that a proof opens by name, `abbrev` before a name that is its text everywhere
 --   "Assumes nothing" says that a file has no axiom: what it states is defined or proved
 -- Assumes nothing.
 use Prim.Native.Nat.{ℕ, zero, suc, max, _+_, _-_}

@@ -1,5 +1,5 @@
-// What is lent to the steps of an accepted table's orders, and to the runs of its plans: the table in arrays of numbers,
-// and the state that an order starts from.
+// What is lent to the steps of an accepted table's orders, and to the runs of its plans: the table in arrays of
+// numbers, and the state that an order starts from.
 pub mod filling;
 pub mod first;
 pub mod waits;

@@ -67,7 +67,8 @@ pub fn step_placed(program: &[u8; PROGRAM], s: &mut [u8; STATE], under: u8, i: T
 
 // Makes the step of the job in the frame, of task i, with the value v: it is placed, and steps there.
 pub fn step_with(program: &[u8; PROGRAM], s: &mut [u8; STATE], f: Frame, under: u8, i: Task, v: u8)
-    requires bounds { ⌜ (f .job .0 < mostJobs) × (f .local .next < mostInstructions) × (under < mostTasks) × (i .0 < mostTasks) ⌝ }
+    requires bounds { ⌜ (f .job .0 < mostJobs) × (f .local .next < mostInstructions) × (under < mostTasks)
+        × (i .0 < mostTasks) ⌝ }
     requires states { ⌜ IsState (now s) × LocksWithin (f .local) ⌝ }
     ensures made { λ _. ⌜ snapshotIn (now (s .exit))
         ≡ madeIn (now (program .entry)) (snapshotIn (now (s .entry))) f under (i .0) v ⌝ }

@@ -16,7 +16,7 @@ ghost use Rattle.notation.specs.Lists.{same};
 ghost use Rattle.plan_marks.specs.Code.Marks.{storeAt, withStore, stepMarked, stepCount, withMark};
 ghost use Rattle.taskfile.specs.Chains.{mostInstructions};
 ghost use Rattle.timing.specs.Accepted.{mostJobs};
-ghost use Rattle.plan_marks.specs.Code.Marks.{storesBytes};
+ghost use Rattle.plan_marks.specs.Code.Marks.{storesBytes, markBytes};
 
 // The store of round r.
 pub fn store_of(stores: &[u8; STORES], r: Round) -> [u8; VARIABLES]
@@ -73,7 +73,7 @@ fn step_index(x: Job, n: u8) -> usize
 
 // Makes step n, with its round, its value and the priority after it, the last of job x.
 pub fn put_mark(marks: &mut [u8; MARKS], x: Job, n: u8, r: Round, value: u8, priority: u8)
-    requires { ⌜ (length (now marks) ≡ 1568) × (x .0 < mostJobs) × (n < mostInstructions) ⌝ }
+    requires { ⌜ (length (now marks) ≡ markBytes) × (x .0 < mostJobs) × (n < mostInstructions) ⌝ }
     ensures { λ _. ⌜ now (marks .exit) ≡ withMark (now (marks .entry)) (x .0) n
         (record { round = r; value = value; priorityAfter = priority }) ⌝ }
 {

@@ -15,7 +15,8 @@ ghost use mathlib.Core.Path.{_≡_};
 ghost use Prim.Native.Nat.{_<_};
 ghost use Rattle.plan.specs.Runs.{earlier};
 ghost use Rattle.plan_marks.specs.Code.Marks.{IsMarks};
-ghost use Rattle.plan_marks.specs.Code.PairParts.{roundOfStart, roundOfEnd, beforeKept, roundsApart, roundsNested, noneWithin};
+ghost use Rattle.plan_marks.specs.Code.PairParts.{roundOfStart, roundOfEnd, beforeKept, roundsApart, roundsNested};
+ghost use Rattle.plan_marks.specs.Code.PairParts.{noneWithin};
 ghost use Rattle.plan_marks.specs.Code.PairParts.{preemptKept, priorityReached, lockKept, orderFaulty, lockFaulty};
 ghost use Rattle.timing.specs.Accepted.{mostJobs};
 

@@ -87,7 +87,8 @@ pub fn run_job(
     stores: &mut [u8; STORES],
     marks: &mut [u8; MARKS],
 ) -> JobRan
-    requires bounds { ⌜ (locks .count ≤ mostLocks) × (k ≤ mostJobs) × (x .0 < mostJobs) × (start + 2 * mostInstructions ≤ planRoom) ⌝ }
+    requires bounds { ⌜ (locks .count ≤ mostLocks) × (k ≤ mostJobs) × (x .0 < mostJobs)
+        × (start + 2 * mostInstructions ≤ planRoom) ⌝ }
     requires arrays { ⌜ (length (now stores) ≡ storesBytes) × IsMarks (now marks) ⌝ }
     ensures { λ r. ⌜ JobRanOf (now (program .entry)) locks (now (plan .entry)) k (x .0) start
         (now (stores .entry)) (now (marks .entry)) (now (stores .exit)) (now (marks .exit)) r ⌝ }

@@ -25,7 +25,7 @@ ghost use Rattle.machine.specs.Code.Within.{LocksWithin};
 ghost use Rattle.machine.specs.Held.{priority};
 ghost use Rattle.machine.specs.Instructions.{perform};
 ghost use Rattle.plan.specs.Runs.{roundAt};
-ghost use Rattle.plan_marks.specs.Code.Marks.{faultOf, storeAt, withStore, withMark, storesBytes};
+ghost use Rattle.plan_marks.specs.Code.Marks.{faultOf, storeAt, withStore, withMark, storesBytes, markBytes};
 ghost use Rattle.plan.specs.Runs.{stepBytesFor};
 ghost use Rattle.timing.specs.Accepted.{mostJobs};
 ghost use Rattle.taskfile.specs.Chains.{mostInstructions, mostLocks};
@@ -88,7 +88,8 @@ pub fn mark_step(
     marks: &mut [u8; MARKS],
 ) -> Round
     requires bytes { ⌜ offset + 1 < length (now plan) ⌝ }
-    requires bounds { ⌜ (locks .count ≤ mostLocks) × (x .0 < mostJobs) × (n < mostInstructions) × (length (now marks) ≡ 1568) ⌝ }
+    requires bounds { ⌜ (locks .count ≤ mostLocks) × (x .0 < mostJobs) × (n < mostInstructions)
+        × (length (now marks) ≡ markBytes) ⌝ }
     ensures round { λ r. ⌜ r ≡ roundAt (now (plan .entry)) offset ⌝ }
     ensures marks { λ _. ⌜ now (marks .exit) ≡ withMark (now (marks .entry)) (x .0) n (record {
       round = roundAt (now (plan .entry)) offset;

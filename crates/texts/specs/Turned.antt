@@ -1,5 +1,5 @@
--- What the program `texts_program` prints: it reads a file or a text, and prints the other form, or the line of a refusal.
--- Document 02, E5: "Depot engineers exchange tables by mail and read records badly. .. Convert both ways."
+-- What the program `texts_program` prints: it reads a file or a text, and prints the other form, or the line of a
+-- refusal. Document 02, E5: "Depot engineers exchange tables by mail and read records badly. .. Convert both ways."
 -- Assumes nothing.
 use Prim.Native.Nat.{ℕ}
 use mathlib.Core.Bool.{Bool}

@@ -31,8 +31,8 @@ const SHORT_ITERATION: u8 = 16;
 
 // The response time of task i, if it is at most the period. No interval shorter than the start can be a solution:
 // each solution R has R × (whole − part) ≥ own × whole, where the tasks above need part of whole.
-// Where `fit` says that the tasks above all meet their periods where none waits, what a short iteration leaves is found by
-// halving.
+// Where `fit` says that the tasks above all meet their periods where none waits, what a short iteration leaves is
+// found by halving.
 pub fn response_of(
     t: Table,
     executions: &[u64; TASKS],

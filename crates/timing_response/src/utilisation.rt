@@ -26,7 +26,8 @@ pub fn common_divisor(a: u64, b: u64) -> u64
     x
 }
 
-// The utilisation with a task more that needs c of every p, rounded down to a number of parts of which c times as many fit.
+// The utilisation with a task more that needs c of every p, rounded down to a number of parts of which c times as
+// many fit.
 pub fn with_rounded(s: Utilisation, c: u64, p: u64, cap: u64) -> Utilisation
     requires { ⌜ SumFits s c p cap ⌝ }
     ensures { λ r. ⌜ WithTask s c p cap r ⌝ }

@@ -1,5 +1,5 @@
-// Quotients rounded up, each by one division and without a branch: of times, which fit 32 bits, and of parts of a utilisation
-// of the processor, which need not.
+// Quotients rounded up, each by one division and without a branch: of times, which fit 32 bits, and of parts of a
+// utilisation, which need not.
 ghost use mathlib.Core.Path.{_≡_};
 ghost use Prim.Native.Nat.{_^_, _≤_, _<_};
 ghost use Rattle.timing.specs.Response.{roundedUp};

@@ -35,8 +35,8 @@ pub record Begins (xs ys : List ℕ) : Type 0 where
 abbrev pub Sooner : List ℕ → List ℕ → Type 0
 Sooner xs ys = Begins xs ys ⊎ BranchesLower xs ys
 
--- the paths of the tree's moves, depth first: each move's own, then those below it with its byte in front, then those of
--- the moves not tried yet
+-- the paths of the tree's moves, depth first: each move's own, then those below it with its byte in front, then those
+-- of the moves not tried yet
 unfoldable pub pathsOf : Tree → List (List ℕ)
 pathsOf (ended s) = []
 pathsOf tried = []

@@ -1,6 +1,6 @@
--- The tree of moves. Document 01, "Orders of steps": the walk "goes depth first", "each move of the tree once". The tree
--- is as deep as an order may be long; `left` counts the steps that may still come. The complete orders, the walk and
--- the paths of its moves are three readings of it (`Walks`, `Paths`).
+-- The tree of moves. Document 01, "Orders of steps": the walk "goes depth first", "each move of the tree once". The
+-- tree is as deep as an order may be long; `left` counts the steps that may still come. The complete orders, the walk
+-- and the paths of its moves are three readings of it (`Walks`, `Paths`).
 -- Assumes nothing.
 use Prim.Native.Nat.{ℕ, zero, suc}
 use mathlib.Core.Bool.{true, false}

@@ -27,7 +27,8 @@ ghost use Prim.Native.Nat.{ℕ, _+_, _*_, _≤_, _<_};
 ghost use Rattle.taskfile.specs.declared.Ceilings.{Ceilings};
 ghost use Rattle.order_states.specs.Code.SnapshotSteps.{levelIn, stepIn};
 ghost use Rattle.order_states.specs.Code.StateBytes.{snapshotIn, IsState};
-ghost use Rattle.walk_moves.specs.Code.MoveParts.{NextStep, FirstStart, StepOf, firstFrom, positionIn, runningTask};
+ghost use Rattle.walk_moves.specs.Code.MoveParts.{NextStep, FirstStart, StepOf, firstFrom, positionIn};
+ghost use Rattle.walk_moves.specs.Code.MoveParts.{runningTask};
 ghost use Rattle.taskfile.specs.Chains.{mostTasks};
 
 // The first value from v on that is on offer at an instruction, or `VALUES`. None above 15 fits an order's byte.

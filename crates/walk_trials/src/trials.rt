@@ -28,7 +28,8 @@ ghost use Rattle.order.specs.Orders.{mostSteps};
 ghost use Rattle.taskfile.specs.Chains.{mostLocks};
 
 // The walk of a state, on a path with room for `left` more bytes, when `count` moves were made before. It answers the
-// length of the failing order found, `WALK_HELD` or `WALK_STOPPED`, and leaves the moves made and the order's end state.
+// length of the failing order found, `WALK_HELD` or `WALK_STOPPED`, and leaves the moves made and the order's end
+// state.
 pub fn walk(
     program: &[u8; PROGRAM],
     waits: &[u8; WAITS],
