@@ -9,6 +9,7 @@ use plan_marks::MARKS;
 use plan_marks::rounds::count_at;
 use plan_marks::rounds::round_at;
 use plan_marks::rounds::value_at;
+use taskfile::Task;
 use timing::Job;
 ghost use mathlib.Core.Path.{_≡_};
 ghost use Prim.Native.Nat.{_≤_, _<_};
@@ -20,13 +21,13 @@ ghost use Rattle.machine.specs.Buffers.{orderRoom};
 ghost use Rattle.timing.specs.Accepted.{mostJobs};
 
 // The order byte of a task and a value. No task or value of an accepted table is above 15.
-pub fn order_byte(task: u8, value: u8) -> u8
-    ensures { λ r. ⌜ r ≡ writtenByte task value ⌝ }
+pub fn order_byte(task: Task, value: u8) -> u8
+    ensures { λ r. ⌜ r ≡ writtenByte (task .0) value ⌝ }
 {
-    if VALUES <= task || VALUES <= value {
+    if VALUES <= task.0 || VALUES <= value {
         return 0;
     }
-    VALUES * task + value
+    VALUES * task.0 + value
 }
 
 // Writes the bytes of job x in round r.
@@ -52,7 +53,7 @@ pub fn put_job(
                 out,
                 ORDER_ROOM,
                 next,
-                order_byte(task, value_at(marks, x, n)),
+                order_byte(Task(task), value_at(marks, x, n)),
             );
         }
         n += 1;

@@ -1,5 +1,7 @@
-//! The documents for readers: each name that they cite stands in the tree, and no line is too long.
+//! The documents for readers: each name that they cite stands in the tree, no line is too long, and the picture of
+//! the house is up to date.
 
+mod house;
 mod lines;
 mod names;
 mod spans;
