@@ -19,10 +19,10 @@ mul-result : tie.Need-mul-result
 mul-result c = search needs
 
 add-result : tie.Need-add-result
-add-result c = omega (arith, leb-false _ (c .before .before .args .value) (c .if2 .left))
+add-result c = omega (arith, leb-false _ (c .before .before .before .before .args .value) (c .before .if2 .left))
 
 returns-2 : tie.Need-returns-2
-returns-2 c = sym (byte-small _ _ (c .before .if1 .left) (leb-false _ _ (c .if2 .left)))
+returns-2 c = sym (byte-small _ _ (c .before .before .if1 .left) (leb-false _ _ (c .before .if2 .left)))
 
 pub order-byte-spec : {M : Type 1} → statement M
 order-byte-spec = tie.close (tie.spec returns mul-result add-result returns-2)
