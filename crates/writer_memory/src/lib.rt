@@ -11,6 +11,7 @@ use taskfile::limits::VARIABLES;
 use taskfile_records::records::empty_task;
 use taskfile_records::records::end_instruction;
 use writer::TABLE_ROOM;
+use writer::places;
 use writer_layout::wides::put_wide;
 ghost use mathlib.Core.Path.{_≡_};
 ghost use Prim.Native.Nat.{_+_, _≤_, _<_};
@@ -65,7 +66,7 @@ fn holdings_in(memory: &[u8]) -> [u32; LOCKS]
     let mut holdings = [0u32; LOCKS];
     let mut l: usize = 0;
     while l < LOCKS {
-        holdings[l] = wide_in(memory, writer::HOLDINGS + writer::HOLDING * l);
+        holdings[l] = wide_in(memory, places::HOLDINGS + places::HOLDING * l);
         l += 1;
     }
     holdings
@@ -76,10 +77,10 @@ fn instruction_in(memory: &[u8], at: usize) -> Instruction
     ensures { λ x. ⌜ x ≡ instructionIn (now (memory .entry)) at ⌝ }
 {
     Instruction {
-        operation: byte_in(memory, at + writer::OPERATION),
-        a: byte_in(memory, at + writer::FIELD_A),
-        b: byte_in(memory, at + writer::FIELD_B),
-        c: byte_in(memory, at + writer::FIELD_C),
+        operation: byte_in(memory, at + places::OPERATION),
+        a: byte_in(memory, at + places::FIELD_A),
+        b: byte_in(memory, at + places::FIELD_B),
+        c: byte_in(memory, at + places::FIELD_C),
     }
 }
 
@@ -91,14 +92,14 @@ fn entry_in(memory: &[u8], at: usize) -> TaskEntry
     let mut body = [end; INSTRUCTIONS];
     let mut p: usize = 0;
     while p < INSTRUCTIONS {
-        body[p] = instruction_in(memory, at + writer::BODY + writer::INSTRUCTION * p);
+        body[p] = instruction_in(memory, at + places::BODY + places::INSTRUCTION * p);
         p += 1;
     }
     TaskEntry {
-        execution: wide_in(memory, at + writer::EXECUTION),
-        period: wide_in(memory, at + writer::PERIOD),
-        arrival: wide_in(memory, at + writer::ARRIVAL),
-        length: byte_in(memory, at + writer::LENGTH),
+        execution: wide_in(memory, at + places::EXECUTION),
+        period: wide_in(memory, at + places::PERIOD),
+        arrival: wide_in(memory, at + places::ARRIVAL),
+        length: byte_in(memory, at + places::LENGTH),
         body: body,
     }
 }
@@ -112,16 +113,16 @@ pub fn table_in(memory: &[u8]) -> Table
     let mut entries = [none; TASKS];
     let mut i: usize = 0;
     while i < TASKS {
-        entries[i] = entry_in(memory, writer::ENTRIES + writer::ENTRY * i);
+        entries[i] = entry_in(memory, places::ENTRIES + places::ENTRY * i);
         i += 1;
     }
     Table {
-        window: wide_in(memory, writer::WINDOW),
-        store: eight_in(memory, writer::STORE),
-        tasks: byte_in(memory, writer::TASKS),
+        window: wide_in(memory, places::WINDOW),
+        store: eight_in(memory, places::STORE),
+        tasks: byte_in(memory, places::TASKS),
         entries: entries,
-        locks: byte_in(memory, writer::LOCKS),
-        ceilings: eight_in(memory, writer::CEILINGS),
+        locks: byte_in(memory, places::LOCKS),
+        ceilings: eight_in(memory, places::CEILINGS),
         holdings: holdings_in(memory),
     }
 }
