@@ -7,19 +7,12 @@ use sheets_printing::then_number;
 use taskfile::Instruction;
 use taskfile::TaskEntry;
 use taskfile::limits::VARIABLES;
-use taskfile::operations::ACQUIRE;
-use taskfile::operations::ADD;
-use taskfile::operations::ASSERT;
-use taskfile::operations::LOAD;
-use taskfile::operations::PICK;
-use taskfile::operations::RELEASE;
-use taskfile::operations::SET;
-use taskfile::operations::SKIP_EQUAL;
-use taskfile::operations::SKIP_LESS;
-use taskfile::operations::STORE;
-use taskfile::operations::SUBTRACT;
 use texts::Form;
+use texts_reading::line_forms::NAME_LENGTHS;
+use texts_reading::line_forms::NAME_WIDTH;
+use texts_reading::line_forms::NAMES;
 use texts_reading::line_forms::field_count;
+use texts_reading::line_forms::operation_row;
 use writer::Lock;
 ghost use mathlib.Core.List.{[], _∷_};
 ghost use Rattle.texts.specs.declared.Form.the-variants.{WindowLine, StartLine, TaskLine, InstructionLine};
@@ -32,20 +25,10 @@ pub fn put_name(operation: u8, at: usize, out: &mut [u8]) -> usize
     ensures { λ n. ⌜ PutsText (now (out .entry)) at (rowOf (InstructionLine operation) .word)
         (now (out .exit)) n ⌝ }
 {
-    match operation {
-        LOAD => put_word(b"load", at, out),
-        STORE => put_word(b"store", at, out),
-        SET => put_word(b"set", at, out),
-        ADD => put_word(b"add", at, out),
-        SUBTRACT => put_word(b"subtract", at, out),
-        SKIP_LESS => put_word(b"less", at, out),
-        SKIP_EQUAL => put_word(b"equal", at, out),
-        PICK => put_word(b"pick", at, out),
-        ACQUIRE => put_word(b"acquire", at, out),
-        RELEASE => put_word(b"release", at, out),
-        ASSERT => put_word(b"assert", at, out),
-        _ => put_word(b"end", at, out),
-    }
+    let row = operation_row(operation);
+    let start = NAME_WIDTH * row;
+    let end = start + NAME_LENGTHS[row];
+    put_word(&NAMES[start..end], at, out)
 }
 
 // Writes an instruction's line: `load 0 1`.

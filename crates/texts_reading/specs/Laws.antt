@@ -5,6 +5,7 @@ pub mod FormNamedLaws
 pub mod FormReadLaws
 pub mod NamedLineLaws
 pub mod NumeralsLaws
+pub mod OperationNameLaws
 pub mod PartEndLaws
 pub mod RowOfLaws
 pub mod WordLaws

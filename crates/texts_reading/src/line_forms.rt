@@ -2,7 +2,6 @@
 use crate::numerals::is_word;
 use taskfile::limits::MOST_OPERATIONS;
 use taskfile::limits::OPERATIONS;
-use taskfile::operations;
 use texts::Form;
 use texts::NUMBERS;
 use texts::Named;
@@ -27,6 +26,14 @@ pub const IN_BODY: u8 = 3;
 
 pub const AT_LOCKS: u8 = 4;
 
+// The operations' names in the order of their numbers, each with spaces after it, and how long each is.
+pub const NAME_WIDTH: usize = 8;
+
+pub const NAMES: [u8; NAME_WIDTH * OPERATIONS] =
+    *b"end     load    store   set     add     subtractless    equal   pick    acquire release assert  ";
+
+pub const NAME_LENGTHS: [usize; OPERATIONS] = [3, 4, 5, 3, 3, 8, 4, 5, 4, 7, 7, 6];
+
 // How many fields a line has.
 const WINDOW_FIELDS: usize = 1;
 
@@ -42,24 +49,22 @@ const BYTE_FIELD: u64 = 256;
 
 const WIDE_FIELD: u64 = 4294967296;
 
+// The row of an operation in the tables above: End's past the operations.
+pub fn operation_row(operation: u8) -> usize
+    ensures { λ n. ⌜ (n < 12) × (rowOf (Form.InstructionLine n) ≡ rowOf (Form.InstructionLine operation)) ⌝ }
+{
+    let o = operation as usize;
+    if o < OPERATIONS { o } else { 0 }
+}
+
 // Is a word the name of an operation? The name is that of End past the operations.
 fn is_operation(word: &[u8], operation: u8) -> bool
     ensures { λ b. ⌜ b ≡ same (rowOf (Form.InstructionLine operation) .word) (now (word .entry)) ⌝ }
 {
-    match operation {
-        operations::LOAD => is_word(word, b"load"),
-        operations::STORE => is_word(word, b"store"),
-        operations::SET => is_word(word, b"set"),
-        operations::ADD => is_word(word, b"add"),
-        operations::SUBTRACT => is_word(word, b"subtract"),
-        operations::SKIP_LESS => is_word(word, b"less"),
-        operations::SKIP_EQUAL => is_word(word, b"equal"),
-        operations::PICK => is_word(word, b"pick"),
-        operations::ACQUIRE => is_word(word, b"acquire"),
-        operations::RELEASE => is_word(word, b"release"),
-        operations::ASSERT => is_word(word, b"assert"),
-        _ => is_word(word, b"end"),
-    }
+    let row = operation_row(operation);
+    let start = NAME_WIDTH * row;
+    let end = start + NAME_LENGTHS[row];
+    is_word(word, &NAMES[start..end])
 }
 
 // The form of an instruction by its name.
@@ -99,12 +104,8 @@ pub fn form_named(word: &[u8]) -> Named
 fn operation_fields(operation: u8) -> usize
     ensures { λ n. ⌜ n ≡ length (rowOf (Form.InstructionLine operation) .fields) ⌝ }
 {
-    let o = operation as usize;
-    if o < OPERATIONS {
-        OPERATION_FIELDS[o]
-    } else {
-        0
-    }
+    let row = operation_row(operation);
+    OPERATION_FIELDS[row]
 }
 
 // How many fields a line of a form has.

@@ -1,37 +1,19 @@
--- Laws of a text's lines as they are written: an operation's name, and an instruction's line from its parts.
+-- Laws of a text's lines as they are written: an instruction's line from its three parts.
 -- Assumes nothing.
-use mathlib.Core.Path.{_≡_, sym, ap, subst}
+use mathlib.Core.Path.{_≡_, ap}
 use Prim.Native.Nat.{ℕ}
 use mathlib.Core.List.{List, [], _∷_}
 use lib.ListN.{length, take}
 use Rattle.notation.specs.Letters.{newline}
 use Rattle.notation.specs.Texts.{Text}
 use Rattle.taskfile.specs.declared.Instruction.{Instruction}
-use Rattle.machine.specs.Laws.InstructionLaws.{NoneTo}
 use Rattle.texts.specs.declared.Form.the-variants.{InstructionLine}
-use Rattle.texts.specs.Grammar.{Row, lineText, rowOf}
+use Rattle.texts.specs.Grammar.{lineText, rowOf}
 use Rattle.texts.specs.TextTables.{instructionLine}
 use Rattle.sheets_printing.specs.Code.Puts.{PutsText}
 use Rattle.sheets_printing.specs.Code.Spaced.{spacedNumbers}
 use Rattle.sheets_printing.specs.Laws.LineLaws.{puts-same}
 use Rattle.sheets_printing.specs.Laws.SpacedLaws.{numbers-put}
-use Rattle.texts_reading.specs.Laws.RowOfLaws.{operation-else}
-
--- ---- an operation's name: that of its number, and End's of every other number
-
-pub name-put : (o : ℕ) {operation : ℕ} {before : Text} {at : ℕ} {after : Text} {n : ℕ} → operation ≡ o
-    → PutsText before at (rowOf (InstructionLine o) .word) after n
-    → PutsText before at (rowOf (InstructionLine operation) .word) after n
-name-put o {operation} {before} {at} {after} {n} is puts =
-    subst (λ (j : ℕ). PutsText before at (rowOf (InstructionLine j) .word) after n) (sym is) puts
-
-pub name-else : {operation : ℕ} {before : Text} {at : ℕ} {after : Text} {n : ℕ} → NoneTo 11 operation
-    → PutsText before at (rowOf (InstructionLine 0) .word) after n
-    → PutsText before at (rowOf (InstructionLine operation) .word) after n
-name-else {operation} {before} {at} {after} {n} none puts =
-    subst (λ (r : Row). PutsText before at (r .word) after n) (sym (operation-else operation none)) puts
-
--- ---- an instruction's line, from its three parts
 
 pub instruction-line-put : (i : Instruction) {used : ℕ} {before : Text} {at : ℕ} {one : Text} {l : ℕ} {two : Text}
     {m : ℕ} {after : Text} {n : ℕ}

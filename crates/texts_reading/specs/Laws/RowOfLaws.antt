@@ -2,18 +2,16 @@
 -- limits.
 -- Assumes nothing.
 use mathlib.Core.Path.{_≡_, refl, sym, ap, _∙_}
-use Prim.Native.Nat.{ℕ, zero, suc, _≤_, _<_}
+use Prim.Native.Nat.{ℕ, _≤_, _<_}
 use native.Mathlib.Omega.{arith}
 use mathlib.Core.Bool.{true, false}
 use mathlib.Core.List.{map}
 use lib.Dec.{leb, eqb}
 use lib.ListN.{length, getD, List·getD-eq-default, List·getD-map}
 use borrow.Author.Tests.{eqb-true, le-leb, lt-leb}
-use Rattle.notation.specs.Lists.{all, same}
+use Rattle.notation.specs.Lists.{all}
 use Rattle.notation.specs.Laws.QuantifierLaws.{all-at}
 use Rattle.notation.specs.Laws.TestLaws.{and-first, and-second}
-use Rattle.notation.specs.Texts.{Text}
-use Rattle.machine.specs.Laws.InstructionLaws.{NoneTo}
 use Rattle.texts.specs.declared.Form.{Form}
 use Rattle.texts.specs.declared.Form.the-variants.{WindowLine, StartLine, TaskLine, InstructionLine, LockLine}
 use Rattle.texts.specs.Grammar.{Row, rowOf, mayCome, operationRows, byteField, wideField}
@@ -22,38 +20,17 @@ use Rattle.texts.specs.Laws.RowLaws.{usedOf, used-bytes, used-few}
 -- ---- the operations
 
 -- End's row past the operations
-operation-past : (o : ℕ) → length operationRows ≤ o → rowOf (InstructionLine o) ≡ rowOf (InstructionLine 0)
+pub operation-past : (o : ℕ) → 12 ≤ o → rowOf (InstructionLine o) ≡ rowOf (InstructionLine 0)
 unfolding rowOf operationRows
 operation-past o past = List·getD-eq-default operationRows _ past
 
-none-reaches : (n o : ℕ) → 1 ≤ o → NoneTo n o → n < o
-none-reaches zero o some none = some
-none-reaches (suc n) o some none = omega (arith, none-reaches n o some (none .0))
-
--- and so of every number that is none of 1 to 11
-pub operation-else : (o : ℕ) → NoneTo 11 o → rowOf (InstructionLine o) ≡ rowOf (InstructionLine 0)
-unfolding operationRows
-operation-else zero none = refl
-operation-else (suc o) none = operation-past (suc o) (none-reaches 11 (suc o) (omega arith) none)
-
--- the word of an operation by its number, and that of every other number
-pub operation-word : (o k : ℕ) (word : Text) → o ≡ k
-    → same (rowOf (InstructionLine k) .word) word ≡ same (rowOf (InstructionLine o) .word) word
-operation-word o k word e = ap (λ (i : ℕ). same (rowOf (InstructionLine i) .word) word) (sym e)
-
-pub operation-other : (o : ℕ) (word : Text) → NoneTo 11 o
-    → same (rowOf (InstructionLine 0) .word) word ≡ same (rowOf (InstructionLine o) .word) word
-operation-other o word none = ap (λ (r : Row). same (r .word) word) (sym (operation-else o none))
-
 -- how many fields each has, as an array
-pub operation-counts : (o : ℕ)
-    → getD (map (λ r. length (r .fields)) operationRows) o 0 ≡ length (rowOf (InstructionLine o) .fields)
+pub operation-counts : (o operation : ℕ)
+    → (o < 12) × (rowOf (InstructionLine o) ≡ rowOf (InstructionLine operation))
+    → getD (map (λ r. length (r .fields)) operationRows) o 0 ≡ length (rowOf (InstructionLine operation) .fields)
 unfolding rowOf
-operation-counts o = List·getD-map (λ (r : Row). length (r .fields)) operationRows o _
-
-pub fields-past : (o : ℕ) → 12 ≤ o → 0 ≡ length (rowOf (InstructionLine o) .fields)
-unfolding rowOf operationRows
-fields-past o past = sym (ap (λ (r : Row). length (r .fields)) (operation-past o past))
+operation-counts o operation found =
+    List·getD-map (λ (r : Row). length (r .fields)) operationRows o _ ∙ ap (λ (r : Row). length (r .fields)) (found .1)
 
 -- ---- the forms
 
