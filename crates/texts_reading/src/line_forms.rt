@@ -12,7 +12,7 @@ ghost use Rattle.notation.specs.Lists.{same};
 ghost use Rattle.texts.specs.Grammar.{rowOf, mayCome, fits};
 ghost use Rattle.texts.specs.Reading.{formNamed};
 ghost use Rattle.texts.specs.Code.LineParts.{namedOf};
-ghost use Rattle.texts_reading.specs.Code.FormParts.{operationNamed};
+ghost use Rattle.texts_reading.specs.Code.FormParts.{formNumber, operationNamed};
 
 // How far a text has come: the window is due; the start values are due; a task or a lock may come; after a task line,
 // an instruction too; after a lock, locks alone.
@@ -25,6 +25,16 @@ pub const AT_TASKS: u8 = 2;
 pub const IN_BODY: u8 = 3;
 
 pub const AT_LOCKS: u8 = 4;
+
+// The first and the last stage at which a line may come, and the stage after it: of the window's line, the start
+// values', a task's, an instruction's and a lock's.
+const FORMS: usize = 5;
+
+const EARLIEST: [u8; FORMS] = [AT_WINDOW, AT_START, AT_TASKS, IN_BODY, AT_TASKS];
+
+const LATEST: [u8; FORMS] = [AT_WINDOW, AT_START, IN_BODY, IN_BODY, AT_LOCKS];
+
+const STAGE_AFTER: [u8; FORMS] = [AT_START, AT_TASKS, IN_BODY, IN_BODY, AT_LOCKS];
 
 // The operations' names in the order of their numbers, each with spaces after it, and how long each is.
 pub const NAME_WIDTH: usize = 8;
@@ -121,30 +131,33 @@ pub fn field_count(form: Form) -> usize
     }
 }
 
+// The number of a form in the tables of the stages.
+fn form_number(form: Form) -> usize
+    ensures { λ n. ⌜ (n < 5) × (n ≡ formNumber form) ⌝ }
+{
+    match form {
+        Form::WindowLine => 0,
+        Form::StartLine => 1,
+        Form::TaskLine => 2,
+        Form::InstructionLine(_) => 3,
+        Form::LockLine => 4,
+    }
+}
+
 // The first stage at which a line of a form may come.
 fn earliest(form: Form) -> u8
     ensures { λ n. ⌜ n ≡ rowOf form .earliest ⌝ }
 {
-    match form {
-        Form::WindowLine => AT_WINDOW,
-        Form::StartLine => AT_START,
-        Form::TaskLine => AT_TASKS,
-        Form::InstructionLine(_) => IN_BODY,
-        Form::LockLine => AT_TASKS,
-    }
+    let k = form_number(form);
+    EARLIEST[k]
 }
 
 // The last stage at which a line of a form may come.
 fn latest(form: Form) -> u8
     ensures { λ n. ⌜ n ≡ rowOf form .latest ⌝ }
 {
-    match form {
-        Form::WindowLine => AT_WINDOW,
-        Form::StartLine => AT_START,
-        Form::TaskLine => IN_BODY,
-        Form::InstructionLine(_) => IN_BODY,
-        Form::LockLine => AT_LOCKS,
-    }
+    let k = form_number(form);
+    LATEST[k]
 }
 
 // May a line of a form come at this stage?
@@ -161,13 +174,8 @@ pub fn may_come(form: Form, stage: u8) -> bool
 pub fn stage_after(form: Form) -> u8
     ensures { λ n. ⌜ n ≡ rowOf form .stage ⌝ }
 {
-    match form {
-        Form::WindowLine => AT_START,
-        Form::StartLine => AT_TASKS,
-        Form::TaskLine => IN_BODY,
-        Form::InstructionLine(_) => IN_BODY,
-        Form::LockLine => AT_LOCKS,
-    }
+    let k = form_number(form);
+    STAGE_AFTER[k]
 }
 
 // The limit of field k of a form.

@@ -5,7 +5,7 @@ use mathlib.Core.Path.{_≡_, refl, sym, ap, _∙_}
 use Prim.Native.Nat.{ℕ, _≤_, _<_}
 use native.Mathlib.Omega.{arith}
 use mathlib.Core.Bool.{true, false}
-use mathlib.Core.List.{map}
+use mathlib.Core.List.{List, [], _∷_, map}
 use lib.Dec.{leb, eqb}
 use lib.ListN.{length, getD, List·getD-eq-default, List·getD-map}
 use borrow.Author.Tests.{eqb-true, le-leb, lt-leb}
@@ -14,7 +14,8 @@ use Rattle.notation.specs.Laws.QuantifierLaws.{all-at}
 use Rattle.notation.specs.Laws.TestLaws.{and-first, and-second}
 use Rattle.texts.specs.declared.Form.{Form}
 use Rattle.texts.specs.declared.Form.the-variants.{WindowLine, StartLine, TaskLine, InstructionLine, LockLine}
-use Rattle.texts.specs.Grammar.{Row, rowOf, mayCome, operationRows, byteField, wideField}
+use Rattle.texts.specs.Grammar.{Row, rowOf, mayCome, operationRows, byteField, wideField, inBody}
+use Rattle.texts_reading.specs.Code.FormParts.{formNumber}
 use Rattle.texts.specs.Laws.RowLaws.{usedOf, used-bytes, used-few}
 
 -- ---- the operations
@@ -33,6 +34,22 @@ operation-counts o operation found =
     List·getD-map (λ (r : Row). length (r .fields)) operationRows o _ ∙ ap (λ (r : Row). length (r .fields)) (found .1)
 
 -- ---- the forms
+
+-- a part of each form's row that all instructions share, as an array
+abbrev partOfEach : (Row → ℕ) → List ℕ
+partOfEach part = map (λ f. part (rowOf f)) (WindowLine ∷ StartLine ∷ TaskLine ∷ InstructionLine 0 ∷ LockLine ∷ [])
+
+pub part-at : (part : Row → ℕ) → ((o : ℕ) → part (rowOf (InstructionLine o)) ≡ inBody) → (form : Form) {n : ℕ}
+    → (n < 5) × (n ≡ formNumber form) → getD (partOfEach part) n 0 ≡ part (rowOf form)
+unfolding formNumber
+part-at part shared form found = ap (λ (k : ℕ). getD (partOfEach part) k 0) (found .1) ∙ of form
+  where
+    of : (f : Form) → getD (partOfEach part) (formNumber f) 0 ≡ part (rowOf f)
+    of WindowLine = refl
+    of StartLine = refl
+    of TaskLine = refl
+    of (InstructionLine o) = shared 0 ∙ sym (shared o)
+    of LockLine = refl
 
 -- a line comes before its first stage, or is held against its last
 pub come-early : (stage : ℕ) (form : Form) {first : ℕ} → first ≡ rowOf form .earliest → stage < first
