@@ -27,7 +27,7 @@ pub fn put_name(operation: u8, at: usize, out: &mut [u8]) -> usize
 {
     let row = operation_row(operation);
     let start = NAME_WIDTH * row;
-    let end = start + NAME_LENGTHS[row];
+    let end = start + NAME_LENGTHS[row] as usize;
     put_word(&NAMES[start..end], at, out)
 }
 

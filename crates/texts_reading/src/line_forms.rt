@@ -42,7 +42,7 @@ pub const NAME_WIDTH: usize = 8;
 pub const NAMES: [u8; NAME_WIDTH * OPERATIONS] =
     *b"end     load    store   set     add     subtractless    equal   pick    acquire release assert  ";
 
-pub const NAME_LENGTHS: [usize; OPERATIONS] = [3, 4, 5, 3, 3, 8, 4, 5, 4, 7, 7, 6];
+pub const NAME_LENGTHS: [u8; OPERATIONS] = [3, 4, 5, 3, 3, 8, 4, 5, 4, 7, 7, 6];
 
 // How many fields a line has.
 const WINDOW_FIELDS: usize = 1;
@@ -67,23 +67,16 @@ pub fn operation_row(operation: u8) -> usize
     if o < OPERATIONS { o } else { 0 }
 }
 
-// Is a word the name of an operation? The name is that of End past the operations.
-fn is_operation(word: &[u8], operation: u8) -> bool
-    ensures { λ b. ⌜ b ≡ same (rowOf (Form.InstructionLine operation) .word) (now (word .entry)) ⌝ }
-{
-    let row = operation_row(operation);
-    let start = NAME_WIDTH * row;
-    let end = start + NAME_LENGTHS[row];
-    is_word(word, &NAMES[start..end])
-}
-
 // The form of an instruction by its name.
 fn operation_named(word: &[u8]) -> Named
     ensures { λ x. ⌜ x ≡ namedOf (operationNamed (now (word .entry))) ⌝ }
 {
     let mut operation: u8 = 0;
     while operation < MOST_OPERATIONS {
-        if is_operation(word, operation) {
+        let row = operation as usize;
+        let start = NAME_WIDTH * row;
+        let end = start + NAME_LENGTHS[row] as usize;
+        if is_word(word, &NAMES[start..end]) {
             return Named::As(Form::InstructionLine(operation));
         }
         operation += 1;

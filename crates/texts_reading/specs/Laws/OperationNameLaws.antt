@@ -58,6 +58,8 @@ name-part o operation found =
     let long : 8 * o + getD nameLengths o 0 - 8 * o ≡ getD nameLengths o 0 = omega arith in
     ap (λ (n : ℕ). take n (drop (8 * o) nameTable)) long ∙ name-at o (found .0) ∙ ap (λ (r : Row). r .word) (found .1)
 
-pub name-tested : {name : Text} (operation : ℕ) (word : Text) → name ≡ rowOf (InstructionLine operation) .word
-    → same name word ≡ same (rowOf (InstructionLine operation) .word) word
-name-tested operation word is = ap (λ (l : Text). same l word) is
+-- a word is held against that part
+pub name-tested : (o : ℕ) (word : Text) → o < 12
+    → same (take (8 * o + getD nameLengths o 0 - 8 * o) (drop (8 * o) nameTable)) word
+    ≡ same (rowOf (InstructionLine o) .word) word
+name-tested o word below = ap (λ (l : Text). same l word) (name-part o o (below, refl))

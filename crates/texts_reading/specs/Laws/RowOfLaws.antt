@@ -15,8 +15,8 @@ use Rattle.notation.specs.Laws.TestLaws.{and-first, and-second}
 use Rattle.texts.specs.declared.Form.{Form}
 use Rattle.texts.specs.declared.Form.the-variants.{WindowLine, StartLine, TaskLine, InstructionLine, LockLine}
 use Rattle.texts.specs.Grammar.{Row, rowOf, mayCome, operationRows, byteField, wideField, inBody}
-use Rattle.texts_reading.specs.Code.FormParts.{formNumber}
 use Rattle.texts.specs.Laws.RowLaws.{usedOf, used-bytes, used-few}
+use Rattle.texts_reading.specs.Code.FormParts.{formNumber}
 
 -- ---- the operations
 

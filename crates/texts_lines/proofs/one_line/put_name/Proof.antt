@@ -13,11 +13,12 @@ operation-row-requires c κs = search needs
 mul-start : tie.Need-mul-start
 mul-start c = search needs
 
-mul-end : tie.Need-mul-end
-mul-end c = search needs
-
 array-read-end : tie.Need-array-read-end
 array-read-end c = search needs
+
+cast-end : tie.Need-cast-end
+unfolding namesOpened
+cast-end c = omega (arith, name-short (c .operation-row .result))
 
 add-end : tie.Need-add-end
 unfolding namesOpened
@@ -52,8 +53,8 @@ put-name-spec =
     (tie.spec
     operation-row-requires
     mul-start
-    mul-end
     array-read-end
+    cast-end
     add-end
     sub-put-word
     part-put-word-start
