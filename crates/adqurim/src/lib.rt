@@ -17,7 +17,7 @@ use matching_orders::entries::plan_to_order;
 use matching_plans::entries::order_to_plan;
 use order_replay::entries::replay;
 use plan_check::entries::check_plan;
-use sheets_lines::sheet_lines::fill_sheet;
+use sheets_lines::fill_sheet;
 use texts_entries::file_to_text;
 use texts_entries::text_to_file;
 use timing::JobRecord;

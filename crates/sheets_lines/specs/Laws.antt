@@ -1,4 +1,3 @@
-pub mod FailingLines
 pub mod FindingLaws
 pub mod PlanMarks
 pub mod SheetLaws

@@ -1,7 +1,7 @@
 // The check program: reads a task file from standard input and prints its sheet. One byte more than a file may have is
 // enough to know that it is too long.
 use sheets::SHEET_ROOM;
-use sheets_lines::sheet_lines::fill_sheet;
+use sheets_lines::fill_sheet;
 use taskfile::limits::BYTES;
 
 const INPUT: usize = BYTES + 1;

@@ -1,6 +1,3 @@
 // Response times, number 10: by scheduling points, or by iteration from a lower bound.
-pub mod iteration;
-pub mod quotients;
 pub mod response;
 pub mod scheduling_points;
-pub mod utilisation;

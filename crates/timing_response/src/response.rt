@@ -1,9 +1,6 @@
 // The response times of a table's tasks, or number 10 at the lowest task that has none.
-use crate::iteration::iterate;
-use crate::iteration::iterate_some;
 use crate::scheduling_points::fits_alone;
 use crate::scheduling_points::search;
-use crate::utilisation::utilisation_above;
 use taskfile::Judged;
 use taskfile::Site;
 use taskfile::Table;
@@ -14,6 +11,9 @@ use timing::Bound;
 use timing::Responses;
 use timing_demands::blocking::blocking_of;
 use timing_demands::demands::times_of;
+use timing_iteration::iteration::iterate;
+use timing_iteration::iteration::iterate_some;
+use timing_iteration::utilisation::utilisation_above;
 use timing_rounding::wide_rounded_up;
 ghost use mathlib.Core.Path.{_≡_};
 ghost use mathlib.Core.Bool.{true};

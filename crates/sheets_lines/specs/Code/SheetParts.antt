@@ -27,7 +27,7 @@ use Rattle.plan_marks.specs.Code.Marks.{IsMarks}
 use Rattle.sheets.specs.Sheets.{sheetAllowance, findings, roundsLines}
 use Rattle.sheets.specs.SheetWords.{taskWord, responseWord, jobsWord}
 use Rattle.sheets_printing.specs.Code.Puts.{PutsText}
-use Rattle.sheets_lines.specs.Code.LineParts.{jobLine}
+use Rattle.sheets_failing.specs.Code.LineParts.{jobLine}
 
 -- the line of task i of a table whose response times stand in an array
 unfoldable pub taskText : Table → List ℕ → ℕ → Text

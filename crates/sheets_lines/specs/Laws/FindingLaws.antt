@@ -37,7 +37,7 @@ use Rattle.sheets.specs.Sheets.{sheetAllowance, refusedLine, orderLine, failedL
 use Rattle.sheets.specs.SheetWords.{failedWord, verdictWord, holdsWord, failsWord}
 use Rattle.sheets_printing.specs.Code.Puts.{PutsText}
 use Rattle.sheets_printing.specs.Laws.LineLaws.{puts-same, puts-more}
-use Rattle.sheets_lines.specs.Code.LineParts.{jobLine}
+use Rattle.sheets_failing.specs.Code.LineParts.{jobLine}
 use Rattle.sheets_lines.specs.Code.SheetParts.{PartsOf, findingsOf, PutsFailure, FailingParts, MarksOf}
 
 -- the tag of a verdict that fails is none of the others'

@@ -33,7 +33,7 @@ use Rattle.plan_marks.specs.declared.PlanChecked.{PlanChecked}
 use Rattle.matching_plans.specs.Code.PlanWritten.{PlanWritten}
 use Rattle.sheets.specs.Sheets.{roundsLine, roundsLines}
 use Rattle.sheets.specs.SheetWords.{jobWord, roundsWord}
-use Rattle.sheets_lines.specs.Code.LineParts.{jobLine}
+use Rattle.sheets_failing.specs.Code.LineParts.{jobLine}
 use Rattle.sheets_lines.specs.Code.SheetParts.{PartsOf, MarksOf}
 
 -- ---- the lines of a run
