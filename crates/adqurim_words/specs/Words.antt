@@ -25,7 +25,7 @@ wordsOfRun = 43
 abbrev pub wordsOfWalk : ℕ
 wordsOfWalk = 45
 
--- and the job list, the sheet and the desk's entries
+-- and the job list, the sheet and the entries over a table in memory
 abbrev pub wordsOfList : ℕ
 wordsOfList = 3
 

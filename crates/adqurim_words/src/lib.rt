@@ -26,7 +26,7 @@ ghost use Rattle.adqurim_words.specs.Words.{
   filledWith,
 };
 
-// How many words the sheet, the desk's entries, the reader, a replay and a walk answer.
+// How many words the sheet, the entries over a table in memory, the reader, a replay and a walk answer.
 pub const SHEET_WORDS: usize = 3;
 
 pub const TABLE_WORDS: usize = 3;
@@ -196,7 +196,7 @@ pub fn put_sheet_words(x: SheetAnswer, answer: &mut [u64])
     put_sized(x.number, x.place, x.length, answer);
 }
 
-// The words of a desk entry's answer.
+// The words of an answer of an entry over a table in memory.
 pub fn put_write(x: WriteAnswer, answer: &mut [u64])
     requires { ⌜ wordsOfWrite ≤ length (now answer) ⌝ }
     ensures { λ _. ⌜ now (answer .exit) ≡ filledWith (writeWords x) (now (answer .entry)) ⌝ }

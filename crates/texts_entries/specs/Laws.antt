@@ -1,2 +1,2 @@
 pub mod FiledLaws
-pub mod TextDeskLaws
+pub mod TextEntryLaws

@@ -3,7 +3,7 @@ pub mod ChainRecords
 pub mod CheckedTableLaws
 pub mod ClaimLaws
 pub mod CoveredLaws
-pub mod DeskDemandLaws
+pub mod EntryDemandLaws
 pub mod FieldsRead
 pub mod FitsLaws
 pub mod Laid

@@ -48,7 +48,7 @@ pub record RewriteDemand (f : File) (c : Chains) (a : Accepted) : Type 0 where
       → (tableAnswer f memory .number ≡ 0) × (tableIn (tableAfter f memory) ≡ a .table)
 
 -- the demand: of every value of the table's type, and of every file of bytes that is accepted
-pub record DeskDemand : Type 0 where
+pub record EntryWriterDemand : Type 0 where
   pub ofTables : (t : Table) → Fits t → (buffer : List ℕ) → WriterDemand t buffer
   pub ofFiles : (f : File) → Bytes f → (c : Chains) → chainsOf f ≡ passed c → (a : Accepted) → accept f ≡ passed a
       → RewriteDemand f c a

@@ -1,4 +1,4 @@
-// The planning desk's entries: a file's table in memory, and a file written from a table. Document 02, E2.
+// The entries over a table in memory: a file's table in memory, and a file written from a table. Document 02, E2.
 use notation_buffers::write_bytes;
 use taskfile::Check;
 use taskfile::Table;

@@ -1,4 +1,4 @@
--- `adqurim_words::put_write` meets its contract: the three words are a desk entry's answer.
+-- `adqurim_words::put_write` meets its contract: the three words are an answer of an entry over a table in memory.
 -- Assumes nothing.
 use borrow.Author.Needs.{needs}
 use Rattle.adqurim_words.specs.Words.{writeWords}

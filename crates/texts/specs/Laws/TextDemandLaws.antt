@@ -28,8 +28,8 @@ use Rattle.writer.specs.WriteEntries.{fileRoom, written, answerOf}
 use Rattle.writer.specs.Laws.AcceptLaidLaws.{accept-laid}
 use Rattle.writer.specs.Laws.CheckedTableLaws.{fields-within}
 use Rattle.writer.specs.Laws.CoveredLaws.{covered-same}
-use Rattle.writer.specs.Laws.DeskDemandLaws.{written-room, zero-written, bytes-written, fields-sound, table-covered}
-use Rattle.writer.specs.Laws.DeskDemandLaws.{table-read, table-accepted}
+use Rattle.writer.specs.Laws.EntryDemandLaws.{written-room, zero-written, bytes-written, fields-sound, table-covered}
+use Rattle.writer.specs.Laws.EntryDemandLaws.{table-read, table-accepted}
 use Rattle.writer.specs.Laws.FieldsRead.{covered-read, fits-read}
 use Rattle.writer.specs.Laws.WalkOrderLaws.{walk-order}
 use Rattle.writer.specs.Laws.WriteRefusals.{written-numbered}

@@ -11,8 +11,8 @@ use Rattle.notation_buffers.specs.Laws.WritingLaws.{appends-count}
 use Rattle.writer.specs.Values.{Bytes}
 use Rattle.texts.specs.TextEntries.{texted, toTextAnswer, toTextAfter, textRoom}
 use Rattle.texts.specs.TextTables.{textOf}
-use Rattle.writer_entries.specs.Laws.DeskLaws.{made-refused, made-no-room, made-done}
-use Rattle.texts_entries.specs.Laws.TextDeskLaws.{text-fits}
+use Rattle.writer_entries.specs.Laws.WrittenTableLaws.{made-refused, made-no-room, made-done}
+use Rattle.texts_entries.specs.Laws.TextEntryLaws.{text-fits}
 use Rattle.texts_entries.proofs.file_to_text.Statement.{statement}
 use Rattle.texts_entries.proofs.file_to_text.Tie as tie
 

@@ -14,7 +14,7 @@ use Rattle.notation.specs.Laws.NumberedLaws.{Numbered, by-number}
 use Rattle.taskfile.specs.declared.Table.{Table}
 use Rattle.writer.specs.declared.WriteAnswer.{WriteAnswer}
 use Rattle.writer.specs.WriteEntries.{written, answerOf, afterOf, writeAnswer, writeAfter}
-use Rattle.writer_entries.specs.Laws.DeskLaws.{refusal}
+use Rattle.writer_entries.specs.Laws.WrittenTableLaws.{refusal}
 use Rattle.texts.specs.declared.TextRead.{TextRead}
 use Rattle.texts.specs.Code.LineParts.{textAnswer}
 use Rattle.texts.specs.Grammar.{Line}

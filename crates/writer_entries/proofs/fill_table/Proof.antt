@@ -8,7 +8,7 @@ use borrow.Author.Needs.{needs}
 use Rattle.notation_buffers.specs.Laws.WritingLaws.{appends-count}
 use Rattle.writer.specs.Memory.{memoryOf, tableBytes}
 use Rattle.writer.specs.WriteEntries.{tabled, tableAnswer, tableAfter}
-use Rattle.writer_entries.specs.Laws.DeskLaws.{made-refused, made-no-room, made-done}
+use Rattle.writer_entries.specs.Laws.WrittenTableLaws.{made-refused, made-no-room, made-done}
 use Rattle.writer_entries.proofs.fill_table.Statement.{statement}
 use Rattle.writer_entries.proofs.fill_table.Tie as tie
 

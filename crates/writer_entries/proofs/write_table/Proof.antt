@@ -7,9 +7,9 @@ use borrow.Author.Needs.{needs}
 use Rattle.writer.specs.declared.WriteAnswer.{WriteAnswer}
 use Rattle.writer.specs.Values.{Fits}
 use Rattle.writer.specs.Laws.FitsLaws.{table-fits}
-use Rattle.writer_entries.specs.Laws.DeskLaws.{laying-room, laid-within, laid-inside, laid-accepted}
-use Rattle.writer_entries.specs.Laws.DeskLaws.{copied-count, copied-within, copied-whole}
-use Rattle.writer_entries.specs.Laws.DeskLaws.{write-refused, write-accepts, write-no-room, write-done}
+use Rattle.writer_entries.specs.Laws.WrittenTableLaws.{laying-room, laid-within, laid-inside, laid-accepted}
+use Rattle.writer_entries.specs.Laws.WrittenTableLaws.{copied-count, copied-within, copied-whole}
+use Rattle.writer_entries.specs.Laws.WrittenTableLaws.{write-refused, write-accepts, write-no-room, write-done}
 use Rattle.writer_entries.proofs.write_table.Statement.{statement}
 use Rattle.writer_entries.proofs.write_table.Tie as tie
 

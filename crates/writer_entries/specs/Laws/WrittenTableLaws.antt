@@ -1,4 +1,4 @@
--- The desk's entries: what they answer and what the lent memory then holds, by what the reader finds.
+-- The entries over a table in memory: what they answer and what the lent memory then holds, by what the reader finds.
 -- Assumes nothing.
 use mathlib.Core.Path.{_≡_, sym, ap, _∙_}
 use Prim.Native.Nat.{ℕ, _≤_, _<_}
@@ -23,7 +23,7 @@ use Rattle.writer.specs.declared.WriteAnswer.{WriteAnswer}
 use Rattle.writer.specs.Values.{Fits}
 use Rattle.writer.specs.Fields.{acceptTable}
 use Rattle.writer.specs.Laws.AcceptLaidLaws.{accept-laid}
-use Rattle.writer.specs.Laws.DeskDemandLaws.{fields-sound}
+use Rattle.writer.specs.Laws.EntryDemandLaws.{fields-sound}
 use Rattle.writer.specs.Laws.LayoutSizes.{layout-fits, layout-length}
 use Rattle.writer.specs.Layout.{layout, layoutRoom}
 use Rattle.writer.specs.WriteEntries.{written, answerOf, afterOf, writeAnswer, writeAfter, fileRoom}

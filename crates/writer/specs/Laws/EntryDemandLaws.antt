@@ -31,7 +31,7 @@ use Rattle.writer.specs.SameTable.{SameTable}
 use Rattle.writer.specs.WalkOrder.{inWalkOrder}
 use Rattle.writer.specs.WriteEntries.{fileRoom, written, tabled, answerOf, afterOf}
 use Rattle.writer.specs.WriteEntries.{writeAnswer, writeAfter, tableAnswer, tableAfter}
-use Rattle.writer.specs.WriterDemand.{writtenFile, ReadsAs, WriterDemand, DeskDemand}
+use Rattle.writer.specs.WriterDemand.{writtenFile, ReadsAs, WriterDemand, EntryWriterDemand}
 use Rattle.writer.specs.Laws.AcceptLaidLaws.{accept-laid}
 use Rattle.writer.specs.Laws.CoveredLaws.{covered-same}
 use Rattle.writer.specs.Laws.FieldsRead.{fields-read, covered-read, fits-read}
@@ -190,8 +190,8 @@ module _ (f : File) {c : Chains} (chained : chainsOf f ≡ passed c) {a : Accept
       )
 
 -- the demand of E2
-pub desk-demand : DeskDemand
-desk-demand =
+pub entry-demand : EntryWriterDemand
+entry-demand =
     record {
       ofTables = writer-demand;
       ofFiles = λ f small c chained a e. record { inOrder = in-order f chained e small; inMemory = in-memory f chained e small };
