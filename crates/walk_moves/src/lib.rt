@@ -20,6 +20,7 @@ use taskfile::Instruction;
 use taskfile::Task;
 use taskfile::limits::MOST_JOBS;
 use taskfile::limits::MOST_TASKS;
+use timing::Job;
 ghost use mathlib.Core.Path.{_≡_};
 ghost use mathlib.Core.Bool.{true};
 ghost use mathlib.Core.List.{List};
@@ -62,28 +63,28 @@ pub fn byte_from(program: &[u8; PROGRAM], i: Task, position: u16, v: u8) -> u8
     VALUES * i.0 + first
 }
 
-// The task of the active job started last, or `NO_TASK`.
-pub fn running_task(program: &[u8; PROGRAM], s: &[u8; STATE]) -> u8
+// The task of the active job started last, or `Task(NO_TASK)`.
+pub fn running_task(program: &[u8; PROGRAM], s: &[u8; STATE]) -> Task
     requires { ⌜ IsState (now s) ⌝ }
-    ensures { λ n. ⌜ n ≡ runningTask (now (program .entry)) (snapshotIn (now (s .entry))) ⌝ }
+    ensures { λ i. ⌜ i .0 ≡ runningTask (now (program .entry)) (snapshotIn (now (s .entry))) ⌝ }
 {
     let depth = s[DEPTH_AT];
     if depth == 0 {
-        return NO_TASK;
+        return Task(NO_TASK);
     }
-    let x = s[STACK_AT + FRAME_BYTES * ((depth - 1) as usize)];
-    if MOST_JOBS <= x {
-        return NO_TASK;
+    let x = Job(s[STACK_AT + FRAME_BYTES * ((depth - 1) as usize)]);
+    if MOST_JOBS <= x.0 {
+        return Task(NO_TASK);
     }
-    program[OWNERS_AT + (x as usize)]
+    Task(program[OWNERS_AT + (x.0 as usize)])
 }
 
 // Where the job stands whose turn task i's is: the running job, if `top` is that task, or else one that starts.
-pub fn position_of(s: &[u8; STATE], top: u8, i: u8) -> u16
-    requires { ⌜ IsState (now s) × (i ≡ top → 1 ≤ snapshotIn (now s) .depth) ⌝ }
-    ensures { λ n. ⌜ n ≡ positionIn (snapshotIn (now (s .entry))) top i ⌝ }
+pub fn position_of(s: &[u8; STATE], top: Task, i: Task) -> u16
+    requires { ⌜ IsState (now s) × (i .0 ≡ top .0 → 1 ≤ snapshotIn (now s) .depth) ⌝ }
+    ensures { λ n. ⌜ n ≡ positionIn (snapshotIn (now (s .entry))) (top .0) (i .0) ⌝ }
 {
-    if i == top {
+    if i.0 == top.0 {
         return next_in(s, s[DEPTH_AT] - 1);
     }
     0
@@ -95,14 +96,14 @@ pub fn start_from(
     waits: &[u8; WAITS],
     s: &[u8; STATE],
     low: u8,
-    i: u8,
+    i: Task,
 ) -> u8
-    requires { ⌜ IsState (now s) × (i ≤ mostTasks) ⌝ }
+    requires { ⌜ IsState (now s) × (i .0 ≤ mostTasks) ⌝ }
     ensures { λ m. ⌜ ((locks : Ceilings) → low ≡ levelIn (now (program .entry)) locks (snapshotIn (now (s .entry)))
-        → low ≤ i
-        → NextStep (now (program .entry)) (now (waits .entry)) locks (snapshotIn (now (s .entry))) (16 * i) m) ⌝ }
+        → low ≤ i .0
+        → NextStep (now (program .entry)) (now (waits .entry)) locks (snapshotIn (now (s .entry))) (16 * i .0) m) ⌝ }
 {
-    let mut k = i;
+    let mut k = i.0;
     while k < MOST_TASKS {
         if may_start(program, waits, s, low, Task(k)) {
             let m = byte_from(program, Task(k), 0, 0);
@@ -117,16 +118,16 @@ pub fn start_from(
 
 // The first move of a state, or `NO_MOVE`, where `top` is the running job's task and `start` the first start. The two
 // are found once for a state.
-pub fn first_move(program: &[u8; PROGRAM], s: &[u8; STATE], top: u8, start: u8) -> u8
-    requires { ⌜ IsState (now s) × (top ≡ runningTask (now program) (snapshotIn (now s))) ⌝ }
+pub fn first_move(program: &[u8; PROGRAM], s: &[u8; STATE], top: Task, start: u8) -> u8
+    requires { ⌜ IsState (now s) × (top .0 ≡ runningTask (now program) (snapshotIn (now s))) ⌝ }
     ensures { λ m. ⌜ ((waits : List ℕ) (locks : Ceilings)
         → FirstStart (now (program .entry)) waits locks (snapshotIn (now (s .entry))) start
         → NextStep (now (program .entry)) waits locks (snapshotIn (now (s .entry))) 0 m) ⌝ }
 {
-    if MOST_TASKS <= top {
+    if MOST_TASKS <= top.0 {
         return start;
     }
-    let m = byte_from(program, Task(top), position_of(s, top, top), 0);
+    let m = byte_from(program, top, position_of(s, top, top), 0);
     if m < NO_MOVE {
         return m;
     }
@@ -138,24 +139,24 @@ pub fn next_move(
     program: &[u8; PROGRAM],
     waits: &[u8; WAITS],
     s: &[u8; STATE],
-    top: u8,
+    top: Task,
     low: u8,
     start: u8,
     byte: u8,
 ) -> u8
-    requires { ⌜ IsState (now s) × (byte < 128) × (top ≡ runningTask (now program) (snapshotIn (now s))) ⌝ }
+    requires { ⌜ IsState (now s) × (byte < 128) × (top .0 ≡ runningTask (now program) (snapshotIn (now s))) ⌝ }
     ensures { λ m. ⌜ ((locks : Ceilings) → low ≡ levelIn (now (program .entry)) locks (snapshotIn (now (s .entry)))
         → FirstStart (now (program .entry)) (now (waits .entry)) locks (snapshotIn (now (s .entry))) start
         → stepIn (now (program .entry)) (now (waits .entry)) locks (snapshotIn (now (s .entry))) byte .allowed ≡ true
         → NextStep (now (program .entry)) (now (waits .entry)) locks (snapshotIn (now (s .entry))) (byte + 1) m) ⌝ }
 {
-    let i = byte / VALUES;
-    let m = byte_from(program, Task(i), position_of(s, top, i), byte % VALUES + 1);
+    let i = Task(byte / VALUES);
+    let m = byte_from(program, i, position_of(s, top, i), byte % VALUES + 1);
     if m < NO_MOVE {
         return m;
     }
-    if i == top {
+    if i.0 == top.0 {
         return start;
     }
-    start_from(program, waits, s, low, i + 1)
+    start_from(program, waits, s, low, Task(i.0 + 1))
 }

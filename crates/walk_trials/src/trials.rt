@@ -101,7 +101,7 @@ pub fn trial(
         },
         s,
     );
-    let start = start_from(program, waits, s, low, low);
+    let start = start_from(program, waits, s, low, Task(low));
     let mut at = first_move(program, s, top, start);
     while at < NO_MOVE {
         if allowance <= *count {
@@ -111,7 +111,7 @@ pub fn trial(
         path[LAST_STEP - left] = at;
         let after = next_move(program, waits, s, top, low, start, at);
         if NO_MOVE <= after {
-            make_move(program, s, Task(top), at);
+            make_move(program, s, top, at);
             return walk(
                 program,
                 waits,
@@ -125,7 +125,7 @@ pub fn trial(
             );
         }
         let mut next = *s;
-        make_move(program, &mut next, Task(top), at);
+        make_move(program, &mut next, top, at);
         let r = walk(
             program,
             waits,

@@ -25,23 +25,23 @@ returns c locks level first allowed =
 
 returns-2 : tie.Need-returns-2
 returns-2 c locks level first allowed =
-    let ended = c .before in
+    let ended = c .before .before .before in
     let placed = ended .before .before in
     let given = placed .before .pre in
     after-top _ _ locks _ (given .2) _ (given .1) allowed (placed .position-of .ensures) (ended .before .byte-from .ensures) (ended .if1 .left)
     (c .if2 .taken) first
 
-add-start-from : tie.Need-add-start-from
-add-start-from c = omega arith
+add-t10 : tie.Need-add-t10
+add-t10 c = omega arith
 
 start-from-requires : tie.Need-start-from-requires
 start-from-requires c κs =
-    let given = c .before .before .before .before .pre in (given .0, omega (arith, given .1))
+    let given = c .before .before .before .before .before .before .before .pre in (given .0, omega (arith, given .1))
 
 returns-3 : tie.Need-returns-3
 returns-3 c locks level first allowed =
-    let other = c .before in
-    let ended = other .before in
+    let other = c .before .before in
+    let ended = other .before .before .before in
     let placed = ended .before .before in
     let given = placed .before .pre in
     let high = allowed-above _ _ locks _ _ allowed (given .1) (given .2) (other .if2 .left) in
@@ -57,6 +57,6 @@ next-move-spec =
     byte-from-requires
     returns
     returns-2
-    add-start-from
+    add-t10
     start-from-requires
     returns-3)

@@ -10,15 +10,15 @@ element-copy-out-next-in : tie.Need-element-copy-out-next-in
 element-copy-out-next-in c = search needs
 
 sub-next-in : tie.Need-sub-next-in
-sub-next-in c = omega (arith, depth-read _ (c .before .before .pre .1 (c .before .if1 .taken)))
+sub-next-in c = omega (arith, depth-read _ (c .before .before .before .before .pre .1 (c .before .if1 .taken)))
 
 next-in-requires : tie.Need-next-in-requires
-next-in-requires c κs = omega (arith, c .before .before .pre .0 .few)
+next-in-requires c κs = omega (arith, c .before .before .before .before .pre .0 .few)
 
 returns : tie.Need-returns
 returns c =
     let here = c .before .before in
-    let start = here .before in
+    let start = here .before .before .before in
     position-read _ (start .pre .1 (here .if1 .taken)) (start .pre .0) _ _ (here .if1 .taken) (c .next-in .ensures)
 
 returns-2 : tie.Need-returns-2

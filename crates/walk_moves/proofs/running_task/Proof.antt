@@ -11,39 +11,39 @@ element-copy-out-depth c = search needs
 returns : tie.Need-returns
 returns c = running-flat _ _ (c .if1 .taken)
 
-sub-x : tie.Need-sub-x
-sub-x c = search needs
+sub-t7 : tie.Need-sub-t7
+sub-t7 c = search needs
 
-cast-x : tie.Need-cast-x
-cast-x c = search needs
+cast-t9 : tie.Need-cast-t9
+cast-t9 c = search needs
 
-mul-x : tie.Need-mul-x
-mul-x c = search needs
+mul-t10 : tie.Need-mul-t10
+mul-t10 c = search needs
 
-add-x : tie.Need-add-x
-add-x c = search needs
+add-t11 : tie.Need-add-t11
+add-t11 c = search needs
 
-element-copy-out-x : tie.Need-element-copy-out-x
-element-copy-out-x c = search needs
+element-copy-out-t14 : tie.Need-element-copy-out-t14
+element-copy-out-t14 c = search needs
 
 returns-2 : tie.Need-returns-2
 returns-2 c =
-    let deep = c .before .before in
+    let deep = c .before .before .before in
     running-no-job _ _ (deep .before .before .pre) (deep .if1 .left) (c .if2 .taken)
 
-cast-result : tie.Need-cast-result
-cast-result c = search needs
+cast-t9-2 : tie.Need-cast-t9-2
+cast-t9-2 c = search needs
 
-add-result : tie.Need-add-result
-add-result c = search needs
+add-t10 : tie.Need-add-t10
+add-t10 c = search needs
 
-element-copy-out-result : tie.Need-element-copy-out-result
-element-copy-out-result c = search needs
+element-copy-out-t14-2 : tie.Need-element-copy-out-t14-2
+element-copy-out-t14-2 c = search needs
 
 returns-3 : tie.Need-returns-3
 returns-3 c =
-    let job = c .before in
-    let deep = job .before .before in
+    let job = c .before .before in
+    let deep = job .before .before .before in
     running-read _ _ (deep .before .before .pre) (deep .if1 .left) (job .if2 .left)
 
 pub running-task-spec : {M : Type 1} → statement M
@@ -52,13 +52,13 @@ running-task-spec =
     (tie.spec
     element-copy-out-depth
     returns
-    sub-x
-    cast-x
-    mul-x
-    add-x
-    element-copy-out-x
+    sub-t7
+    cast-t9
+    mul-t10
+    add-t11
+    element-copy-out-t14
     returns-2
-    cast-result
-    add-result
-    element-copy-out-result
+    cast-t9-2
+    add-t10
+    element-copy-out-t14-2
     returns-3)

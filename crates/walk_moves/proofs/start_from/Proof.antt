@@ -15,13 +15,13 @@ use Rattle.walk_moves.proofs.start_from.Statement.{statement}
 use Rattle.walk_moves.proofs.start_from.Tie as tie
 
 abbrev Inv-loop : tie.InvT-loop
-Inv-loop program waits s low i k₀ k =
+Inv-loop program waits s low i k =
     (i ≤ k) × (k ≤ 8)
     × ((locks : Ceilings) → low ≡ levelIn program locks (snapshotIn s) → low ≤ i
     → NoStep program waits locks (snapshotIn s) (16 * i) (16 * k))
 
 abbrev μ-loop : tie.MeasureT-loop
-μ-loop program waits s low i k₀ k = 8 - k
+μ-loop program waits s low i k = 8 - k
 
 loop-holds : tie.Need-loop-holds Inv-loop μ-loop
 loop-holds c = (omega arith, c .pre .1, λ locks level high n low lt. absurd (omega arith))

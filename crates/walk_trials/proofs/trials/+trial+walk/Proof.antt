@@ -178,7 +178,7 @@ next-at t c =
 -- whose turn the move is
 bounds-at : (t : ℕ) (c : Chosen t)
     → let head = headOf t c in
-    Movable (begin t head .args .s .now) (ran t head .running-task .result) (head .loop .at)
+    Movable (begin t head .args .s .now) (ran t head .running-task .result .0) (head .loop .at)
 unfolding snapshotIn
 bounds-at t c =
     let head = headOf t c in
@@ -191,7 +191,7 @@ trial-make-move-requires : (t : ℕ) → trial-lts.Need-make-move-requires (tria
 trial-make-move-requires t c κs =
     let chosen = c .before .before in
     let head = headOf t chosen in
-    subst (λ (bytes : List ℕ). Movable bytes (ran t head .running-task .result) (head .loop .at)) (sym (head .loop .inv .2)) (bounds-at t chosen)
+    subst (λ (bytes : List ℕ). Movable bytes (ran t head .running-task .result .0) (head .loop .at)) (sym (head .loop .inv .2)) (bounds-at t chosen)
 
 trial-walk-requires : (t : ℕ) → trial-lts.Need-walk-requires (trial-claims t) (trial-at t) trial.Post trial-Inv-loop trial-μ-loop
 trial-walk-requires t c κs =
@@ -226,7 +226,7 @@ trial-make-move-requires-2 : (t : ℕ) → trial-lts.Need-make-move-requires-2 (
 trial-make-move-requires-2 t c κs =
     let chosen = c .before .before .before in
     let head = headOf t chosen in
-    subst (λ (bytes : List ℕ). Movable bytes (ran t head .running-task .result) (head .loop .at)) (sym (head .loop .inv .2)) (bounds-at t chosen)
+    subst (λ (bytes : List ℕ). Movable bytes (ran t head .running-task .result .0) (head .loop .at)) (sym (head .loop .inv .2)) (bounds-at t chosen)
 
 trial-walk-requires-2 : (t : ℕ) → trial-lts.Need-walk-requires-2 (trial-claims t) (trial-at t) trial.Post trial-Inv-loop trial-μ-loop
 trial-walk-requires-2 t c κs =
