@@ -5,7 +5,7 @@ use Rattle.notation.specs.Letters.{space, newline, d0, d1, d2, d3, d6, a, b, c, 
 use Rattle.notation.specs.Letters.{l, n, o, p, r, s, t, u, v}
 use Rattle.notation.specs.Texts.{Text}
 use Rattle.timing.specs.Response.{response_of}
-use Rattle.sheets.specs.Laws.Opened.{sheets_opened}
+use Rattle.sheets.proofs.Laws.Opened.{sheets_opened}
 use Rattle.sheets.specs.Sheets.{sheet_of}
 use Rattle.bench.specs.Files.{table_x}
 use Rattle.bench.specs.Laws.Opened.{all_opened}

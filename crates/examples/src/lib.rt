@@ -1,1 +1,2 @@
 // Small tables for computed examples. The definitions are in specs/.
+#![tactic(auto)]

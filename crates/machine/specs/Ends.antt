@@ -2,7 +2,7 @@
 -- those with a failed assertion noted."
 -- Assumes nothing.
 use Rattle.std.specs.Prelude.{ℕ, Bool, true, false, List, set, replicate}
-use Rattle.notation.specs.Lists.{if◌then◌else◌}
+use Rattle.std.specs.Prelude.{if◌then◌else◌}
 use Rattle.machine.specs.Instructions.{Store}
 
 -- a flag for each of the 32 jobs that a table may have

@@ -5,7 +5,8 @@
 -- base and the ceilings it holds." Other definitions use the names below and never the counts.
 -- Assumes nothing.
 use Rattle.std.specs.Prelude.{ℕ, ◌+◌, ◌-◌, Bool, List, ◌∷◌, map, length, get_or, set, replicate, ltb}
-use Rattle.notation.specs.Lists.{if◌then◌else◌, up_to, only, largest}
+use Rattle.std.specs.Prelude.{if◌then◌else◌}
+use Rattle.notation.specs.Lists.{up_to, only, largest}
 
 -- "a count per lock"
 abbrev pub Held : Type 0

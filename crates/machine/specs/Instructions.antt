@@ -3,7 +3,8 @@
 use Rattle.std.specs.Prelude.{ℕ, ◌+◌, ◌-◌, ◌%◌, true, false, List, [], ◌∷◌, get_or, set, replicate, ltb, eqb}
 use Rattle.taskfile.specs.declared.Instruction.{Instruction}
 use Rattle.taskfile.specs.Records.{is_pick}
-use Rattle.notation.specs.Lists.{if◌then◌else◌, from_to}
+use Rattle.std.specs.Prelude.{if◌then◌else◌}
+use Rattle.notation.specs.Lists.{from_to}
 use Rattle.machine.specs.declared.Effect.{Effect}
 use Rattle.machine.specs.declared.Local.{Local}
 use Rattle.machine.specs.Held.{acquire, release, no_locks}

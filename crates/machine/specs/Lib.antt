@@ -3,4 +3,3 @@ pub mod Code
 pub mod Ends
 pub mod Held
 pub mod Instructions
-pub mod Laws

@@ -1,4 +1,6 @@
 // Instructions: what a job keeps of its own while it runs, and what one instruction does. Document 01, "Instructions".
+#![tactic(auto)]
+
 use taskfile::limits::{INSTRUCTIONS, JOBS, LOCKS, REGISTERS, VARIABLES};
 
 // The position of a running job's next instruction is below this.
@@ -6,7 +8,7 @@ pub const POSITIONS: u16 = INSTRUCTIONS as u16;
 
 // A job's own state: the position of its next instruction, registers 0 to 3, and what it holds of each lock, as
 // `Held` says.
-#[derive(Drop)]
+#[derive(Clone, Copy)]
 pub struct Local {
     pub next: u16,
     pub registers: [u8; REGISTERS],
@@ -15,7 +17,7 @@ pub struct Local {
 
 // What an instruction leaves: the job's own state, the store, whether an assertion failed, whether the job
 // has ended.
-#[derive(Drop)]
+#[derive(Clone, Copy)]
 pub struct Effect {
     pub local: Local,
     pub store: [u8; VARIABLES],
@@ -25,7 +27,7 @@ pub struct Effect {
 
 // What the replay of an order, the check of a plan and both conversions answer: number and place, the end
 // store, the failed jobs, and how many bytes were written to the lent buffer.
-#[derive(Drop)]
+#[derive(Clone, Copy)]
 pub struct RunAnswer {
     pub number: u8,
     pub place: u32,

@@ -4,7 +4,7 @@
 -- round and, in a round, job by job.
 -- Assumes nothing.
 use Rattle.std.specs.Prelude.{ℕ, List, [], ◌∷◌, ◌++◌, map, take, eqb}
-use Rattle.notation.specs.Checked.{Checked, passed, ◌>>=◌, ◌>>◌}
+use Rattle.notation.specs.Checked.{Checked, passed, ◌>>=◌}
 use Rattle.notation.specs.Lists.{up_to, only, each}
 use Rattle.timing.specs.declared.Job.{Job}
 use Rattle.timing.specs.Accepted.{Accepted}

@@ -31,7 +31,7 @@ pub record Demand3 (a : Accepted) : Type 0 where
   pub orders : (order : List ℕ) (e : End) → ((plan : Plan) × OrderGives a order e plan) ↔ OrderEnds a order e
   pub plans : (plan : Plan) (e : End) → ((order : List ℕ) × PlanGives a plan e order) ↔ PlanEnds a plan e
   -- an order turns into a plan that turns into the same bytes, with the same end
-  pub order_back_lem : (order : List ℕ) (plan : Plan) (e : End) → OrderGives a order e plan → PlanGives a plan e order
+  pub order_back : (order : List ℕ) (plan : Plan) (e : End) → OrderGives a order e plan → PlanGives a plan e order
   -- and a plan into an order that turns into the same bytes, with the same end
   pub plan_back : (plan : Plan) (order : List ℕ) (e : End) → PlanGives a plan e order → OrderGives a order e plan
   -- so some complete order ends so exactly when some legal plan does

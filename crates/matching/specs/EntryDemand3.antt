@@ -25,7 +25,7 @@ pub record EntryDemand3 (f : File) (a : Accepted) (planBuffer orderBuffer : List
   pub replays : (order : List ℕ) (e : End) → AnswersEnd (replay_answer f order) e ↔ OrderEnds a order e
   pub checks : (plan : Plan) (e : End) → AnswersEnd (plan_answer f plan) e ↔ PlanEnds a plan e
   -- the plan that an order leaves, lent to the other entry, is accepted with the same end and leaves the same order
-  pub order_back_lem : (order : List ℕ) (e : End) → AnswersEnd (order_to_plan_answer f order planBuffer) e
+  pub order_back : (order : List ℕ) (e : End) → AnswersEnd (order_to_plan_answer f order planBuffer) e
       → AnswersEnd (plan_to_order_answer f (plan_left f order planBuffer) orderBuffer) e
       × (order_left f (plan_left f order planBuffer) orderBuffer ≡ order)
   -- the order that a plan leaves, lent to the other entry, is accepted with the same end and leaves the same plan

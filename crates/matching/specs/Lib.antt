@@ -2,5 +2,4 @@ pub mod ConversionEntries
 pub mod Conversions
 pub mod Demand3
 pub mod EntryDemand3
-pub mod Laws
 pub mod PlannedSteps

@@ -9,14 +9,9 @@
 --   `unfoldable` is before a definition that a proof opens by name, `abbrev` before a name that is its text everywhere
 --   "Assumes nothing" says that a file has no axiom: what it states is defined or proved
 -- Assumes nothing.
-use Rattle.std.specs.Prelude.{ℕ, zero, suc, max, ◌+◌, ◌-◌, Bool, true, false, ◌&&◌, ◌||◌, List, [], ◌∷◌, ◌++◌, map, get_or, take, replicate, eqb}
+use Rattle.std.specs.Prelude.{if◌then◌else◌, ℕ, zero, suc, max, ◌+◌, ◌-◌, Bool, true, false, ◌&&◌, ◌||◌, List, [], ◌∷◌, ◌++◌, map, get_or, take, replicate, eqb}
 use Rattle.std.proofs.Math.Option.{Option, none, some}
 
-unfoldable pub if◌then◌else◌ : {A : Type 0} → Bool → A → A → A
-if◌then◌else◌ true x y = x
-if◌then◌else◌ false x y = y
-
-infix 5 if◌then◌else◌
 -- n numbers from `start` on
 unfoldable pub from : ℕ → ℕ → List ℕ
 from start zero = []

@@ -1,7 +1,7 @@
 -- Numbers in decimal, and lines of words. A text is a list of bytes.
 -- Assumes nothing.
 use Rattle.std.specs.Prelude.{ℕ, zero, suc, ◌+◌, ◌/◌, ◌%◌, List, [], ◌∷◌, ◌++◌, ltb}
-use Rattle.notation.specs.Lists.{if◌then◌else◌}
+use Rattle.std.specs.Prelude.{if◌then◌else◌}
 use Rattle.notation.specs.Letters.{space, newline, d0}
 
 abbrev pub Text : Type 0

@@ -1,5 +1,4 @@
 pub mod Code
-pub mod Laws
 pub mod OrderBytes
 pub mod OrderSteps
 pub mod Orders

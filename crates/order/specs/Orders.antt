@@ -7,7 +7,8 @@ use Rattle.std.specs.Prelude.{◌≡◌, ℕ, ◌≤◌, Bool, true, ◌&&◌, L
 use Rattle.std.proofs.Math.Option.{Option, none, some, map, bind}
 use Rattle.taskfile.specs.declared.Instruction.{Instruction}
 use Rattle.taskfile.specs.Judgement.{instruction_of}
-use Rattle.notation.specs.Lists.{if◌then◌else◌, member, first_with}
+use Rattle.std.specs.Prelude.{if◌then◌else◌}
+use Rattle.notation.specs.Lists.{member, first_with}
 use Rattle.timing.specs.Accepted.{Accepted}
 use Rattle.timing.specs.Relations.{base, job_at, job_numbers}
 use Rattle.machine.specs.Ends.{End, flagged}

@@ -5,7 +5,8 @@
 use Rattle.std.specs.Prelude.{◌≡◌, ◌↔◌, ℕ, ◌<◌, true, false, List, [], ◌∷◌, length, get_or, take}
 use Rattle.std.proofs.Math.Option.{none, some}
 use Rattle.notation.specs.Checked.{refused}
-use Rattle.notation.specs.Lists.{if◌then◌else◌, member}
+use Rattle.std.specs.Prelude.{if◌then◌else◌}
+use Rattle.notation.specs.Lists.{member}
 use Rattle.timing.specs.Accepted.{Accepted}
 use Rattle.order.specs.OrderBytes.{task_of_byte}
 use Rattle.order.specs.Orders.{turn_of, step, run}

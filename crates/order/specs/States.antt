@@ -2,7 +2,7 @@
 -- from its first instruction until its End is done. A job not yet begun may start when each job that comes before it
 -- has ended, it may preempt every active job, and its base is above every active job's present priority."
 -- Assumes nothing.
-use Rattle.std.specs.Prelude.{ℕ, Bool, false, not, ◌&&◌, ◌||◌, List, [], ◌∷◌, get_or, ltb, eqb}
+use Rattle.std.specs.Prelude.{ℕ, Bool, false, not, ◌&&◌, ◌||◌, List, [], get_or, ltb, eqb}
 use Rattle.notation.specs.Lists.{all, any}
 use Rattle.taskfile.specs.Tables.{ceilings_of}
 use Rattle.timing.specs.declared.Job.{Job}

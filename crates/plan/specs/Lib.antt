@@ -1,4 +1,3 @@
-pub mod Laws
 pub mod Legality
 pub mod Plans
 pub mod Runs

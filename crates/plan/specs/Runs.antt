@@ -3,12 +3,13 @@
 -- in number order, for each of its steps, two bytes: round, Pick value or 0. Jobs run whole, in number order, each
 -- step on its round's store, which at first is that round's guess."
 -- Assumes nothing.
-use Rattle.std.specs.Prelude.{ℕ, zero, suc, ◌+◌, ◌*◌, Bool, true, false, ◌&&◌, List, [], ◌∷◌, map, length, get_or, set, take, drop, leb, ltb, eqb}
+use Rattle.std.specs.Prelude.{ℕ, zero, suc, ◌+◌, ◌*◌, Bool, ◌&&◌, List, [], ◌∷◌, map, length, get_or, set, take, drop, leb, ltb, eqb}
 use Rattle.taskfile.specs.Chains.{most_instructions}
 use Rattle.notation.specs.Checked.{Checked, passed, require, ◌>>=◌, ◌>>◌}
 use Rattle.taskfile.specs.declared.Instruction.{Instruction}
 use Rattle.taskfile.specs.Judgement.{instruction_of}
-use Rattle.notation.specs.Lists.{if◌then◌else◌, up_to, member}
+use Rattle.std.specs.Prelude.{if◌then◌else◌}
+use Rattle.notation.specs.Lists.{up_to, member}
 use Rattle.taskfile.specs.Tables.{ceilings_of}
 use Rattle.timing.specs.declared.Job.{Job}
 use Rattle.timing.specs.Accepted.{Accepted}

@@ -1,6 +1,8 @@
 // The check program's sheet: what its entry answers. Document 01, "The check program and its sheet".
 // What the sheet's entry answers: 20 or 0, its place, and how many bytes the sheet has.
-#[derive(Drop)]
+#![tactic(auto)]
+
+#[derive(Clone, Copy)]
 pub struct SheetAnswer {
     pub number: u8,
     pub place: u32,

@@ -1,7 +1,7 @@
 -- The reader up to number 9: a file's table, or the refusal that it earns. Document 01, "The task file" and "Numbers by
 -- who causes them": "Order: 1; then the walk of records ..; Then 6, 7, 8, 9".
 -- Assumes nothing.
-use Rattle.std.specs.Prelude.{ℕ, ◌%◌, Bool, ◌&&◌, List, [], ◌∷◌, length, get_or, leb, eqb}
+use Rattle.std.specs.Prelude.{ℕ, ◌%◌, Bool, ◌&&◌, [], length, get_or, leb, eqb}
 use Rattle.taskfile.specs.declared.Site.{Site}
 use Rattle.taskfile.specs.declared.Site.TheVariants.{AtHeader, AtTask, AtInstruction, AtLock}
 use Rattle.taskfile.specs.declared.Table.{Table}

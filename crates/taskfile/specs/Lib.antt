@@ -2,6 +2,5 @@ pub mod Chains
 pub mod Code
 pub mod File
 pub mod Judgement
-pub mod Laws
 pub mod Records
 pub mod Tables

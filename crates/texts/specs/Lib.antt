@@ -1,6 +1,5 @@
 pub mod Code
 pub mod Grammar
-pub mod Laws
 pub mod Reading
 pub mod TextDemand
 pub mod TextEntries

@@ -3,7 +3,8 @@
 -- Assumes nothing.
 use Rattle.std.specs.Prelude.{ℕ, suc, ◌+◌, ◌*◌, ◌-◌, Bool, true, false, not, ◌&&◌, ◌||◌, List, [], ◌∷◌, map, length, drop, leb, eqb}
 use Rattle.notation.specs.Checked.{Checked, passed, require, given, ◌>>=◌, ◌>>◌}
-use Rattle.notation.specs.Lists.{if◌then◌else◌, up_to, all, first_with, first_or, same}
+use Rattle.std.specs.Prelude.{if◌then◌else◌}
+use Rattle.notation.specs.Lists.{up_to, all, first_with, first_or, same}
 use Rattle.notation.specs.Texts.{Text}
 use Rattle.std.proofs.Math.Option.{Option}
 use Rattle.texts.specs.declared.Form.{Form}

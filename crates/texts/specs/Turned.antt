@@ -2,7 +2,8 @@
 -- refusal. Document 02, E5: "Depot engineers exchange tables by mail and read records badly. .. Convert both ways."
 -- Assumes nothing.
 use Rattle.std.specs.Prelude.{ℕ, Bool, List, take, eqb}
-use Rattle.notation.specs.Lists.{if◌then◌else◌, first_or}
+use Rattle.std.specs.Prelude.{if◌then◌else◌}
+use Rattle.notation.specs.Lists.{first_or}
 use Rattle.notation.specs.Letters.{w}
 use Rattle.sheets.specs.Sheets.{refused_line}
 use Rattle.writer.specs.declared.WriteAnswer.{WriteAnswer}

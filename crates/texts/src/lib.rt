@@ -1,8 +1,10 @@
 // The text form of a table: what a line can be, and what reading comes to. Document 02, E5.
+#![tactic(auto)]
+
 use taskfile::Table;
 
 // The forms that a line has: the window, the start values, a task, an instruction by its operation, a lock.
-#[derive(Drop)]
+#[derive(Clone, Copy)]
 pub enum Form {
     WindowLine,
     StartLine,
@@ -12,14 +14,14 @@ pub enum Form {
 }
 
 // A form that was looked for by its word.
-#[derive(Drop)]
+#[derive(Clone, Copy)]
 pub enum Named {
     As(Form),
     Unknown,
 }
 
 // The numerals of a line: whether each is one, how many there are, and the values of the first eight.
-#[derive(Drop)]
+#[derive(Clone, Copy)]
 pub struct Numerals {
     pub good: bool,
     pub count: usize,
@@ -27,7 +29,7 @@ pub struct Numerals {
 }
 
 // What reading a line comes to: 60, 61 or 0, and then its form and its numbers.
-#[derive(Drop)]
+#[derive(Clone, Copy)]
 pub struct LineRead {
     pub number: u8,
     pub form: Form,
@@ -35,7 +37,7 @@ pub struct LineRead {
 }
 
 // What reading a text comes to: 60, 61 or 0, the line at fault, and then the table that its lines spell.
-#[derive(Drop)]
+#[derive(Clone, Copy)]
 pub struct TextRead {
     pub number: u8,
     pub line: u32,

@@ -1,7 +1,7 @@
 -- An accepted table, numbers 10 and 11. Document 01: "A table is accepted if its file earns no number."
 -- "Then 6, 7, 8, 9, 10, 11, each over the whole table."
 -- Assumes nothing.
-use Rattle.std.specs.Prelude.{ℕ, List, [], ◌∷◌, length, get_or, leb}
+use Rattle.std.specs.Prelude.{ℕ, List, [], ◌∷◌, leb}
 use Rattle.taskfile.specs.declared.Site.{Site}
 use Rattle.taskfile.specs.declared.Site.TheVariants.{AtHeader, AtTask}
 use Rattle.taskfile.specs.declared.Table.{Table}

@@ -2,7 +2,6 @@ pub mod Accepted
 pub mod Blocking
 pub mod Code
 pub mod Jobs
-pub mod Laws
 pub mod ReadEntries
 pub mod Relations
 pub mod Response

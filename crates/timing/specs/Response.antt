@@ -8,7 +8,8 @@ use Rattle.std.proofs.Math.Option.{Option, none, some}
 use Rattle.taskfile.specs.declared.Table.{Table}
 use Rattle.taskfile.specs.declared.Task.{Task}
 use Rattle.taskfile.specs.declared.TaskEntry.{TaskEntry}
-use Rattle.notation.specs.Lists.{if◌then◌else◌, sum}
+use Rattle.std.specs.Prelude.{if◌then◌else◌}
+use Rattle.notation.specs.Lists.{sum}
 use Rattle.taskfile.specs.Tables.{tasks_of, task_of}
 use Rattle.timing.specs.Blocking.{blocking}
 

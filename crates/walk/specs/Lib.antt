@@ -1,7 +1,6 @@
 pub mod Code
 pub mod Demand2
 pub mod FailingOrders
-pub mod Laws
 pub mod Moves
 pub mod Paths
 pub mod Trees

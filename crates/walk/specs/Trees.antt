@@ -3,7 +3,7 @@
 -- and the paths of its moves are three readings of it (`Walks`, `Paths`).
 -- Assumes nothing.
 use Rattle.std.specs.Prelude.{ℕ, zero, suc, true, false, List, [], ◌∷◌}
-use Rattle.notation.specs.Lists.{if◌then◌else◌}
+use Rattle.std.specs.Prelude.{if◌then◌else◌}
 use Rattle.timing.specs.Accepted.{Accepted}
 use Rattle.order.specs.States.{State, initial, all_ended}
 use Rattle.walk.specs.Moves.{Move, moves}

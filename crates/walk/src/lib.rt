@@ -1,9 +1,11 @@
 // The walk: the first complete order that fails, if there is one. Document 01, "Orders of steps" and "Numbers by who
 // causes them".
+#![tactic(auto)]
+
 use taskfile::limits::{JOBS, VARIABLES};
 
 // Whether some complete order fails. A walk that was refused has no verdict.
-#[derive(Drop)]
+#[derive(Clone, Copy)]
 pub enum Verdict {
     None,
     Holds,
@@ -12,7 +14,7 @@ pub enum Verdict {
 
 // What the walk's entry answers: number and place, the verdict and the count of moves; of a walk that fails
 // also the first failing order's length, end store and failed jobs.
-#[derive(Drop)]
+#[derive(Clone, Copy)]
 pub struct WalkAnswer {
     pub number: u8,
     pub place: u32,

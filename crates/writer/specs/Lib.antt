@@ -1,7 +1,6 @@
 pub mod Claims
 pub mod Covered
 pub mod Fields
-pub mod Laws
 pub mod Layout
 pub mod Memory
 pub mod Positions

@@ -1,7 +1,7 @@
 -- Where an element stands in a list.
 -- Assumes nothing.
 use Rattle.std.specs.Prelude.{ℕ, suc, Bool, List, [], ◌∷◌, eqb}
-use Rattle.notation.specs.Lists.{if◌then◌else◌}
+use Rattle.std.specs.Prelude.{if◌then◌else◌}
 
 -- where the first element stands of which the test holds, from 0; past the end where there is none
 unfoldable pub position_where : {A : Type 0} → (A → Bool) → List A → ℕ

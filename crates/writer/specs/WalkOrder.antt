@@ -3,7 +3,8 @@
 -- where their records now stand.
 -- Assumes nothing.
 use Rattle.std.specs.Prelude.{ℕ, List, [], ◌∷◌, map, eqb}
-use Rattle.notation.specs.Lists.{if◌then◌else◌, up_to, member, each}
+use Rattle.std.specs.Prelude.{if◌then◌else◌}
+use Rattle.notation.specs.Lists.{up_to, member, each}
 use Rattle.taskfile.specs.Chains.{Chains, reached_by}
 use Rattle.taskfile.specs.Records.{File, byte_at}
 use Rattle.writer.specs.Positions.{position_of}

@@ -1,9 +1,11 @@
 // The table in memory and the writer: what their entries answer, and where a table's parts stand in memory.
 // Document 02, E2.
+#![tactic(auto)]
+
 pub mod places;
 
 // What both entries answer: number and place, and how many bytes were written.
-#[derive(Drop)]
+#[derive(Clone, Copy)]
 pub struct WriteAnswer {
     pub number: u8,
     pub place: u32,
@@ -11,7 +13,7 @@ pub struct WriteAnswer {
 }
 
 // What a table says of one lock: its ceiling and its longest holding time.
-#[derive(Drop)]
+#[derive(Clone, Copy)]
 pub struct Lock {
     pub ceiling: u8,
     pub holding: u32,

@@ -3,9 +3,9 @@
 -- `unfolding all_opened response_of`.
 -- Assumes nothing.
 use Rattle.examples.specs.Laws.Opened
-use Rattle.order.specs.Laws.Opened.{orders_opened}
-use Rattle.walk.specs.Laws.Opened.{walks_opened}
-use Rattle.plan.specs.Laws.Opened.{plans_opened}
+use Rattle.order.proofs.Laws.Opened.{orders_opened}
+use Rattle.walk.proofs.Laws.Opened.{walks_opened}
+use Rattle.plan.proofs.Laws.Opened.{plans_opened}
 use Rattle.matching.specs.ConversionEntries
 use Rattle.matching.specs.Conversions
 use Rattle.bench.specs.Files

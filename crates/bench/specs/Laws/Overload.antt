@@ -1,15 +1,15 @@
 -- Row P4 of the bench cases, by reasoning: its periods are far too long to look for a response time upwards from 1.
 -- Assumes nothing.
-use Rattle.std.specs.Prelude.{◌≡◌, refl, ℕ, List, [], ◌∷◌, ◌++◌, replicate}
+use Rattle.std.specs.Prelude.{◌≡◌, [], ◌∷◌, replicate}
 use Rattle.std.proofs.Common.{arith}
-use Rattle.std.proofs.Math.Option.{Option, none, some}
+use Rattle.std.proofs.Math.Option.{none}
 use Rattle.taskfile.specs.declared.Task.{Task}
 use Rattle.taskfile.specs.Chains.{Chains}
 use Rattle.taskfile.specs.Records.{File}
 use Rattle.taskfile.specs.Tables.{table_at}
 use Rattle.timing.specs.ReadEntries.{read_answer}
 use Rattle.timing.specs.Response.{response_of}
-use Rattle.timing.specs.Laws.ResponseLaws.{response_none, rounded_up_positive}
+use Rattle.timing.proofs.Laws.ResponseLaws.{response_none, rounded_up_positive}
 use Rattle.bench.specs.Files.{two_tasks}
 use Rattle.bench.specs.Laws.Opened.{all_opened}
 

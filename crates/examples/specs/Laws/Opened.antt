@@ -21,7 +21,7 @@ use Rattle.machine.specs.Held
 use Rattle.machine.specs.Instructions
 
 unfoldable pub notation_opened : Unit {0}
-unfolding Checked.◌>>=◌ Checked.◌>>◌ Checked.require Checked.given Checked.none_of Checked.placed_by Lists.if◌then◌else◌
+unfolding Checked.◌>>=◌ Checked.◌>>◌ Checked.require Checked.given Checked.none_of Checked.placed_by
     Lists.from Lists.up_to Lists.from_to Lists.member Lists.all Lists.any Lists.only Lists.first_with Lists.each Lists.same
     Lists.first_or Lists.last_or Lists.sum Lists.largest Lists.padded
 notation_opened = tt

@@ -3,7 +3,7 @@
 use Rattle.std.specs.Prelude.{◌≡◌, refl, ℕ, true, false, [], ◌∷◌, replicate}
 use Rattle.notation.specs.Checked.{passed}
 use Rattle.taskfile.specs.declared.Table.{Table}
-use Rattle.taskfile.specs.Laws.SmallTables.{instruction, task, locked_table, table}
+use Rattle.taskfile.proofs.Laws.SmallTables.{instruction, task, locked_table, table}
 use Rattle.taskfile.specs.Tables.{end_instruction}
 use Rattle.timing.specs.declared.JobRecord.{JobRecord}
 use Rattle.timing.specs.Accepted.{Accepted, timed}

@@ -5,7 +5,8 @@ use Rattle.std.proofs.Common.{arith, ap, ◌∙◌, inl, inr}
 use mathlib.Core.List.{List, Memᴰ, [], ◌∷◌}
 use Rattle.std.proofs.Math.Option.{Option, none, some}
 use Rattle.notation.specs.Checked.{Checked, refused, passed, require, given, none_of, placed_by, ◌>>=◌, ◌>>◌}
-use Rattle.notation.specs.Lists.{if◌then◌else◌, same}
+use Rattle.std.specs.Prelude.{if◌then◌else◌}
+use Rattle.notation.specs.Lists.{same}
 use Rattle.notation.specs.Laws.ListLaws.{get_or_member}
 
 -- a refusal is no pass
@@ -60,13 +61,12 @@ placed_passed f (passed y) e = cc
 -- the first listed place has no fault, and those after it pass
 none_of_first : {P : Type 0} (number : ℕ) (test : Bool) (place : P) (rest : Checked P (Unit {0})) {u : Unit {0}}
     → (if test then refused number place else rest) ≡ passed u → (test ≡ false) × (rest ≡ passed u)
-unfolding if◌then◌else◌
 none_of_first number true place rest e = refused_passed e
 none_of_first number false place rest e = (refl, e)
 
 -- no listed place has the fault
-pub none_of_passed : {P : Type 0} (number : ℕ) (fault : P → Bool) {places : List P} {u : Unit {0}}
-    → none_of number fault places ≡ passed u → {p : P} → Memᴰ p places → fault p ≡ false
+pub none_of_passed : {P : Type 0} (number : ℕ) (fault : P → Bool) {p : P} {places : List P} {u : Unit {0}}
+    → none_of number fault places ≡ passed u → Memᴰ p places → fault p ≡ false
 unfolding none_of
 none_of_passed number fault e (Memᴰ.head {x} {xs} same) =
     ap fault same ∙ (none_of_first number (fault x) x (none_of number fault xs) e).0
@@ -121,7 +121,6 @@ given_refused (some x) number place e = absurd (let z : ◌≡◌ {A = ℕ} 0 1 
 pub first_listed : {P : Type 0} (number : ℕ) (b : Bool) (q : P) (places : List P) (rest : Checked P (Unit {0}))
     {n : ℕ} {p : P} → (if b then refused number q else rest) ≡ refused n p → (rest ≡ refused n p → Memᴰ p places)
     → Memᴰ p (q ∷ places)
-unfolding if◌then◌else◌
 first_listed number true q places rest {p} e later = let same : p ≡ q = cc in Memᴰ.head same
 first_listed number false q places rest e later = Memᴰ.tail (later e)
 
@@ -164,6 +163,6 @@ placed_refused g (passed x) e = absurd (let z : ◌≡◌ {A = ℕ} 0 1 = cc in 
 -- where no listed place has the fault, the check passes
 pub none_faulty : {P : Type 0} (number : ℕ) (fault : P → Bool) (places : List P)
     → ((p : P) → Memᴰ p places → fault p ≡ false) → none_of number fault places ≡ passed tt
-unfolding none_of if◌then◌else◌
+unfolding none_of
 none_faulty number fault [] h = refl
 none_faulty number fault (p ∷ ps) h = rw (h p (Memᴰ.head refl)) (none_faulty number fault ps (λ q m. h q (Memᴰ.tail m)))

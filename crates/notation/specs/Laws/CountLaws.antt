@@ -11,7 +11,8 @@ use native.Mathlib.Omega.{arith}
 use Rattle.std.proofs.Math.Bool.{true, false}
 use mathlib.Core.List.{List, [], ◌∷◌, ◌++◌}
 use Rattle.std.proofs.Math.ListN.{length}
-use Rattle.notation.specs.Lists.{if◌then◌else◌, only}
+use Rattle.std.specs.Prelude.{if◌then◌else◌}
+use Rattle.notation.specs.Lists.{only}
 use Rattle.notation.specs.Laws.TestLaws.{test_decided}
 
 -- one more where the test holds
@@ -39,11 +40,11 @@ Bounded f r k = (x : ℕ) → x < k → f x < r
 -- ---- one number more
 
 pub counted_in : (test : Bool) (n : ℕ) → test ≡ true → counted test n ≡ suc n
-unfolding counted if◌then◌else◌
+unfolding counted
 counted_in test n e = rw e
 
 pub counted_out : (test : Bool) (n : ℕ) → test ≡ false → counted test n ≡ n
-unfolding counted if◌then◌else◌
+unfolding counted
 counted_out test n e = rw e
 
 -- a value below r + 1 is below r or r itself
@@ -145,13 +146,13 @@ module _ (f : ℕ → ℕ) (k : ℕ) (distinct : Distinct f k) where
 
 -- a count grows by one at most, whatever the test says
 counted_most : (b : Bool) (n : ℕ) → counted b n ≤ suc n
-unfolding counted if◌then◌else◌
+unfolding counted
 counted_most true n = omega arith
 counted_most false n = omega arith
 
 -- two tests count in either order
 counted_swap : (b c : Bool) (n : ℕ) → counted b (counted c n) ≡ counted c (counted b n)
-unfolding counted if◌then◌else◌
+unfolding counted
 counted_swap true true n = refl
 counted_swap true false n = refl
 counted_swap false c n = refl
@@ -160,7 +161,7 @@ module _ {A : Type 0} where
   -- the first element counts if the test holds of it
   only_counted : (test : A → Bool) (x : A) (xs : List A)
       → length (only test (x ∷ xs)) ≡ counted (test x) (length (only test xs))
-  unfolding only counted if◌then◌else◌
+  unfolding only counted
   only_counted test x xs = go (test x)
     where
       go : (b : Bool)
@@ -208,7 +209,7 @@ module _ {A : Type 0} where
   pub only_more : (p q : A → Bool) (xs : List A) (k : ℕ) (d : A) → k < length xs → p (get_or xs k d) ≡ false
       → q (get_or xs k d) ≡ true → ((j : ℕ) → j < length xs → (j ≡ k → ⊥) → q (get_or xs j d) ≡ p (get_or xs j d))
       → length (only q xs) ≡ suc (length (only p xs))
-  unfolding counted if◌then◌else◌
+  unfolding counted
   only_more p q [] k d lt e f same = absurd (omega arith)
   only_more p q (x ∷ xs) zero d lt e f same =
       only_counted q x xs

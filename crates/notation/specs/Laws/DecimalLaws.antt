@@ -1,19 +1,19 @@
 -- Numbers in decimal: how many digits they have, and that the bound on digits never matters.
 -- Assumes nothing.
-use Rattle.std.specs.Prelude.{◌≡◌, ℕ, zero, suc, ◌/◌, ◌%◌, ◌^◌, ◌≤◌, ◌<◌, List, [], ◌∷◌, ◌++◌, length}
+use Rattle.std.specs.Prelude.{◌≡◌, ℕ, zero, suc, ◌/◌, ◌%◌, ◌^◌, ◌≤◌, ◌<◌, [], ◌∷◌, ◌++◌, length}
 use Rattle.std.proofs.Common.{sym, ap, ◌∙◌, arith, length-append, lt-ltb, le-ltb}
 use Rattle.std.proofs.Math.Decide.{dec_lt}
-use Rattle.notation.specs.Lists.{if◌then◌else◌}
+use Rattle.std.specs.Prelude.{if◌then◌else◌}
 use Rattle.notation.specs.Texts.{Text, digit, digits, decimal}
 
 -- ---- one digit, and one digit after the others
 
 digits_one : (most n : ℕ) → n < 10 → digits (suc most) n ≡ digit n ∷ []
-unfolding digits if◌then◌else◌
+unfolding digits
 digits_one most n small = rw (lt-ltb n 10 small)
 
 digits_more : (most n : ℕ) → 10 ≤ n → digits (suc most) n ≡ digits most (n / 10) ++ (digit (n % 10) ∷ [])
-unfolding digits if◌then◌else◌
+unfolding digits
 digits_more most n large = rw (le-ltb n 10 large)
 
 -- ---- how many

@@ -10,7 +10,8 @@ use mathlib.Core.List.{List, [], ◌∷◌, ◌++◌, append-nil, map, Memᴰ}
 use Rattle.std.proofs.Math.ListN.{get_or-append}
 use Rattle.std.proofs.Math.Seq.{get_or-append_seam}
 use Rattle.notation.specs.Laws.ListLaws.{from_snoc, each_append}
-use Rattle.notation.specs.Lists.{if◌then◌else◌, from, up_to, only, first_or, last_or, each, same, sum}
+use Rattle.std.specs.Prelude.{if◌then◌else◌}
+use Rattle.notation.specs.Lists.{from, up_to, only, first_or, last_or, each, same, sum}
 use Rattle.notation.specs.Ordered.{Every}
 use Rattle.notation.specs.Laws.TestLaws.{and_holds, and_both}
 
@@ -103,16 +104,16 @@ snoc_at xs y k d lt =
 -- the first element is kept or not
 pub only_in : {A : Type 0} (test : A → Bool) (x : A) (xs : List A) → test x ≡ true
     → only test (x ∷ xs) ≡ x ∷ only test xs
-unfolding only if◌then◌else◌
+unfolding only
 only_in test x xs e = rw e refl
 
 pub only_out : {A : Type 0} (test : A → Bool) (x : A) (xs : List A) → test x ≡ false → only test (x ∷ xs) ≡ only test xs
-unfolding only if◌then◌else◌
+unfolding only
 only_out test x xs e = rw e refl
 
 -- those kept of two lists are those of the first, then those of the second
 pub only_append : {A : Type 0} (test : A → Bool) (xs ys : List A) → only test (xs ++ ys) ≡ only test xs ++ only test ys
-unfolding only if◌then◌else◌
+unfolding only
 only_append test [] ys = refl
 only_append {A} test (x ∷ xs) ys = go (test x) (only_append test xs ys)
   where
@@ -124,12 +125,12 @@ only_append {A} test (x ∷ xs) ys = go (test x) (only_append test xs ys)
 
 -- a test that holds of every element keeps them all, and one that holds of none keeps nothing
 pub only_all : {A : Type 0} (test : A → Bool) (xs : List A) → Every (λ x. test x ≡ true) xs → only test xs ≡ xs
-unfolding only if◌then◌else◌
+unfolding only
 only_all test [] h = refl
 only_all test (x ∷ xs) h = rw h.0 (ap (λ (l : List _). x ∷ l) (only_all test xs h.1))
 
 pub only_none : {A : Type 0} (test : A → Bool) (xs : List A) → Every (λ x. test x ≡ false) xs → only test xs ≡ []
-unfolding only if◌then◌else◌
+unfolding only
 only_none test [] h = refl
 only_none test (x ∷ xs) h = rw h.0 (only_none test xs h.1)
 
@@ -141,7 +142,7 @@ only_every test d xs h = only_all test xs (at_every (λ x. test x ≡ true) d xs
 -- one that does not hold of the last drops it
 pub only_drops : {A : Type 0} (test : A → Bool) (xs : List A) (y : A) → test y ≡ false
     → only test (xs ++ (y ∷ [])) ≡ only test xs
-unfolding only if◌then◌else◌
+unfolding only
 only_drops {A} test xs y e =
     let none : only test (y ∷ []) ≡ [] = rw e refl in
     only_append test xs (y ∷ []) ∙ ap (λ (l : List A). only test xs ++ l) none ∙ append-nil (only test xs)
@@ -193,7 +194,7 @@ same_refl (x ∷ xs) = and_holds (eqb x x) _ (eq-eqb x x refl) (same_refl xs)
 
 -- the elements that are kept are elements
 pub member_only : {A : Type 0} (test : A → Bool) (xs : List A) {x : A} → Memᴰ x (only test xs) → Memᴰ x xs
-unfolding only if◌then◌else◌
+unfolding only
 member_only test [] m = absurd (Memᴰ.not-nil m)
 member_only test (y ∷ ys) {x} m = go (test y) m (λ n. member_only test ys n)
   where
@@ -206,7 +207,7 @@ member_only test (y ∷ ys) {x} m = go (test y) m (λ n. member_only test ys n)
 -- an element of which the test holds is kept
 pub only_member : {A : Type 0} (test : A → Bool) {x : A} {xs : List A} → Memᴰ x xs → test x ≡ true
     → Memᴰ x (only test xs)
-unfolding only if◌then◌else◌
+unfolding only
 only_member test (Memᴰ.head {x = y} e) h =
     let holds : test y ≡ true = ap test (sym e) ∙ h in rw holds (Memᴰ.head e)
 only_member test {x} (Memᴰ.tail {x = y} {xs = ys} m) h = go (test y) (only_member test m h)
@@ -274,7 +275,7 @@ map_cut f (x ∷ xs) (y ∷ ys) zs z e =
 -- as many elements are kept of a mapped list as of the list
 pub only_mapped : {A B : Type 0} (f : A → B) (test : B → Bool) (xs : List A)
     → length (only (λ x. test (f x)) xs) ≡ length (only test (map f xs))
-unfolding only if◌then◌else◌
+unfolding only
 only_mapped f test [] = refl
 only_mapped f test (x ∷ xs) = go (test (f x)) (only_mapped f test xs)
   where

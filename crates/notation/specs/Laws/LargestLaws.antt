@@ -9,7 +9,8 @@ use Rattle.std.proofs.Math.Decide.{dec_lt}
 use native.Mathlib.Omega.{arith}
 use Rattle.std.proofs.Math.Bool.{true, false}
 use mathlib.Core.List.{List, [], ◌∷◌, map}
-use Rattle.notation.specs.Lists.{if◌then◌else◌, only, largest}
+use Rattle.std.specs.Prelude.{if◌then◌else◌}
+use Rattle.notation.specs.Lists.{only, largest}
 
 module _ {A : Type 0} (f : A → ℕ) (test : A → Bool) where
   -- the largest of them
@@ -18,7 +19,7 @@ module _ {A : Type 0} (f : A → ℕ) (test : A → Bool) where
 
   -- an element more: its own value, if the test holds, or that of the others
   pub largest_step : (x : A) (xs : List A) → Largest (x ∷ xs) ≡ max (if test x then f x else 0) (Largest xs)
-  unfolding largest only if◌then◌else◌
+  unfolding largest only
   largest_step x xs = go (test x)
     where
       go : (b : Bool) → largest (map f (if b then x ∷ only test xs else only test xs)) ≡ max (if b then f x else 0) (Largest xs)
@@ -28,7 +29,6 @@ module _ {A : Type 0} (f : A → ℕ) (test : A → Bool) where
   -- none of them is larger
   pub largest_most : (xs : List A) (k : ℕ) (d : A) → k < length xs → test (get_or xs k d) ≡ true
       → f (get_or xs k d) ≤ Largest xs
-  unfolding if◌then◌else◌
   largest_most [] k d lt holds = absurd (omega arith)
   largest_most (x ∷ xs) zero d lt holds = let step = largest_step x xs in omega (arith, rw holds at step)
   largest_most (x ∷ xs) (suc k) d lt holds = omega (arith, largest_step x xs, largest_most xs k d (omega arith) holds)
@@ -44,7 +44,7 @@ module _ {A : Type 0} (f : A → ℕ) (test : A → Bool) where
 
   -- the largest is attained
   pub largest_attained : (xs : List A) (d : A) → Attained xs d (Largest xs)
-  unfolding largest only if◌then◌else◌
+  unfolding largest only
   largest_attained [] d = inl refl
   largest_attained (x ∷ xs) d = rw (largest_step x xs) (go (test x) refl (Largest xs) (largest_attained xs d))
     where

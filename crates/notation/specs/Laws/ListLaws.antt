@@ -1,5 +1,5 @@
 -- Laws of the lists that definitions run over: what their elements are, and how many.
--- Membership in a `map` is the library's, `Memᴰ·map` and `Memᴰ·of-map` of `mathlib.Core.List`.
+-- Membership in a `map` is the library's, `Memᴰ.map` and `Memᴰ.of_map` of `mathlib.Core.List`.
 -- Assumes nothing.
 use Rattle.std.specs.Prelude.{ℕ, zero, suc, ◌+◌, ◌≤◌, ◌<◌, ◌↔◌, ◌≡◌, refl, ◌++◌, map, length, get_or}
 use Rattle.std.proofs.Common.{arith, inl, inr, sym, ap, ◌∙◌}
@@ -15,10 +15,10 @@ get_or_member (x ∷ xs) zero d h = Memᴰ.head refl
 get_or_member (x ∷ xs) (suc k) d h = Memᴰ.tail (get_or_member xs k d (omega arith))
 
 -- below the length, what stands at an index does not turn on the default
-pub get_d_any : {A : Type 0} (xs : List A) (k : ℕ) (d e : A) → k < length xs → get_or xs k d ≡ get_or xs k e
-get_d_any [] k d e h = absurd (omega arith)
-get_d_any (x ∷ xs) zero d e h = refl
-get_d_any (x ∷ xs) (suc k) d e h = get_d_any xs k d e (omega arith)
+pub get_or_any : {A : Type 0} (xs : List A) (k : ℕ) (d e : A) → k < length xs → get_or xs k d ≡ get_or xs k e
+get_or_any [] k d e h = absurd (omega arith)
+get_or_any (x ∷ xs) zero d e h = refl
+get_or_any (x ∷ xs) (suc k) d e h = get_or_any xs k d e (omega arith)
 
 -- the numbers start to start + n - 1 are elements of `from start n`
 pub from_member : (start n k : ℕ) → start ≤ k → k < start + n → Memᴰ k (from start n)
@@ -69,7 +69,7 @@ unfolding up_to
 get_or_up_to n k d h = get_or_from 0 n k d h ∙ omega arith
 
 -- an element of f x, for x an element of xs, is an element of `each xs f`
-pub each_member : {A B : Type 0} {xs : List A} (f : A → List B) {x : A} {y : B} → Memᴰ x xs → Memᴰ y (f x)
+pub each_member : {A B : Type 0} {x : A} {xs : List A} (f : A → List B) {y : B} → Memᴰ x xs → Memᴰ y (f x)
     → Memᴰ y (each xs f)
 unfolding each
 each_member f (Memᴰ.head {x} {xs} same) m = Memᴰ.append_left (each xs f) (rw same at m)

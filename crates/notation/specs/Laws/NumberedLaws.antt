@@ -3,7 +3,7 @@
 use Rattle.std.specs.Prelude.{ℕ, ◌≤◌, Bool, true, false, List, [], ◌∷◌}
 use Rattle.std.proofs.Math.Option.{Option, none, some}
 use Rattle.notation.specs.Checked.{Checked, refused, passed, require, given, none_of, placed_by, ◌>>=◌, ◌>>◌}
-use Rattle.notation.specs.Lists.{if◌then◌else◌}
+use Rattle.std.specs.Prelude.{if◌then◌else◌}
 
 pub data Numbered {P A : Type 0} : Checked P A → Type 0 where
   by_number : {number : ℕ} {place : P} → 1 ≤ number → Numbered (refused number place)
@@ -34,7 +34,6 @@ given_numbered (some value) number place h = none_asked
 
 pub choice_numbered : {P A : Type 0} (test : Bool) {c d : Checked P A} → Numbered c → Numbered d
     → Numbered (if test then c else d)
-unfolding if◌then◌else◌
 choice_numbered true h g = h
 choice_numbered false h g = g
 

@@ -134,6 +134,6 @@ every_listed P [] h = tt
 every_listed P (x ∷ xs) h = (h x (Memᴰ.head refl), every_listed P xs (λ y m. h y (Memᴰ.tail m)))
 
 -- an element has what every element has
-pub every_member : {A : Type 0} (P : A → Type 0) (xs : List A) {x : A} → Every P xs → Memᴰ x xs → P x
+pub every_member : {A : Type 0} (P : A → Type 0) {x : A} (xs : List A) → Every P xs → Memᴰ x xs → P x
 every_member P _ h (Memᴰ.head same) = subst P (sym same) h.0
 every_member P _ h (Memᴰ.tail {x} {xs} m) = every_member P xs h.1 m

@@ -10,7 +10,8 @@ use Rattle.std.proofs.Math.Bool.{true, false}
 use mathlib.Core.List.{List, [], ◌∷◌, map, ◌++◌, reverse, reverse-cons}
 use Rattle.std.proofs.Math.Option.{none, some}
 use Rattle.std.proofs.Math.ListN.{length}
-use Rattle.notation.specs.Lists.{if◌then◌else◌, all, any, first_with}
+use Rattle.std.specs.Prelude.{if◌then◌else◌}
+use Rattle.notation.specs.Lists.{all, any, first_with}
 use Rattle.notation.specs.Laws.TestLaws.{and_both, or_either, and_holds, or_left, or_right, or_neither}
 
 module _ {A : Type 0} (test : A → Bool) where
@@ -56,7 +57,7 @@ module _ {A : Type 0} (test : A → Bool) where
   -- the first element of which it holds
   pub first_at : (xs : List A) (d : A) {y : A} → first_with test xs ≡ some y
       → (k : ℕ) × (k < length xs) × (get_or xs k d ≡ y) × (test y ≡ true)
-  unfolding first_with if◌then◌else◌
+  unfolding first_with
   first_at [] d {y} h = absurd (let z : ◌≡◌ {A = ℕ} 0 1 = cc in omega arith)
   first_at (x ∷ xs) d {y} h = go (test x) refl h (λ rest. first_at xs d rest)
     where
@@ -68,7 +69,7 @@ module _ {A : Type 0} (test : A → Bool) where
 
   pub first_only : (xs : List A) (k : ℕ) (d : A) → k < length xs → test (get_or xs k d) ≡ true
       → ((j : ℕ) → j < length xs → test (get_or xs j d) ≡ true → j ≡ k) → first_with test xs ≡ some (get_or xs k d)
-  unfolding first_with if◌then◌else◌
+  unfolding first_with
   first_only [] k d lt h only = absurd (omega arith)
   first_only (x ∷ xs) zero d lt h only = rw h refl
   first_only (x ∷ xs) (suc k) d lt h only = go (test x) refl (first_only xs k d (omega arith) h (λ j l t. omega (arith, only (suc j) (omega arith) t)))
@@ -80,7 +81,7 @@ module _ {A : Type 0} (test : A → Bool) where
 
   pub first_none : (xs : List A) (d : A) → ((k : ℕ) → k < length xs → test (get_or xs k d) ≡ false)
       → first_with test xs ≡ none
-  unfolding first_with if◌then◌else◌
+  unfolding first_with
   first_none [] d h = refl
   first_none (x ∷ xs) d h = rw (h 0 (omega arith)) (first_none xs d (λ k lt. h (suc k) (omega arith)))
 
@@ -119,9 +120,9 @@ all_reverse test (x ∷ xs) = rw (reverse-cons x xs, all_append test (reverse xs
     swap false false = refl
 
 -- a test of every element of a list and of the default holds of what is read at any index
-pub all_get_d : {A : Type 0} (test : A → Bool) (xs : List A) (k : ℕ) (d : A) → all test xs ≡ true → test d ≡ true
+pub all_get_or : {A : Type 0} (test : A → Bool) (xs : List A) (k : ℕ) (d : A) → all test xs ≡ true → test d ≡ true
     → test (get_or xs k d) ≡ true
 unfolding all
-all_get_d test [] k d h default = default
-all_get_d test (x ∷ xs) zero d h default = (and_both (test x) (all test xs) h).0
-all_get_d test (x ∷ xs) (suc k) d h default = all_get_d test xs k d (and_both (test x) (all test xs) h).1 default
+all_get_or test [] k d h default = default
+all_get_or test (x ∷ xs) zero d h default = (and_both (test x) (all test xs) h).0
+all_get_or test (x ∷ xs) (suc k) d h default = all_get_or test xs k d (and_both (test x) (all test xs) h).1 default

@@ -8,7 +8,8 @@ use Rattle.std.proofs.Common.{arith, ◌∙◌}
 use Rattle.std.proofs.Math.Path.{ap}
 use Rattle.std.proofs.Math.Option.{Option, none, some}
 use Rattle.notation.specs.Checked.{Checked, refused, passed, none_of, ◌>>◌}
-use Rattle.notation.specs.Lists.{from, up_to, any, first_with, each, if◌then◌else◌}
+use Rattle.std.specs.Prelude.{if◌then◌else◌}
+use Rattle.notation.specs.Lists.{from, up_to, any, first_with, each}
 use Rattle.notation.specs.Laws.QuantifierLaws.{at_none}
 
 -- the numbers from p on up to n are p and those after it, or none
@@ -38,7 +39,7 @@ module _ (test : ℕ → Bool) (n : ℕ) where
 
   module _ (p : ℕ) (so_far : Searched test n p) where
     pub search_goes_on : p < n → test p ≡ false → Searched test n (p + 1)
-    unfolding first_with if◌then◌else◌
+    unfolding first_with
     search_goes_on below fails =
         record {
           within = omega arith;
@@ -46,7 +47,7 @@ module _ (test : ℕ → Bool) (n : ℕ) where
         }
 
     pub search_finds : p < n → test p ≡ true → first_with test (up_to n) ≡ some p
-    unfolding first_with if◌then◌else◌
+    unfolding first_with
     search_finds below holds = so_far.same ∙ ap (first_with test) (from_first p n below) ∙ rw holds
 
     pub search_ends : n ≤ p → first_with test (up_to n) ≡ none
@@ -76,7 +77,6 @@ module _ {A : Type 0} (test : A → Bool) (xs : List A) (d : A) where
 
 -- a function of a choice is the choice of its values
 if_under : {A B : Type 0} (f : A → B) (test : Bool) (x y : A) → (if test then f x else f y) ≡ f (if test then x else y)
-unfolding if◌then◌else◌
 if_under f true x y = refl
 if_under f false x y = refl
 
@@ -87,7 +87,7 @@ refused_at number f (some x) = refused number (f x)
 
 pub none_of_map : {A P : Type 0} (number : ℕ) (fault : P → Bool) (f : A → P) (xs : List A)
     → none_of number fault (map f xs) ≡ refused_at number f (first_with (λ x. fault (f x)) xs)
-unfolding none_of first_with refused_at if◌then◌else◌
+unfolding none_of first_with refused_at
 none_of_map number fault f [] = refl
 none_of_map number fault f (x ∷ xs) =
     rw (none_of_map number fault f xs) (if_under (refused_at number f) (fault (f x)) (some x) (first_with (λ x. fault (f x)) xs))
@@ -95,7 +95,7 @@ none_of_map number fault f (x ∷ xs) =
 -- a check of two lists is a check of one and then of the other
 none_of_append : {P : Type 0} (number : ℕ) (fault : P → Bool) (xs ys : List P)
     → none_of number fault (xs ++ ys) ≡ ◌>>◌ (none_of number fault xs) (none_of number fault ys)
-unfolding none_of ◌>>◌ if◌then◌else◌
+unfolding none_of ◌>>◌
 none_of_append number fault [] ys = refl
 none_of_append number fault (x ∷ xs) ys =
     rw (none_of_append number fault xs ys)

@@ -2,7 +2,8 @@
 -- Assumes nothing.
 use Rattle.std.specs.Prelude.{ℕ, zero, suc, ◌+◌, ◌*◌, ◌/◌, ◌%◌, ◌≤◌, ◌<◌, Bool, true, false, List, [], ◌∷◌, ◌++◌, map, length, get_or, ltb}
 use Rattle.std.proofs.Common.{suc-mul, arith, length-append}
-use Rattle.notation.specs.Lists.{if◌then◌else◌, only, each, sum}
+use Rattle.std.specs.Prelude.{if◌then◌else◌}
+use Rattle.notation.specs.Lists.{only, each, sum}
 use Rattle.notation.specs.Ordered.{Every}
 use Rattle.notation.specs.Texts.{Text, digit, digits, decimal, spaced, line}
 
@@ -19,7 +20,7 @@ each_most b f (x ∷ xs) h =
 -- a choice among elements keeps what holds of each, and has no more of them
 pub only_most : {A : Type 0} (P : A → Type 0) (test : A → Bool) (xs : List A) → Every P xs
     → Every P (only test xs) × (length (only test xs) ≤ length xs)
-unfolding only if◌then◌else◌
+unfolding only
 only_most P test [] h = (tt, omega arith)
 only_most {A} P test (x ∷ xs) h = go (test x) (only_most P test xs h.1)
   where
@@ -40,7 +41,7 @@ sum_part f (x ∷ xs) (suc k) d lt = omega (arith, sum_part f xs k d (omega arit
 -- ---- numbers
 
 digits_most : (most n : ℕ) → length (digits most n) ≤ most
-unfolding digits if◌then◌else◌
+unfolding digits
 digits_most zero n = omega arith
 digits_most (suc most) n = go (ltb n 10) (digits_most most (n / 10))
   where

@@ -1,6 +1,6 @@
 -- What holds of every state that an order of an accepted table can reach. Every step keeps it (`StepLaws`).
 -- Assumes nothing.
-use Rattle.std.specs.Prelude.{◌≡◌, ℕ, ◌<◌, Bool, true, false, ◌||◌, length}
+use Rattle.std.specs.Prelude.{◌≡◌, ◌<◌, Bool, true, false, ◌||◌, length}
 use Rattle.notation.specs.Ordered.{Every, Ordered}
 use Rattle.taskfile.specs.Tables.{task_of, body_of}
 use Rattle.timing.specs.declared.Job.{Job}

@@ -4,7 +4,8 @@
 use Rattle.std.specs.Prelude.{ℕ, min, ◌+◌, List, [], map, length, drop, replicate}
 use Rattle.std.proofs.Math.Option.{Option, none, some}
 use Rattle.notation.specs.Checked.{Checked, refused, passed}
-use Rattle.notation.specs.Lists.{if◌then◌else◌, all, first_or, padded}
+use Rattle.std.specs.Prelude.{if◌then◌else◌}
+use Rattle.notation.specs.Lists.{all, first_or, padded}
 use Rattle.notation.specs.Texts.{Text}
 use Rattle.taskfile.specs.Tables.{empty_table}
 use Rattle.texts.specs.declared.Form.{Form}
