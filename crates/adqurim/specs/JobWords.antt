@@ -1,7 +1,7 @@
 -- What the job list's entry leaves in the lent words and the lent list.
 -- Assumes nothing.
 use Rattle.std.specs.Prelude.{ℕ, List, length, leb}
-use Rattle.notation.specs.Lists.{if◌then◌else◌}
+use Rattle.std.specs.Prelude.{if◌then◌else◌}
 use Rattle.taskfile.specs.Records.{File}
 use Rattle.timing.specs.declared.JobRecord.{JobRecord}
 use Rattle.timing.specs.ReadEntries.{list_answer, list_after}

@@ -1,7 +1,7 @@
 -- What the writer's entry leaves in the lent words and the lent file.
 -- Assumes nothing.
 use Rattle.std.specs.Prelude.{ℕ, Bool, ◌&&◌, List, length, leb}
-use Rattle.notation.specs.Lists.{if◌then◌else◌}
+use Rattle.std.specs.Prelude.{if◌then◌else◌}
 use Rattle.taskfile.specs.Records.{File}
 use Rattle.adqurim_words.specs.Words.{words_of_write, write_words, filled_with}
 use Rattle.writer.specs.Memory.{table_bytes, table_in}

@@ -1,7 +1,9 @@
 // The C interface. Each entry fills words that the caller lends, if there is room for them; the header says what
 // each word holds.
+#![tactic(auto)]
+
 ghost use Rattle.std.specs.Prelude.{◌≡◌, leb, length};
-ghost use Rattle.notation.specs.Lists.{if◌then◌else◌};
+ghost use Rattle.std.specs.Prelude.{if◌then◌else◌};
 ghost use Rattle.adqurim.specs.Code.GivenJobs.{GivenAs};
 ghost use Rattle.adqurim.specs.JobWords.{words_after, entry_after};
 ghost use Rattle.adqurim.specs.WriteWords.{lends_enough, write_words_after, write_file_after};

@@ -1,4 +1,6 @@
 // The words of an answer, stored into those that the caller of the C interface lends.
+#![tactic(auto)]
+
 ghost use Rattle.std.specs.Prelude.{◌≡◌, ◌<◌, ◌≤◌, [], ◌∷◌, length, get_or};
 ghost use Rattle.adqurim_words.specs.Words.{
   words_of_sheet,

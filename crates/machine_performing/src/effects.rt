@@ -1,6 +1,6 @@
 // One function for each operation, on the bytes of a state.
 ghost use Rattle.std.specs.Prelude.{◌≡◌, ◌<◌, length};
-ghost use Rattle.notation.specs.Lists.{if◌then◌else◌};
+ghost use Rattle.std.specs.Prelude.{if◌then◌else◌};
 ghost use Rattle.machine.specs.Held.{acquire, release};
 ghost use Rattle.machine.specs.Code.Within.{LocksWithin, Within};
 ghost use Rattle.machine.specs.Instructions.{end_job, load_variable, store, set_number, add, subtract};

@@ -1,4 +1,6 @@
 // An instruction performed in place, on the bytes of a state, so that no state of a job and no store is copied for it.
+#![tactic(auto)]
+
 pub mod effects;
 pub mod instructions;
 pub mod parts;

@@ -1,6 +1,10 @@
 // Bytes written into the room at the front of a lent buffer: one after the other, then zeros to the room's end.
-ghost use Rattle.std.specs.Prelude.{◌≡◌, ◌≤◌, [], ◌∷◌, length};
+#![tactic(auto)]
+
+ghost use Rattle.std.specs.Prelude.{◌≡◌, ◌≤◌, [], ◌∷◌, length, IfOk};
 ghost use Rattle.notation_buffers.specs.Code.Writing.{Appends, cleared_from};
+
+use std::io::{self, ErrorKind, Read};
 
 // Writes a byte at a place of the room, and answers the next place. Past the room nothing is written.
 pub fn write_byte(out: &mut [u8], room: usize, at: usize, byte: u8) -> usize
@@ -38,4 +42,27 @@ pub fn clear_from(from: usize, room: usize, out: &mut [u8])
         out[i] = 0;
         i += 1;
     }
+}
+
+// Reads bytes to the front of the room until it is full or no more come, and answers how many came.
+pub fn fill_front<R: Read>(input: &mut R, room: &mut [u8]) -> io::Result<usize>
+    ensures within { IfOk result (λ n. n ≤ length room.new) }
+    ensures kept { length room.new ≡ length room.old }
+{
+    let mut got: usize = 0;
+    for _ in 0..u64::MAX {
+        if got == room.len() {
+            break;
+        }
+        match input.read(&mut room[got..]) {
+            Ok(0) => break,
+            Ok(n) => got += n,
+            Err(error) => {
+                if error.kind() != ErrorKind::Interrupted {
+                    return Err(error);
+                }
+            }
+        }
+    }
+    Ok(got)
 }

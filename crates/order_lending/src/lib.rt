@@ -1,5 +1,7 @@
 // What is lent to the steps of an accepted table's orders, and to the runs of its plans: the table in arrays of
 // numbers, and the state that an order starts from.
+#![tactic(auto)]
+
 pub mod filling;
 pub mod first;
 pub mod waits;
@@ -17,7 +19,7 @@ use taskfile::{Ceilings, Table};
 use timing::JobList;
 
 // What is lent to steps: the program, the wait table, the ceilings, and the state that an order starts from.
-#[derive(Drop)]
+#[derive(Clone, Copy)]
 pub struct Lent {
     pub program: [u8; PROGRAM],
     pub waits: [u8; WAITS],
@@ -26,7 +28,7 @@ pub struct Lent {
 }
 
 // What is lent to the runs of a plan: the program, the times and the ceilings.
-#[derive(Drop)]
+#[derive(Clone, Copy)]
 pub struct LentTimes {
     pub program: [u8; PROGRAM],
     pub times: [u64; TIMES],

@@ -1,5 +1,7 @@
 // Orders of steps, as their code keeps them: how a state, a program, the times and the wait table stand in arrays of
 // fixed length, whose turn it is, and what a replay comes to.
+#![tactic(auto)]
+
 pub mod states;
 
 use order::Frame;
@@ -80,7 +82,7 @@ pub const NO_JOB: u8 = MOST_JOBS;
 pub const NO_MOVE: u8 = VALUES * MOST_TASKS;
 
 // Whose turn a byte of a task is, if anyone's: the job that steps, and how many active jobs are under it.
-#[derive(Drop)]
+#[derive(Clone, Copy)]
 pub struct Due {
     pub due: bool,
     pub frame: Frame,
@@ -89,7 +91,7 @@ pub struct Due {
 
 // What a replay comes to: 0 or the number of the fault, its step's index, and the store and the failed jobs that it
 // left.
-#[derive(Drop)]
+#[derive(Clone, Copy)]
 pub struct Replayed {
     pub number: u8,
     pub place: u64,

@@ -1,4 +1,6 @@
 // The step that an order byte asks for.
+#![tactic(auto)]
+
 ghost use Rattle.std.specs.Prelude.{◌≡◌, List, ℕ, ◌/◌, ◌%◌, ◌≤◌, ◌<◌, length};
 ghost use Rattle.machine.specs.Code.Within.{LocksWithin};
 ghost use Rattle.order_states.specs.Code.SnapshotSteps.{step_in, made_in};

@@ -1,4 +1,6 @@
 // Round plans, as their code keeps them: the steps of each job and the stores of the rounds, in arrays of fixed length.
+#![tactic(auto)]
+
 pub mod rounds;
 
 use taskfile::limits::{INSTRUCTIONS, JOBS, VARIABLES};
@@ -41,14 +43,14 @@ pub const MARKS: usize = COUNTS + JOBS;
 // ---- What the functions yield.
 
 // The fault of a plan: none, or its number at its place, an offset, a job or a round.
-#[derive(Drop)]
+#[derive(Clone, Copy)]
 pub enum Fault {
     Nothing,
     At(u8, u32),
 }
 
 // What a job's run comes to: its fault, the offset after its steps, and whether an assertion of it failed.
-#[derive(Drop)]
+#[derive(Clone, Copy)]
 pub struct JobRan {
     pub fault: Fault,
     pub offset: usize,
@@ -56,7 +58,7 @@ pub struct JobRan {
 }
 
 // What the run of all jobs comes to: its fault, the offset after the steps, and the failed jobs.
-#[derive(Drop)]
+#[derive(Clone, Copy)]
 pub struct JobsRan {
     pub fault: Fault,
     pub offset: usize,
@@ -64,7 +66,7 @@ pub struct JobsRan {
 }
 
 // What a plan's run comes to: its fault, the failed jobs, the stores left in the rounds, and the marks of the steps.
-#[derive(Drop)]
+#[derive(Clone, Copy)]
 pub struct PlanRan {
     pub fault: Fault,
     pub failed: [bool; JOBS],
@@ -73,7 +75,7 @@ pub struct PlanRan {
 }
 
 // What a plan's check comes to: its fault, the end store, the failed jobs, and the marks of the steps.
-#[derive(Drop)]
+#[derive(Clone, Copy)]
 pub struct PlanChecked {
     pub fault: Fault,
     pub store: [u8; VARIABLES],

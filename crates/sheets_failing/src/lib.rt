@@ -1,4 +1,6 @@
 // The lines of a sheet about a failing order.
+#![tactic(auto)]
+
 ghost use Rattle.std.specs.Prelude.{◌≤◌, ◌<◌, false, map, get_or};
 ghost use Rattle.notation.specs.Lists.{up_to, only, each};
 ghost use Rattle.notation.specs.Texts.{decimal, line};

@@ -1,4 +1,6 @@
 // The sheet of a file, written into a lent text.
+#![tactic(auto)]
+
 ghost use Rattle.std.specs.Prelude.{◌≡◌, ◌≤◌};
 ghost use Rattle.notation.specs.Lists.{up_to, each};
 ghost use Rattle.taskfile.specs.Code.JudgingParts.{Shaped};

@@ -1,4 +1,6 @@
 // Words, numbers and lines, written into a lent text, whose room is its length.
+#![tactic(auto)]
+
 ghost use Rattle.std.specs.Prelude.{[], ◌∷◌};
 ghost use Rattle.notation.specs.Letters.{space, newline};
 ghost use Rattle.notation.specs.Texts.{decimal, line};

@@ -1,8 +1,7 @@
 // Chains of records: a body, the tasks, each followed by its body, and the locks. Each reader calls itself on the next
 // index, and a flag for each record, whether it was reached, is lent to it. Document 01: "The chain reader keeps the
-// lent file together with its present index". A function over a struct that holds a slice is not covered, so the three
-// over a `ChainReader`, and `index_at` and `next_at`, which make one, are proved by walks of their code, by hand. Here
-// and in `every_record`, `tables` and `sites` each index that is followed is read by one of the last two.
+// lent file together with its present index". Here and in `every_record`, `tables` and `sites` each index that is
+// followed is read by `index_at` or `next_at`, which make a `ChainReader`.
 ghost use Rattle.std.specs.Prelude.{◌≡◌, List, ℕ};
 ghost use Rattle.taskfile.specs.Chains.{chain, body_chain, task_chains, records_of};
 ghost use Rattle.taskfile.specs.Code.Reading.{seen_of, ChainedAs};
@@ -14,7 +13,7 @@ use taskfile::{Check, Kind, numbers, offsets};
 use taskfile_records::records::byte_at;
 
 // The lent file together with the present index in it.
-#[derive(Drop)]
+#[derive(Clone, Copy)]
 pub struct ChainReader<'a> {
     pub file: &'a [u8],
     pub index: u8,

@@ -1,4 +1,6 @@
 // The reader up to number 9.
+#![tactic(auto)]
+
 ghost use Rattle.taskfile.specs.File.{load, sized};
 ghost use Rattle.taskfile.specs.Code.Reading.{LoadedAs};
 ghost use Rattle.taskfile.specs.Tables.{empty_table};

@@ -1,4 +1,6 @@
 // Both conversions, of a file to its text and of a text to its file. Document 02, E5.
+#![tactic(auto)]
+
 ghost use Rattle.std.specs.Prelude.{◌≡◌, ◌<◌};
 ghost use Rattle.texts.specs.TextEntries.{line_of_record, to_file_answer, to_file_after, to_text_answer, to_text_after};
 

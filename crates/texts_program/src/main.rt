@@ -1,20 +1,20 @@
 // The program that turns a task file into its text, and a text into its file: it reads one from standard input and
 // prints the other, or the line of a refusal. One byte more than a text may have is enough to know that it is too long.
+#![tactic(auto)]
+
 ghost use Rattle.std.specs.Prelude.{◌≡◌, ◌≤◌, length, take};
 ghost use Rattle.texts.specs.TextEntries.{text_room};
 ghost use Rattle.texts.specs.Turned.{begins_text, turned};
 ghost use Rattle.texts_program.specs.Code.Conversions.{ConvertedAs};
 
+use notation_buffers::fill_front;
 use sheets_printing::put_refused;
+use std::io::{self, Write};
 use texts::TEXT_ROOM;
 use texts_entries::{file_to_text, text_to_file};
 use writer::WriteAnswer;
 
 const INPUT: usize = TEXT_ROOM + 1;
-
-const STANDARD_INPUT: i32 = 0;
-
-const STANDARD_OUTPUT: i32 = 1;
 
 // The first letter of `window`.
 const FIRST_LETTER: u8 = b'w';
@@ -52,10 +52,10 @@ fn turn(bytes: &[u8], out: &mut [u8]) -> usize
     x.length as usize
 }
 
-fn main() {
+fn main(rt: HostRuntime) -> io::Result<()> {
     let mut input = [0u8; INPUT];
     let mut output = [0u8; TEXT_ROOM];
-    let got = io::read_full(STANDARD_INPUT, &mut input);
+    let got = fill_front(&mut rt.reader(), &mut input)?;
     let size = turn(&input[..got], &mut output);
-    io::write_all(STANDARD_OUTPUT, &output[..size]);
+    io::writer(&rt).write_all(&output[..size])
 }

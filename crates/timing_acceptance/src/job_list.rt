@@ -1,6 +1,5 @@
 // The job list's entry: a file's jobs into a lent list, one record a job. Document 01: "The job list goes into a lent
-// list". A slice of structs is not covered, so `fill` and `list_jobs` are proved by walks of their code, by hand; what
-// decides and computes stands in the covered functions before them.
+// list". What decides and computes stands in functions of its own before those that store.
 ghost use Rattle.std.specs.Prelude.{◌≡◌, ◌≤◌, ◌<◌, length};
 ghost use Rattle.timing.specs.ReadEntries.{list_answer, list_after};
 ghost use Rattle.timing_acceptance.specs.Code.Filled.{job_record_of, list_filled, ListedAs};
@@ -13,7 +12,7 @@ use timing::{JobRecord, ListAnswer};
 use timing_jobs::no_jobs;
 
 // What the entry answers, and the records that go into the list: the first of the 32, as many as the answer says.
-#[derive(Drop)]
+#[derive(Clone, Copy)]
 pub struct Listed {
     pub answer: ListAnswer,
     pub jobs: [JobRecord; JOBS],

@@ -1,4 +1,6 @@
 // The jobs of a table, by task, then by arrival.
+#![tactic(auto)]
+
 ghost use Rattle.std.specs.Prelude.{◌≡◌, List, [], ◌++◌, map, ◌+◌, ◌^◌, ◌≤◌, ◌<◌};
 ghost use Rattle.notation.specs.Lists.{up_to};
 ghost use Rattle.timing.specs.declared.JobRecord.{JobRecord};

@@ -1,5 +1,7 @@
 // Quotients rounded up, each by one division and without a branch: of times, which fit 32 bits, and of parts of a
 // utilisation, which need not.
+#![tactic(auto)]
+
 ghost use Rattle.std.specs.Prelude.{◌≡◌, ◌^◌, ◌≤◌, ◌<◌};
 ghost use Rattle.timing.specs.Response.{rounded_up};
 

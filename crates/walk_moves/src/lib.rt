@@ -1,4 +1,6 @@
 // The moves of a state, one after the other.
+#![tactic(auto)]
+
 ghost use Rattle.std.specs.Prelude.{◌≡◌, true, List, ℕ, ◌+◌, ◌*◌, ◌≤◌, ◌<◌};
 ghost use Rattle.taskfile.specs.declared.Ceilings.{Ceilings};
 ghost use Rattle.order_states.specs.Code.SnapshotSteps.{level_in, step_in};

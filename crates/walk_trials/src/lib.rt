@@ -1,4 +1,6 @@
 // What a walk comes to, and what that answers and shows.
+#![tactic(auto)]
+
 pub mod entries;
 pub mod trials;
 
@@ -16,7 +18,7 @@ use walk::{Verdict, WalkAnswer};
 
 // What a walk comes to: whether a failing order was found, whether the allowance stopped it before, and the moves
 // made; of an order found also its length, its end store and its failed jobs.
-#[derive(Drop)]
+#[derive(Clone, Copy)]
 pub struct Outcome {
     pub found: bool,
     pub stopped: bool,

@@ -1,4 +1,6 @@
 // The entries over a table in memory: a file's table in memory, and a file written from a table. Document 02, E2.
+#![tactic(auto)]
+
 ghost use Rattle.std.specs.Prelude.{◌≡◌, ◌<◌};
 ghost use Rattle.writer.specs.WriteEntries.{write_answer, write_after, table_answer, table_after};
 

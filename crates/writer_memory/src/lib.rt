@@ -1,4 +1,6 @@
 // A table in lent bytes: read from them, and written into them. Document 02, E2.
+#![tactic(auto)]
+
 ghost use Rattle.std.specs.Prelude.{◌≡◌, ◌+◌, ◌≤◌, ◌<◌, [], ◌∷◌, length};
 ghost use Rattle.notation.specs.Lists.{bytes_at, each};
 ghost use Rattle.writer.specs.Layout.{wide_bytes};

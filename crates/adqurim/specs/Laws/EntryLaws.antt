@@ -6,7 +6,7 @@ use Rattle.std.proofs.Math.Path.{refl, ap}
 use Rattle.std.proofs.Common.{sym, ◌∙◌, arith}
 use borrow.Author.Tests.{le-leb, lt-leb}
 use Rattle.notation.specs.Checked.{Checked, refused, passed}
-use Rattle.notation.specs.Lists.{if◌then◌else◌}
+use Rattle.std.specs.Prelude.{if◌then◌else◌}
 use Rattle.notation.specs.Laws.PaddedLaws.{padded_length}
 use Rattle.taskfile.specs.declared.Table.{Table}
 use Rattle.taskfile.specs.Records.{File}
@@ -15,7 +15,7 @@ use Rattle.timing.specs.ReadEntries.{read_answer_of, read_answer}
 use Rattle.machine.specs.declared.RunAnswer.{RunAnswer}
 use Rattle.sheets.specs.declared.SheetAnswer.{SheetAnswer}
 use Rattle.walk.specs.WalkEntry.{walk_answer}
-use Rattle.walk.specs.Laws.SizeLaws.{Sized, walk_sized}
+use Rattle.walk.proofs.Laws.SizeLaws.{Sized, walk_sized}
 use Rattle.adqurim_words.specs.Words.{words_of_sheet, sheet_words, words_of_read, words_of_run, words_of_walk, read_words, run_words, walk_words, filled_with}
 use Rattle.adqurim_words.specs.Words.{words_of_write, write_words}
 use Rattle.adqurim_words.specs.Laws.WordsLaws.{no_room, read_length, words_run_length, walk_length}
@@ -60,11 +60,9 @@ walk_unfilled lent f allowance buffer short =
 
 -- a lent buffer, without room for so many words and with it
 pub buffer_kept : (words n : ℕ) (after before : List ℕ) → n < words → before ≡ (if leb words n then after else before)
-unfolding if◌then◌else◌
 buffer_kept words n after before short = rw (lt-leb words n short)
 
 pub buffer_changed : (words n : ℕ) (after before : List ℕ) → words ≤ n → after ≡ (if leb words n then after else before)
-unfolding if◌then◌else◌
 buffer_changed words n after before room = rw (le-leb words n room)
 
 -- ---- the writer's entry
@@ -78,7 +76,7 @@ module _ (table words file : List ℕ) where
       × (file ≡ write_file_after table file words)
 
   lends_little : lends_enough table words ≡ false → NothingWritten
-  unfolding write_words_after write_file_after if◌then◌else◌
+  unfolding write_words_after write_file_after
   lends_little e = (sym e, rw e refl, rw e refl)
 
   pub few_words : length words < words_of_write → NothingWritten
@@ -97,7 +95,7 @@ module _ (table words file : List ℕ) where
       → (true ≡ lends_enough table words)
       × (lent ≡ write_words_after table file words)
       × (after ≡ write_file_after table file words)
-  unfolding lends_enough write_words_after write_file_after if◌then◌else◌
+  unfolding lends_enough write_words_after write_file_after
   enough_lent room whole is writes put =
       let enough = le-leb words_of_write (length words) room in
       let all = le-leb table_bytes (length table) whole in (

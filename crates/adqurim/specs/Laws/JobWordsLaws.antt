@@ -8,7 +8,7 @@ use mathlib.Core.List.{List, [], ◌∷◌}
 use Rattle.std.proofs.Math.ListN.{length}
 use Rattle.std.proofs.Math.Dec.{leb}
 use borrow.Author.Tests.{le-leb, lt-leb}
-use Rattle.notation.specs.Lists.{if◌then◌else◌}
+use Rattle.std.specs.Prelude.{if◌then◌else◌}
 use Rattle.taskfile.specs.Records.{File}
 use Rattle.timing.specs.declared.ListAnswer.{ListAnswer}
 use Rattle.timing.specs.ReadEntries.{list_answer}
@@ -22,7 +22,7 @@ use Rattle.adqurim_words.specs.Laws.WordsLaws.{three_stored}
 
 -- without room the words stay as they were
 unwritten : (a : ListAnswer) (words : List ℕ) → leb 3 (length words) ≡ false → words ≡ filled_with (list_words a) words
-unfolding filled_with list_words if◌then◌else◌
+unfolding filled_with list_words
 unwritten a words e = rw e
 
 pub stays : (a : ListAnswer) (words : List ℕ) → length words < 3
@@ -38,7 +38,7 @@ stores a words high = (sym (le-leb _ _ high), three_stored words _ _ _ high)
 
 module _ {x : Listed} {f : File} {room words : ℕ} where
   pub given_none : words < 3 → x.answer ≡ record { number = 0; place = 0; jobs = 0 } → GivenAs x f room words
-  unfolding words_after entry_after if◌then◌else◌
+  unfolding words_after entry_after
   given_none low e =
       let none : x.answer.jobs ≡ 0 = ap (λ (y : ListAnswer). y.jobs) e in
       let short : (ws : List ℕ) → length ws ≡ words → leb 3 (length ws) ≡ false = λ ws long. lt-leb _ _ (subst (λ (m : ℕ). m < 3) (sym long) low) in
@@ -50,7 +50,7 @@ module _ {x : Listed} {f : File} {room words : ℕ} where
       }
 
   pub given_listed : 3 ≤ words → ListedAs x f room → GivenAs x f room words
-  unfolding words_after entry_after if◌then◌else◌
+  unfolding words_after entry_after
   given_listed high found =
       let wide : (ws : List ℕ) → length ws ≡ words → leb 3 (length ws) ≡ true = λ ws long. le-leb _ _ (subst (λ (m : ℕ). 3 ≤ m) (sym long) high) in
       record {

@@ -12,11 +12,11 @@ use Rattle.machine.specs.Ends.{End, Flags, no_store, no_flags}
 use Rattle.order.specs.Orders.{OrderEnds}
 use Rattle.plan.specs.Plans.{PlanEnds, check_plan, checked, plan_answer}
 use Rattle.plan.specs.Runs.{Plan}
-use Rattle.walk.specs.Laws.SizeLaws.{Sized, replay_sized}
+use Rattle.walk.proofs.Laws.SizeLaws.{Sized, replay_sized}
 use Rattle.matching.specs.Conversions.{order_to_plan, plan_to_order}
 use Rattle.matching.specs.ConversionEntries.{planned_order, order_to_plan_answer, ordered_plan, plan_to_order_answer}
-use Rattle.matching.specs.Laws.Demand3Laws.{demand3}
-use Rattle.matching.specs.Laws.EntryLaws.{replay_answers, check_legal}
+use Rattle.matching.proofs.Laws.Demand3Laws.{demand3}
+use Rattle.matching.proofs.Laws.EntryLaws.{replay_answers, check_legal}
 
 -- ---- how an order or a plan ends
 

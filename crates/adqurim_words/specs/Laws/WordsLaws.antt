@@ -1,7 +1,7 @@
 -- Laws of the words: how many an answer has, which word stands where, and what a loop that stores them one by one
 -- leaves.
 -- Assumes nothing.
-use Rattle.std.specs.Prelude.{◌≡◌, refl, false, set, take}
+use Rattle.std.specs.Prelude.{◌≡◌, refl, false, set}
 use Rattle.std.proofs.Math.Path.{sym, ap}
 use Rattle.std.proofs.Common.{◌∙◌, zero-add, add-one, arith, le-leb, take_all, take_at, get_or-append-add}
 use Prim.Native.Nat.{ℕ, suc, ◌+◌, ◌≤◌, ◌<◌}
@@ -10,12 +10,13 @@ use Rattle.std.proofs.Math.ListN.{length, get_or, drop, length-append, get_or-ap
 use Rattle.std.proofs.lemmas.Bool.{lt-leb}
 use Rattle.std.proofs.Math.Seq.{paste, paste-zero, paste-suc, get_or-append_seam}
 use Rattle.std.proofs.lemmas.List.Edits.{length-paste}
-use Rattle.notation.specs.Lists.{if◌then◌else◌}
+use Rattle.std.specs.Prelude.{if◌then◌else◌}
 use Rattle.notation.specs.Laws.QuantifierLaws.{map_length, map_at}
 use Rattle.timing.specs.declared.ReadAnswer.{ReadAnswer}
 use Rattle.machine.specs.declared.RunAnswer.{RunAnswer}
 use Rattle.walk.specs.declared.WalkAnswer.{WalkAnswer}
-use Rattle.adqurim_words.specs.Words.{words_of_read, words_of_run, words_of_walk, flag, read_words, verdict_number, run_part, run_words, walk_words, filled_with}
+use Rattle.adqurim_words.specs.Words.{words_of_read, words_of_run, words_of_walk, flag, read_words, verdict_number}
+use Rattle.adqurim_words.specs.Words.{run_part, run_words, walk_words, filled_with}
 
 -- ---- words stored one by one
 
@@ -49,11 +50,11 @@ stored_more {words} {lent} {stored} {k} {w} h lt is =
 
 -- lent words with room for all of these, and without
 filled : (words lent : List ℕ) → length words ≤ length lent → words ++ drop (length words) lent ≡ filled_with words lent
-unfolding filled_with if◌then◌else◌
+unfolding filled_with
 filled words lent room = rw (le-leb _ _ room)
 
 pub no_room : (words lent : List ℕ) → length lent < length words → lent ≡ filled_with words lent
-unfolding filled_with if◌then◌else◌
+unfolding filled_with
 no_room words lent short = rw (lt-leb _ _ short)
 
 pub stored_all : {words lent stored : List ℕ} {k : ℕ} → StoredTo words lent stored k → length words ≤ k
@@ -181,7 +182,7 @@ module _ (x : WalkAnswer) (variables : length x.store ≡ 8) (jobs : length x.fa
 -- three stores at the front
 pub three_stored : (lent : List ℕ) (x y z : ℕ) → 3 ≤ length lent
     → set (set (set lent 0 x) 1 y) 2 z ≡ filled_with (x ∷ y ∷ z ∷ []) lent
-unfolding filled_with if◌then◌else◌
+unfolding filled_with
 three_stored [] x y z room = absurd (omega arith)
 three_stored (a ∷ []) x y z room = absurd (omega arith)
 three_stored (a ∷ b ∷ []) x y z room = absurd (omega arith)

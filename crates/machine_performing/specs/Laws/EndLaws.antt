@@ -8,7 +8,7 @@ use Rattle.machine.specs.declared.Local.{Local}
 use Rattle.machine.specs.declared.Effect.{Effect}
 use Rattle.machine.specs.Instructions.{operation_effects, perform, end_job, load_variable, store, set_number, add}
 use Rattle.machine.specs.Instructions.{subtract, skip_less, skip_equal, pick, acquire_lock, release_lock, assert}
-use Rattle.machine.specs.Laws.InstructionLaws.{perform_operation}
+use Rattle.machine.proofs.Laws.InstructionLaws.{perform_operation}
 
 -- each operation but 0 by its number
 ended_by : (n : ℕ) (o : Instruction) (v : ℕ) (l : Local) (s : List ℕ) → (n ≢ 0)

@@ -14,7 +14,7 @@ use Rattle.machine.specs.declared.Local.{Local}
 use Rattle.machine.specs.Held.{no_locks}
 use Rattle.machine.specs.Instructions.{goes_on, with_register, with_held}
 use Rattle.order_states.specs.Code.StateBytes.{frame_at, frame_in, Replaced}
-use Rattle.order_states.specs.Laws.StateWrites.{bytes_new, bytes_same, bytes_set}
+use Rattle.order_states.proofs.Laws.StateWrites.{bytes_new, bytes_same, bytes_set}
 use Rattle.machine_performing.specs.Code.Performed.{Performed, LocalMade, StoreMade, with_next}
 
 -- ---- bytes of the job at position k

@@ -11,9 +11,9 @@ use Rattle.machine.specs.declared.Effect.{Effect}
 use Rattle.order.specs.declared.Frame.{Frame}
 use Rattle.machine.specs.Held.{Held, count_of, acquire, release}
 use Rattle.machine.specs.Instructions.{Operation, goes_on, perform, skipping, with_held}
-use Rattle.machine.specs.Laws.HeldLaws.{some_holds, none_holds, release_some, release_none}
+use Rattle.machine.proofs.Laws.HeldLaws.{some_holds, none_holds, release_some, release_none}
 use Rattle.order_states.specs.Code.StateBytes.{frame_at, frame_in}
-use Rattle.order_states.specs.Laws.FrameWrites.{frame_same}
+use Rattle.order_states.proofs.Laws.FrameWrites.{frame_same}
 use Rattle.machine_performing.specs.Code.Performed.{Performed, LocalMade, StoreMade, Done, Running, with_next}
 use Rattle.machine_performing.specs.Laws.PartWrites.{unchanged}
 

@@ -13,8 +13,8 @@ use Rattle.machine.specs.Code.Within.{LocksWithin}
 use Rattle.order.specs.declared.Frame.{Frame}
 use Rattle.machine_performing.specs.Code.Performed.{Performed}
 use Rattle.order_states.specs.Code.StateBytes.{frame_in, Replaced, FrameReplaced}
-use Rattle.order_states.specs.Laws.FrameWrites.{replaced_store}
-use Rattle.order_states.specs.Laws.StateWrites.{bytes_new}
+use Rattle.order_states.proofs.Laws.FrameWrites.{replaced_store}
+use Rattle.order_states.proofs.Laws.StateWrites.{bytes_new}
 
 module _ {start stored placed : List ℕ} {l : Local} {s : List ℕ} {x : Job} (eight : length s ≡ 8)
     (put : Replaced start stored 0 s) (frame : FrameReplaced stored placed 0 (record { job = x; local = l })) where

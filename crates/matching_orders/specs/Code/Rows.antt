@@ -1,7 +1,8 @@
 -- A plan's steps as an order's bytes, as the functions write them from the marks.
 -- Assumes nothing.
 use Rattle.std.specs.Prelude.{ℕ, ◌+◌, ◌*◌, ◌&&◌, List, map, ltb, eqb}
-use Rattle.notation.specs.Lists.{if◌then◌else◌, up_to, only, each}
+use Rattle.std.specs.Prelude.{if◌then◌else◌}
+use Rattle.notation.specs.Lists.{up_to, only, each}
 use Rattle.order_states.specs.Code.SnapshotSteps.{Program, owner_in}
 use Rattle.plan_marks.specs.Code.Marks.{steps_marked}
 

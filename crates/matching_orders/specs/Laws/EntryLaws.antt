@@ -14,8 +14,8 @@ use Rattle.timing.specs.declared.AcceptAnswer.{AcceptAnswer}
 use Rattle.timing.specs.Accepted.{Accepted, accept}
 use Rattle.timing.specs.Code.AcceptParts.{AcceptedParts, AcceptedAs}
 use Rattle.timing.specs.Code.IsAccepted.{IsAccepted}
-use Rattle.timing.specs.Laws.AcceptedLaws.{file_accepted}
-use Rattle.timing.specs.Laws.AcceptLaws.{accepted_refused, accepted_passed}
+use Rattle.timing.proofs.Laws.AcceptedLaws.{file_accepted}
+use Rattle.timing.proofs.Laws.AcceptLaws.{accepted_refused, accepted_passed}
 use Rattle.machine.specs.declared.RunAnswer.{RunAnswer}
 use Rattle.machine.specs.Ends.{End}
 use Rattle.machine.specs.Buffers.{Written, order_room, run_answer, buffer_after}

@@ -8,7 +8,8 @@ use Rattle.std.proofs.Math.Bool.{Bool, true, false}
 use mathlib.Core.List.{List, [], ◌∷◌, ◌++◌, map}
 use Rattle.std.proofs.Math.Dec.{eqb}
 use borrow.Author.Tests.{lt-ltb, le-ltb, eq-eqb, ne_eqb}
-use Rattle.notation.specs.Lists.{if◌then◌else◌, from, up_to, only, each}
+use Rattle.std.specs.Prelude.{if◌then◌else◌}
+use Rattle.notation.specs.Lists.{from, up_to, only, each}
 use Rattle.notation.specs.Laws.ElementLaws.{each_snoc, only_in, only_append, only_drops}
 use Rattle.notation.specs.Laws.ListLaws.{map_snoc}
 use Rattle.plan.specs.declared.Round.{Round}
@@ -23,11 +24,11 @@ use Rattle.matching_orders.specs.Code.Rows.{written_byte, job_row}
 -- ---- one byte
 
 pub byte_no_task : (task value : ℕ) → 16 ≤ task → written_byte task value ≡ 0
-unfolding written_byte if◌then◌else◌
+unfolding written_byte
 byte_no_task task value high = rw (le-ltb task 16 high) refl
 
 pub byte_no_value : (task value : ℕ) → 16 ≤ value → written_byte task value ≡ 0
-unfolding written_byte if◌then◌else◌
+unfolding written_byte
 byte_no_value task value high = go (ltb task 16)
   where
     go : (b : Bool) → (if b && ltb value 16 then 16 * task + value else 0) ≡ 0
@@ -35,7 +36,7 @@ byte_no_value task value high = go (ltb task 16)
     go false = refl
 
 pub byte_small : (task value : ℕ) → task < 16 → value < 16 → written_byte task value ≡ 16 * task + value
-unfolding written_byte if◌then◌else◌
+unfolding written_byte
 byte_small task value low few = rw (lt-ltb task 16 low, lt-ltb value 16 few) refl
 
 -- ---- the steps of a job

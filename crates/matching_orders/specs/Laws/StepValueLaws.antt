@@ -9,7 +9,8 @@ use Rattle.std.proofs.Math.Dec.{eqb}
 use Rattle.notation.specs.Checked.{Checked, passed, require}
 use Rattle.notation.specs.Laws.CheckedLaws.{passed_same, bind_passed, then_passed, require_passed}
 use Rattle.notation.specs.Laws.TestLaws.{test_holds}
-use Rattle.notation.specs.Lists.{if◌then◌else◌, member}
+use Rattle.std.specs.Prelude.{if◌then◌else◌}
+use Rattle.notation.specs.Lists.{member}
 use Rattle.notation.specs.Ordered.{Every}
 use Rattle.taskfile.specs.Chains.{most_instructions}
 use Rattle.taskfile.specs.Judgement.{instruction_of}
@@ -20,8 +21,8 @@ use Rattle.timing.specs.Relations.{job_at, job_numbers}
 use Rattle.machine.specs.declared.Effect.{Effect}
 use Rattle.machine.specs.declared.Local.{Local}
 use Rattle.machine.specs.Instructions.{fresh, values}
-use Rattle.matching.specs.Laws.FromPlan.LegalLaws.{legal_run_lem}
-use Rattle.matching.specs.Laws.FromPlan.OfferedLaws.{job_offered}
+use Rattle.matching.proofs.Laws.FromPlan.LegalLaws.{legal_run_lem}
+use Rattle.matching.proofs.Laws.FromPlan.OfferedLaws.{job_offered}
 use Rattle.plan.specs.declared.Round.{Round}
 use Rattle.plan.specs.Plans.{Legal}
 use Rattle.plan.specs.Runs as runs
@@ -50,7 +51,6 @@ module _ {a : Accepted} (ok : IsAccepted a) (plan : Plan) where
       → (further ≡ passed rest → Every Small rest.steps)
       → (if ended then passed (record { steps = []; running = next }) else further) ≡ passed rest
       → Every Small rest.steps
-  unfolding if◌then◌else◌
   onward_small true next further later e =
       subst (λ (run : JobRun). Every Small run.steps) (passed_same {P = ℕ} e) tt
   onward_small false next further later e = later e

@@ -21,9 +21,9 @@ use Rattle.timing.specs.declared.JobRecord.{JobRecord}
 use Rattle.timing.specs.Accepted.{Accepted}
 use Rattle.timing.specs.Code.IsAccepted.{IsAccepted}
 use Rattle.timing.specs.Code.JobParts.{job_list_of}
-use Rattle.timing.specs.Laws.BaseLaws.{base_small}
-use Rattle.timing.specs.Laws.JobFacts.{jobs_few}
-use Rattle.timing.specs.Laws.JobListLaws.{record_listed}
+use Rattle.timing.proofs.Laws.BaseLaws.{base_small}
+use Rattle.timing.proofs.Laws.JobFacts.{jobs_few}
+use Rattle.timing.proofs.Laws.JobListLaws.{record_listed}
 use Rattle.timing.specs.Relations.{IsJob, base, job_numbers}
 use Rattle.machine.specs.Buffers.{order_room, filled}
 use Rattle.order_states.specs.Code.Lent.{OwnersTo}
@@ -32,7 +32,7 @@ use Rattle.plan.specs.Legality.{steps_of}
 use Rattle.plan.specs.Plans.{Legal, plan_end}
 use Rattle.plan.specs.Runs.{Plan, Step, JobRuns, job_total}
 use Rattle.matching.specs.Conversions.{step_bytes_in, order_of}
-use Rattle.matching.specs.Laws.ConversionLaws.{plan_complete}
+use Rattle.matching.proofs.Laws.ConversionLaws.{plan_complete}
 use Rattle.plan_marks.specs.Code.Marks.{steps_marked, steps_in}
 use Rattle.notation_buffers.specs.Code.Writing.{Appends, cleared_from}
 use Rattle.notation_buffers.specs.Laws.WritingLaws.{appends_within, appends_count, appends_filled}

@@ -2,7 +2,7 @@
 -- Assumes nothing.
 use Rattle.order.specs.OrderBytes.{task_of_byte, value_of_byte}
 use Rattle.std.specs.Prelude.{◌≡◌, ℕ, ◌+◌, Bool, ◌&&◌, List, [], ◌∷◌, length, ltb, eqb}
-use Rattle.notation.specs.Lists.{if◌then◌else◌}
+use Rattle.std.specs.Prelude.{if◌then◌else◌}
 use Rattle.taskfile.specs.declared.Ceilings.{Ceilings}
 use Rattle.timing.specs.declared.Job.{Job}
 use Rattle.machine.specs.Instructions.{Store}

@@ -1,7 +1,9 @@
 -- Laws of writing into a room: byte after byte, then zeros.
 -- Assumes nothing.
 use Rattle.std.specs.Prelude.{◌≡◌, refl, ℕ, zero, suc, ◌+◌, ◌-◌, ◌≤◌, ◌<◌, List, [], ◌∷◌, ◌++◌, length, take, drop, set, replicate}
-use Rattle.std.proofs.Common.{sym, ap, ◌∙◌, le_of_suc-le-suc, not-suc-le-zero, add-one, arith, append_assoc, length-append, length-take, length-drop, take-append-drop, take_all, take_at, drop_at, drop-drop, length-take-le}
+use Rattle.std.proofs.Common.{sym, ap, ◌∙◌, le_of_suc-le-suc, not-suc-le-zero, add-one, arith, append_assoc}
+use Rattle.std.proofs.Common.{length-append, length-take, length-drop, take-append-drop, take_all, take_at, drop_at}
+use Rattle.std.proofs.Common.{drop-drop, length-take-le}
 use Rattle.std.proofs.Math.Decide.{dec_le}
 use Rattle.std.proofs.Math.Seq.{take-nil}
 use Rattle.std.proofs.lemmas.List.{set_split}

@@ -15,17 +15,17 @@ use Rattle.timing.specs.Accepted.{Accepted, accept}
 use Rattle.timing.specs.Code.AcceptParts.{AcceptedAs}
 use Rattle.timing.specs.Code.IsAccepted.{IsAccepted}
 use Rattle.timing.specs.Code.JobParts.{job_list_of}
-use Rattle.timing.specs.Laws.AcceptedLaws.{file_accepted}
-use Rattle.timing.specs.Laws.AcceptLaws.{accepted_passed}
-use Rattle.timing.specs.Laws.JobFacts.{jobs_few}
+use Rattle.timing.proofs.Laws.AcceptedLaws.{file_accepted}
+use Rattle.timing.proofs.Laws.AcceptLaws.{accepted_passed}
+use Rattle.timing.proofs.Laws.JobFacts.{jobs_few}
 use Rattle.order.specs.States.{initial}
 use Rattle.order_states.specs.Code.Lent.{OwnersTo, TimesTo, WaitsTo}
 use Rattle.order_states.specs.Code.Shows.{Lends, LendsTimes, Shows}
 use Rattle.order_states.specs.Code.Snapshots.{Snapshot}
 use Rattle.order_states.specs.Code.SnapshotSteps.{first_snapshot}
-use Rattle.order_states.specs.Laws.LentLaws.{times_lent}
-use Rattle.order_states.specs.Laws.WaitLaws.{waits_lent}
-use Rattle.order_states.specs.Laws.ReplayLaws.{first_shown}
+use Rattle.order_states.proofs.Laws.LentLaws.{times_lent}
+use Rattle.order_states.proofs.Laws.WaitLaws.{waits_lent}
+use Rattle.order_states.proofs.Laws.ReplayLaws.{first_shown}
 use Rattle.order_states.specs.Code.StateBytes.{snapshot_in, IsState}
 use Rattle.order_lending.specs.Code.Lending.{LentOf, TimesOf, locks_of}
 

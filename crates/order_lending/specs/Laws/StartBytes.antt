@@ -12,7 +12,7 @@ use Rattle.machine.specs.Held.{no_locks}
 use Rattle.machine.specs.Instructions.{fresh}
 use Rattle.order_states.specs.Code.SnapshotSteps.{no_frame, first_from, first_snapshot}
 use Rattle.order_states.specs.Code.SnapshotWithin.{AllWithin}
-use Rattle.order_states.specs.Laws.SnapshotWithinLaws.{first_snapshot_within}
+use Rattle.order_states.proofs.Laws.SnapshotWithinLaws.{first_snapshot_within}
 use Rattle.order_states.specs.Code.StateBytes.{frame_at, frame_in, flag_in, snapshot_in, IsState, Replaced}
 use Rattle.notation.specs.Laws.TabulateLaws.{values_length, values_are}
 

@@ -4,13 +4,13 @@ use Rattle.std.specs.Prelude.{◌≡◌, ℕ, List}
 use Rattle.std.proofs.Common.{sym, ap, subst, ◌∙◌}
 use Rattle.taskfile.specs.declared.Table.{Table}
 use Rattle.timing.specs.declared.JobList.{JobList}
-use Rattle.order.specs.Laws.StepLaws.{initial_invariant}
+use Rattle.order.proofs.Laws.StepLaws.{initial_invariant}
 use Rattle.order.specs.Replay.{replay_from}
 use Rattle.order.specs.States.{initial}
 use Rattle.order_states.specs.declared.Replayed.{Replayed}
 use Rattle.order_states.specs.Code.ReplayParts.{replayed_of, ReplayedAs, ReplayOf}
 use Rattle.order_states.specs.Code.SnapshotSteps.{replay_in}
-use Rattle.order_states.specs.Laws.ReplayLaws.{replay_agreed, replay_kept}
+use Rattle.order_states.proofs.Laws.ReplayLaws.{replay_agreed, replay_kept}
 use Rattle.order_states.specs.Code.StateBytes.{snapshot_in}
 use Rattle.order_lending.specs.declared.Lent.{Lent}
 use Rattle.order_lending.specs.Code.Lending.{LentOf}

@@ -5,9 +5,9 @@ use Rattle.std.specs.Prelude.{◌≡◌, refl, ℕ, ◌+◌, ◌<◌, Bool, true
 use Rattle.std.proofs.Common.{sym, ap, ap₂, ◌∙◌, true≢false}
 use Rattle.std.proofs.lemmas.Bool.{not-true}
 use Rattle.taskfile.specs.declared.Ceilings.{Ceilings}
-use Rattle.notation.specs.Lists.{if◌then◌else◌}
+use Rattle.std.specs.Prelude.{if◌then◌else◌}
 use Rattle.order_states.specs.Code.Snapshots.{Snapshot, Stepped}
-use Rattle.order_states.specs.Laws.ReplayLoopLaws.{Reached, replay_refused, replay_goes}
+use Rattle.order_states.proofs.Laws.ReplayLoopLaws.{Reached, replay_refused, replay_goes}
 use Rattle.order_states.specs.Code.SnapshotSteps.{step_with_in, due_step, step_in, finished_in, slip_in, replay_in}
 
 -- ---- a step that is not allowed changes nothing
@@ -17,13 +17,11 @@ Kept p stepped = stepped.allowed ≡ false → stepped.state ≡ p
 
 choice_kept : (test : Bool) (p after : Snapshot)
     → Kept p (if test then record { allowed = true; state = after } else record { allowed = false; state = p })
-unfolding if◌then◌else◌
 choice_kept true p after h = absurd (true≢false h)
 choice_kept false p after h = refl
 
 turn_kept : (due : Bool) (p : Snapshot) (stepped : Stepped) → Kept p stepped
     → Kept p (if due then stepped else record { allowed = false; state = p })
-unfolding if◌then◌else◌
 turn_kept true p stepped kept h = kept h
 turn_kept false p stepped kept h = refl
 

@@ -1,7 +1,7 @@
 -- The lent arrays, as they are filled: instruction by instruction, job by job; and the wait table, made from them.
 -- Assumes nothing.
 use Rattle.std.specs.Prelude.{◌≡◌, ℕ, zero, suc, ◌+◌, ◌*◌, ◌≤◌, ◌<◌, Bool, not, ◌&&◌, List, length, get_or, eqb}
-use Rattle.notation.specs.Lists.{if◌then◌else◌}
+use Rattle.std.specs.Prelude.{if◌then◌else◌}
 use Rattle.taskfile.specs.declared.Table.{Table}
 use Rattle.taskfile.specs.Tables.{no_task, end_instruction}
 use Rattle.timing.specs.declared.JobList.{JobList}

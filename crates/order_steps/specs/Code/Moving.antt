@@ -2,7 +2,7 @@
 -- makes.
 -- Assumes nothing.
 use Rattle.std.specs.Prelude.{◌≡◌, ℕ, ◌≤◌, ◌<◌, List, eqb}
-use Rattle.notation.specs.Lists.{if◌then◌else◌}
+use Rattle.std.specs.Prelude.{if◌then◌else◌}
 use Rattle.machine.specs.Code.Within.{LocksWithin}
 use Rattle.order.specs.OrderBytes.{task_of_byte, value_of_byte}
 use Rattle.order.specs.declared.Frame.{Frame}

@@ -1,7 +1,8 @@
 -- What is noted of a step in a state's bytes, beside what its instruction did.
 -- Assumes nothing.
 use Rattle.std.specs.Prelude.{◌≡◌, ◌⊎◌, ℕ, ◌+◌, ◌≤◌, ◌<◌, Bool, List, map, length, get_or, set}
-use Rattle.notation.specs.Lists.{if◌then◌else◌, up_to, bytes_at}
+use Rattle.std.specs.Prelude.{if◌then◌else◌}
+use Rattle.notation.specs.Lists.{up_to, bytes_at}
 use Rattle.machine.specs.Ends.{flagged}
 use Rattle.order_states.specs.Code.StateBytes.{flag_in}
 

@@ -11,23 +11,24 @@ use Rattle.std.proofs.Math.Bool.{true, false, not}
 use mathlib.Core.List.{List, map}
 use Rattle.std.proofs.Math.ListN.{set, length-set}
 use Rattle.std.proofs.Math.Seq.{get_or-set_same, get_or-set_other}
-use Rattle.notation.specs.Lists.{if◌then◌else◌, up_to, bytes_at}
+use Rattle.std.specs.Prelude.{if◌then◌else◌}
+use Rattle.notation.specs.Lists.{up_to, bytes_at}
 use Rattle.taskfile.specs.declared.Instruction.{Instruction}
 use Rattle.machine.specs.declared.Effect.{Effect}
 use Rattle.machine.specs.declared.Local.{Local}
 use Rattle.machine.specs.Instructions.{perform}
-use Rattle.machine.specs.Laws.WithinLaws.{perform_within}
+use Rattle.machine.proofs.Laws.WithinLaws.{perform_within}
 use Rattle.machine.specs.Ends.{flagged}
 use Rattle.machine.specs.Code.Within.{LocksWithin}
 use Rattle.order.specs.declared.Frame.{Frame}
 use Rattle.machine_performing.specs.Code.Performed.{Performed}
 use Rattle.order_states.specs.Code.SnapshotSteps.{instruction_in, after_in, made_in}
 use Rattle.order_states.specs.Code.SnapshotWithin.{AllWithin}
-use Rattle.order_states.specs.Laws.SnapshotWithinLaws.{after_within}
+use Rattle.order_states.proofs.Laws.SnapshotWithinLaws.{after_within}
 use Rattle.order_states.specs.Code.StateBytes.{frame_at, frame_in, flag_in, snapshot_in, IsState, FrameReplaced}
-use Rattle.order_states.specs.Laws.StateWrites.{bytes_same, bytes_set}
+use Rattle.order_states.proofs.Laws.StateWrites.{bytes_same, bytes_set}
 use Rattle.notation.specs.Laws.TabulateLaws.{same_values, set_values}
-use Rattle.order_states.specs.Laws.FrameWrites.{frame_same, replaced_store}
+use Rattle.order_states.proofs.Laws.FrameWrites.{frame_same, replaced_store}
 use Rattle.order_steps.specs.Code.Noted.{Noted}
 
 -- ---- what is noted
@@ -38,7 +39,7 @@ flagged_bytes before x b = if b then set before (16 + x) 1 else before
 
 module _ (before : List ℕ) (x : ℕ) (whole : length before ≡ 192) (job : x < 32) where
   flag_written : (b : Bool) → map (flag_in (flagged_bytes before x b)) (up_to 32) ≡ flagged b x (map (flag_in before) (up_to 32))
-  unfolding flagged flag_in if◌then◌else◌
+  unfolding flagged flag_in
   flag_written false = refl
   flag_written true =
       set_values (flag_in (set before (16 + x) 1)) (flag_in before) 32 x true
@@ -46,12 +47,10 @@ module _ (before : List ℕ) (x : ℕ) (whole : length before ≡ 192) (job : x 
       (λ k lt apart. ap (λ (b : ℕ). not (eqb b 0)) (get_or-set_other before (16 + x) (16 + k) 1 0 (λ e. apart (omega arith))))
 
   flag_length : (b : Bool) → length (flagged_bytes before x b) ≡ length before
-  unfolding if◌then◌else◌
   flag_length false = refl
   flag_length true = length-set before (16 + x) 1
 
   flag_kept : (b : Bool) (k : ℕ) → (k < 16) ⊎ (48 ≤ k) → get_or (flagged_bytes before x b) k 0 ≡ get_or before k 0
-  unfolding if◌then◌else◌
   flag_kept false k off = refl
   flag_kept true k off =
       get_or-set_other before (16 + x) k 1 0 (λ e. elim off [ inl low ↦ omega arith | inr high ↦ omega arith ])
@@ -68,7 +67,7 @@ module _ (before : List ℕ) (x : ℕ) (whole : length before ≡ 192) (job : x 
 
     -- the job goes on
     noted_false : Noted before (set flags 48 (under + 1)) x under i b false
-    unfolding if◌then◌else◌ flag_in
+    unfolding flag_in
     noted_false = record {
       same = length-set flags 48 (under + 1) ∙ long ∙ sym whole;
       unended = bytes_same before (set flags 48 (under + 1)) 8 8
@@ -94,7 +93,7 @@ module _ (before : List ℕ) (x : ℕ) (whole : length before ≡ 192) (job : x 
         get_or-set_other (set flags (8 + i) (x + 1)) 48 k under 0 off ∙ get_or-set_other flags (8 + i) k (x + 1) 0 other
 
     noted_true : Noted before ended x under i b true
-    unfolding if◌then◌else◌ flag_in
+    unfolding flag_in
     noted_true = record {
       same = length-set (set flags (8 + i) (x + 1)) 48 under ∙ length-set flags (8 + i) (x + 1) ∙ long ∙ sym whole;
       unended =
@@ -115,11 +114,9 @@ module _ (before : List ℕ) (x : ℕ) (whole : length before ≡ 192) (job : x 
 
 -- the flag as it was written
 pub flag_raised : (before : List ℕ) (x : ℕ) {b : Bool} → b ≡ true → set before (16 + x) 1 ≡ flagged_bytes before x b
-unfolding if◌then◌else◌
 flag_raised before x h = rw h refl
 
 pub flag_left : (before : List ℕ) (x : ℕ) {b : Bool} → b ≡ false → before ≡ flagged_bytes before x b
-unfolding if◌then◌else◌
 flag_left before x h = rw h refl
 
 -- ---- the whole step
@@ -171,7 +168,6 @@ module _ {before placed done after : List ℕ} {f : Frame} {under i : ℕ} {effe
       }
 
   depth_few : (b : Bool) → (if b then under else under + 1) ≤ 8
-  unfolding if◌then◌else◌
   depth_few true = omega arith
   depth_few false = omega arith
 

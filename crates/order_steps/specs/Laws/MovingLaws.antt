@@ -3,7 +3,7 @@
 use Rattle.std.specs.Prelude.{◌≡◌, refl, ℕ, ◌+◌, ◌-◌, ◌≤◌, ◌<◌, List, get_or}
 use Rattle.std.proofs.Common.{sym, ap, ◌∙◌, eq-eqb, ne_eqb}
 use Rattle.std.proofs.Math.Path.{subst}
-use Rattle.notation.specs.Lists.{if◌then◌else◌}
+use Rattle.std.specs.Prelude.{if◌then◌else◌}
 use Rattle.machine.specs.declared.Local.{Local}
 use Rattle.machine.specs.Instructions.{fresh}
 use Rattle.order.specs.OrderBytes.{task_of_byte, value_of_byte}
@@ -12,7 +12,7 @@ use Rattle.order_states.specs.declared.Due.{Due}
 use Rattle.order_states.specs.Code.Snapshots.{Snapshot}
 use Rattle.order_states.specs.Code.SnapshotSteps.{start_turn, top_turn, made_in}
 use Rattle.order_states.specs.Code.StateBytes.{frame_in, snapshot_in, IsState, FrameReplaced}
-use Rattle.order_states.specs.Laws.StateReads.{depth_is, start_turn_read, top_turn_read}
+use Rattle.order_states.proofs.Laws.StateReads.{depth_is, start_turn_read, top_turn_read}
 use Rattle.order_steps.specs.Code.Moving.{Steppable, mover_in, moved_in}
 
 -- a job that can step can step where it was placed
@@ -28,12 +28,12 @@ frame_kept bytes k = record { same = refl; inside = refl; outside = λ j off. re
 
 -- the running job's
 mover_top : (p : Snapshot) (top i : ℕ) → i ≡ top → mover_in p top i ≡ top_turn p
-unfolding mover_in if◌then◌else◌
+unfolding mover_in
 mover_top p top i same = rw (eq-eqb i top same) refl
 
 -- that of a job that starts
 mover_start : (p : Snapshot) (top i : ℕ) → (i ≡ top → ⊥) → mover_in p top i ≡ start_turn p i
-unfolding mover_in if◌then◌else◌
+unfolding mover_in
 mover_start p top i apart = rw (ne_eqb i top apart) refl
 
 module _ (before : List ℕ) (top i : ℕ) where

@@ -8,9 +8,9 @@ use Rattle.taskfile.specs.declared.Ceilings.{Ceilings}
 use Rattle.order_states.specs.declared.Due.{Due}
 use Rattle.order_states.specs.Code.Snapshots.{Snapshot, Stepped}
 use Rattle.order_states.specs.Code.SnapshotSteps.{turn_in, step_in, offered_in, made_in}
-use Rattle.order_states.specs.Laws.TurnLaws.{due_task, step_none, step_due}
+use Rattle.order_states.proofs.Laws.TurnLaws.{due_task, step_none, step_due}
 use Rattle.order_states.specs.Code.StateBytes.{snapshot_in, IsState}
-use Rattle.order_states.specs.Laws.StepPartLaws.{with_offered, with_refused}
+use Rattle.order_states.proofs.Laws.StepPartLaws.{with_offered, with_refused}
 
 module _ (program waits : List ℕ) (locks : Ceilings) (bytes : List ℕ) (byte : ℕ) {d : Due}
     (is : d ≡ turn_in program waits locks (snapshot_in bytes) (task_of_byte byte)) where

@@ -10,7 +10,8 @@ use Rattle.notation.specs.Checked.{refused, none_of}
 use Rattle.notation.specs.Laws.ElementLaws.{last_at, last_none}
 use Rattle.notation.specs.Laws.SearchLaws.{from_first, from_none}
 use Rattle.notation.specs.Laws.TabulateLaws.{eight_values}
-use Rattle.notation.specs.Lists.{if◌then◌else◌, from, up_to, same, last_or, bytes_at}
+use Rattle.std.specs.Prelude.{if◌then◌else◌}
+use Rattle.notation.specs.Lists.{from, up_to, same, last_or, bytes_at}
 use Rattle.machine.specs.Ends.{no_store}
 use Rattle.machine.specs.Instructions.{Store}
 use Rattle.plan.specs.declared.Round.{Round}
@@ -100,9 +101,8 @@ module _ (plan : Plan) (store : Store) (stores : List ℕ) (k : ℕ) where
 
       pub guess_found : not same-one ≡ true
           → At 45 r ≡ fault_of (guess_fault_in plan store stores k)
-      unfolding fault_of if◌then◌else◌
+      unfolding fault_of
       guess_found e = sym (ap fault_of (decided true e))
 
       pub guess_later : not same-one ≡ false → GuessesFrom plan store stores k (r + 1)
-      unfolding if◌then◌else◌
       guess_later e = record { within = omega arith; on = decided false e }

@@ -4,7 +4,8 @@ use Rattle.std.specs.Prelude.{◌≡◌, ℕ, Bool, true, false, not, List, [], 
 use Rattle.std.proofs.Math.Path.{refl, ap}
 use Rattle.std.proofs.Common.{sym, ◌∙◌}
 use Rattle.notation.specs.Checked.{Checked, refused, none_of, placed_by, ◌>>◌}
-use Rattle.notation.specs.Lists.{if◌then◌else◌, up_to, same}
+use Rattle.std.specs.Prelude.{if◌then◌else◌}
+use Rattle.notation.specs.Lists.{up_to, same}
 use Rattle.taskfile.specs.declared.Ceilings.{Ceilings}
 use Rattle.timing.specs.Accepted.{Accepted}
 use Rattle.machine.specs.Ends.{no_store}
@@ -27,7 +28,7 @@ use Rattle.plan_marks.specs.Laws.FaultLaws.{fault_decides, rest_decides}
 first_placed : {P : Type 0} (number : ℕ) (g : P → ℕ) (test : Bool) (place : P) (rest : Checked P (Unit {0}))
     (rest' : Checked ℕ (Unit {0})) → placed_by g rest ≡ rest'
     → placed_by g (if test then refused number place else rest) ≡ (if test then refused number (g place) else rest')
-unfolding placed_by if◌then◌else◌
+unfolding placed_by
 first_placed number g true place rest rest' e = refl
 first_placed number g false place rest rest' e = e
 

@@ -12,8 +12,8 @@ use Rattle.timing.specs.declared.AcceptAnswer.{AcceptAnswer}
 use Rattle.timing.specs.Accepted.{Accepted, accept}
 use Rattle.timing.specs.Code.AcceptParts.{AcceptedParts, AcceptedAs}
 use Rattle.timing.specs.Code.IsAccepted.{IsAccepted}
-use Rattle.timing.specs.Laws.AcceptedLaws.{file_accepted}
-use Rattle.timing.specs.Laws.AcceptLaws.{accepted_refused, accepted_passed}
+use Rattle.timing.proofs.Laws.AcceptedLaws.{file_accepted}
+use Rattle.timing.proofs.Laws.AcceptLaws.{accepted_refused, accepted_passed}
 use Rattle.machine.specs.Ends.{End}
 use Rattle.machine.specs.Buffers.{run_answer, unwritten}
 use Rattle.plan.specs.Plans.{legal_run, check_plan, checked, plan_answer}

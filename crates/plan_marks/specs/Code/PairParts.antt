@@ -2,7 +2,8 @@
 -- Assumes nothing.
 use Rattle.std.specs.Prelude.{ℕ, suc, ◌-◌, Bool, not, ◌&&◌, ◌||◌, List, ◌∷◌, map, get_or, ltb, eqb}
 use Rattle.notation.specs.Checked.{Checked, none_of, placed_by, ◌>>◌}
-use Rattle.notation.specs.Lists.{if◌then◌else◌, from, up_to, all, only, each, same, first_or, last_or}
+use Rattle.std.specs.Prelude.{if◌then◌else◌}
+use Rattle.notation.specs.Lists.{from, up_to, all, only, each, same, first_or, last_or}
 use Rattle.machine.specs.Ends.{no_store}
 use Rattle.machine.specs.Instructions.{Store}
 use Rattle.plan.specs.declared.Round.{Round}

@@ -10,7 +10,8 @@ use mathlib.Core.List.{List, [], ◌∷◌, map, map-map}
 use Rattle.std.proofs.Math.ListN.{get_or}
 use Rattle.std.proofs.Math.Dec.{ltb}
 use Rattle.notation.specs.Checked.{refused, none_of, placed_by}
-use Rattle.notation.specs.Lists.{if◌then◌else◌, from, up_to, all, only, each, first_or, last_or}
+use Rattle.std.specs.Prelude.{if◌then◌else◌}
+use Rattle.notation.specs.Lists.{from, up_to, all, only, each, first_or, last_or}
 use Rattle.notation.specs.Ordered.{Every}
 use Rattle.notation.specs.Laws.ListLaws.{each_map}
 use Rattle.notation.specs.Laws.PairLaws.{every_imp, every_map, every_each, from_within}
@@ -23,7 +24,7 @@ use Rattle.plan.specs.Runs.{Step, JobRuns, first_round, earlier, not_later}
 use Rattle.plan.specs.Legality.{Pair, pairs, steps_of, rounds_of, start, end, before_rule, apart, nested, no_step_within}
 use Rattle.plan.specs.Legality.{preempt_rule, priority_at, lock_rule, order_fault, lock_fault}
 use Rattle.order_states.specs.Code.SnapshotSteps.{owner_in}
-use Rattle.order_states.specs.Laws.ShowLaws.{before_lent, preempts_lent}
+use Rattle.order_states.proofs.Laws.ShowLaws.{before_lent, preempts_lent}
 use Rattle.plan_marks.specs.Code.Marks.{steps_marked, rounds_in, steps_in}
 use Rattle.plan_marks.specs.Code.PairParts.{round_of_start, round_of_end, before_kept, rounds_apart, rounds_nested, none_within}
 use Rattle.plan_marks.specs.Code.PairParts.{preempt_kept, priority_reached, lock_kept, order_faulty, lock_faulty, pair_faulty}
@@ -41,7 +42,7 @@ pair_of x y = record { lower = job x; higher = job y }
 -- of images, those that are wanted
 only_map : {A B : Type 0} (test : B → Bool) (f : A → B) (xs : List A)
     → only test (map f xs) ≡ map f (only (λ x. test (f x)) xs)
-unfolding only if◌then◌else◌
+unfolding only
 only_map test f [] = refl
 only_map test f (x ∷ xs) = rw (only_map test f xs) (chosen (test (f x)))
   where
@@ -53,12 +54,12 @@ only_map test f (x ∷ xs) = rw (only_map test f xs) (chosen (test (f x)))
 
 -- the numbers above x
 all_above : (x s n : ℕ) → x < s → only (ltb x) (from s n) ≡ from s n
-unfolding from only if◌then◌else◌
+unfolding from only
 all_above x s zero lt = refl
 all_above x s (suc n) lt = rw (lt-ltb x s lt) (ap (λ (l : List ℕ). s ∷ l) (all_above x (suc s) n (omega arith)))
 
 above_only : (x s n : ℕ) → s ≤ suc x → only (ltb x) (from s n) ≡ from (suc x) (s + n - suc x)
-unfolding from only if◌then◌else◌
+unfolding from only
 above_only x s zero le = let none : 0 ≡ s + 0 - suc x = omega arith in ap (from (suc x)) none
 above_only x s (suc n) le =
     elim (dec_lt x s) [
@@ -94,7 +95,7 @@ pairs_listed a k total =
 
 none_agreed : {P : Type 0} (number : ℕ) (f g : P → Bool) (xs : List P) → Every (λ p. f p ≡ g p) xs
     → none_of number f xs ≡ none_of number g xs
-unfolding none_of if◌then◌else◌
+unfolding none_of
 none_agreed number f g [] same = refl
 none_agreed number f g (x ∷ xs) same =
     (λ j. if same.0 j then refused number x else none_agreed number f g xs same.1 j)
@@ -204,7 +205,7 @@ module _ {a : Accepted} {program times : List ℕ} {locks : Ceilings} {k : ℕ} 
 
   order_agreed : (x y : ℕ) → x < y → y < k
       → pair_faulty 43 program times marks x y ≡ order_fault a runs (pair_of x y)
-  unfolding pair_faulty order_faulty order_fault if◌then◌else◌
+  unfolding pair_faulty order_faulty order_fault
   order_agreed x y lt isY =
       let is_x : x < k = omega arith in
       let first = before_agreed x y is_x isY (λ e. omega arith) in
@@ -215,7 +216,7 @@ module _ {a : Accepted} {program times : List ℕ} {locks : Ceilings} {k : ℕ} 
 
   locks_agreed : (x y : ℕ) → x < y → y < k
       → pair_faulty 44 program times marks x y ≡ lock_fault a runs (pair_of x y)
-  unfolding pair_faulty lock_faulty lock_fault if◌then◌else◌
+  unfolding pair_faulty lock_faulty lock_fault
   locks_agreed x y lt isY =
       let is_x : x < k = omega arith in
       let first = lock_agreed y x isY is_x in

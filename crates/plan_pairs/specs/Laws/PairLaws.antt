@@ -9,7 +9,8 @@ use Rattle.std.proofs.lemmas.Bool.{false≢true}
 use Rattle.std.proofs.Math.Logic.{inl, inr}
 use mathlib.Core.List.{List, [], ◌∷◌, map, ◌++◌}
 use Rattle.notation.specs.Checked.{refused, none_of, placed_by}
-use Rattle.notation.specs.Lists.{if◌then◌else◌, any, from, up_to, each}
+use Rattle.std.specs.Prelude.{if◌then◌else◌}
+use Rattle.notation.specs.Lists.{any, from, up_to, each}
 use Rattle.notation.specs.Laws.SearchLaws.{from_first, from_none}
 use Rattle.notation.specs.Laws.TestLaws.{or_left, or_second, or_neither, test_decided}
 use Rattle.plan.specs.Legality.{Pair}
@@ -22,12 +23,12 @@ use Rattle.plan_marks.specs.Code.PairParts.{order_faulty, lock_faulty, pair_faul
 
 module _ (program : Program) (times : LentTimes) (marks : List ℕ) (x y number : ℕ) {b : Bool} where
   pub pair_order : number ≡ 43 → b ≡ order_faulty program times marks x y → b ≡ pair_faulty number program times marks x y
-  unfolding pair_faulty if◌then◌else◌
+  unfolding pair_faulty
   pair_order is same = same ∙ rw (eq-eqb number 43 is) refl
 
   pub pair_lock : (number ≡ 43 → ⊥) → b ≡ lock_faulty program times marks x y
       → b ≡ pair_faulty number program times marks x y
-  unfolding pair_faulty if◌then◌else◌
+  unfolding pair_faulty
   pair_lock other same = same ∙ rw (ne_eqb number 43 other) refl
 
 -- ---- the pairs of one job
@@ -66,7 +67,7 @@ module _ (test : ℕ → Bool) (s n : ℕ) where
 module _ {A P : Type 0} (number : ℕ) (fault : P → Bool) (f : A → P) (rest : List P) where
   images_free : (xs : List A) → any (λ x. fault (f x)) xs ≡ false
       → none_of number fault (map f xs ++ rest) ≡ none_of number fault rest
-  unfolding none_of any if◌then◌else◌
+  unfolding none_of any
   images_free [] h = refl
   images_free (x ∷ xs) h =
       let parts = or_neither (fault (f x)) _ h in
@@ -74,7 +75,7 @@ module _ {A P : Type 0} (number : ℕ) (fault : P → Bool) (f : A → P) (rest 
 
   images_faulty : {Q : Type 0} (place : P → Q) (q : Q) → ((x : A) → place (f x) ≡ q) → (xs : List A)
       → any (λ x. fault (f x)) xs ≡ true → placed_by place (none_of number fault (map f xs ++ rest)) ≡ refused number q
-  unfolding none_of any placed_by if◌then◌else◌
+  unfolding none_of any placed_by
   images_faulty place q there [] h = absurd (false≢true h)
   images_faulty place q there (x ∷ xs) h =
       elim (test_decided (fault (f x))) [

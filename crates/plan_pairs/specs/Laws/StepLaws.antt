@@ -9,7 +9,8 @@ use native.Mathlib.Omega.{arith}
 use Rattle.std.proofs.Math.Bool.{not}
 use mathlib.Core.List.{List, [], ◌∷◌, map}
 use Rattle.std.proofs.lemmas.Bool.{lt-leb}
-use Rattle.notation.specs.Lists.{if◌then◌else◌, from, up_to, all, only, first_or, last_or}
+use Rattle.std.specs.Prelude.{if◌then◌else◌}
+use Rattle.notation.specs.Lists.{from, up_to, all, only, first_or, last_or}
 use Rattle.notation.specs.Laws.SearchLaws.{from_first, from_none}
 use Rattle.notation.specs.Laws.TestLaws.{and_first, and_second, and_last, and_holds}
 use Rattle.plan.specs.declared.Round.{Round}
@@ -167,7 +168,7 @@ module _ (marks : List ℕ) (base x : ℕ) (r : Round) (n : ℕ) where
     -- a step up to r sets it, a later one keeps it
     pub priority_set : k < n → {p : Round} → p ≡ (step_marked marks x k).round → p.0 ≤ r.0
         → {after : ℕ} → after ≡ (step_marked marks x k).priority_after → PriorityFrom marks base x r n after (k + 1)
-    unfolding if◌then◌else◌ last_or
+    unfolding last_or
     priority_set lt {p} read up {after} set =
         record {
           within = omega arith;
@@ -177,7 +178,6 @@ module _ (marks : List ℕ) (base x : ℕ) (r : Round) (n : ℕ) where
 
     pub priority_kept : k < n → {p : Round} → p ≡ (step_marked marks x k).round → r.0 < p.0
         → {after : ℕ} → after ≡ priority → PriorityFrom marks base x r n after (k + 1)
-    unfolding if◌then◌else◌
     priority_kept lt {p} read later {after} kept =
         record {
           within = omega arith;

@@ -39,8 +39,8 @@ use Rattle.plan_runs.specs.Laws.LentSteps.{lent_step, body_size, fresh_inside, i
 use Rattle.plan_runs.specs.Laws.LentSteps.{bytes_lent, effect_lent, inside_on, made_lent, after_lent}
 use Rattle.plan_runs.specs.Code.StepBounds.{may_step}
 use Rattle.machine.specs.Code.Within.{LocksWithin}
-use Rattle.machine.specs.Laws.InstructionLaws.{perform_length}
-use Rattle.machine.specs.Laws.WithinLaws.{fresh_within, perform_within}
+use Rattle.machine.proofs.Laws.InstructionLaws.{perform_length}
+use Rattle.machine.proofs.Laws.WithinLaws.{fresh_within, perform_within}
 use Rattle.plan_runs.specs.Laws.NextStepLaws.{after_steps, made_none, made_more, step_refused, step_ended_lem, step_goes}
 
 -- a job's first n steps

@@ -8,11 +8,12 @@ use mathlib.Core.List.{List, [], ◌∷◌, ◌++◌, append_assoc, append-nil}
 use Rattle.std.proofs.Math.ListN.{drop, drop_of_length-le}
 use Rattle.notation.specs.Checked.{Checked, refused, passed, ◌>>=◌}
 use Rattle.notation.specs.Laws.TabulateLaws.{same_values}
-use Rattle.notation.specs.Lists.{if◌then◌else◌, from, up_to}
+use Rattle.std.specs.Prelude.{if◌then◌else◌}
+use Rattle.notation.specs.Lists.{from, up_to}
 use Rattle.taskfile.specs.declared.Ceilings.{Ceilings}
 use Rattle.timing.specs.declared.Job.{Job}
 use Rattle.timing.specs.Accepted.{Accepted}
-use Rattle.timing.specs.Laws.JobNumberLaws.{jobs_length, jobs_at}
+use Rattle.timing.proofs.Laws.JobNumberLaws.{jobs_length, jobs_at}
 use Rattle.timing.specs.Relations.{IsJob, job_numbers}
 use Rattle.machine.specs.Ends.{Flags, no_flags, flagged}
 use Rattle.plan.specs.Runs.{Plan, Step, RunState, JobRun, JobRuns, run_jobs}
@@ -107,7 +108,7 @@ jobs_start program locks plan k stores marks room is_marks = record {
 
 -- a flag more or less leaves as many
 flags_kept : (test : Bool) (x : ℕ) (flags : Flags) → length (flagged test x flags) ≡ length flags
-unfolding flagged if◌then◌else◌
+unfolding flagged
 flags_kept true x flags = length-set flags x true
 flags_kept false x flags = refl
 

@@ -14,15 +14,15 @@ use Rattle.taskfile.specs.Tables.{tasks_of, task_of, body_of}
 use Rattle.timing.specs.declared.Job.{Job}
 use Rattle.timing.specs.Accepted.{Accepted}
 use Rattle.timing.specs.Relations.{IsJob, base, job_at}
-use Rattle.timing.specs.Laws.BaseLaws.{base_small}
-use Rattle.timing.specs.Laws.JobFacts.{job_task}
+use Rattle.timing.proofs.Laws.BaseLaws.{base_small}
+use Rattle.timing.proofs.Laws.JobFacts.{job_task}
 use Rattle.machine.specs.declared.Effect.{Effect}
 use Rattle.machine.specs.declared.Local.{Local}
 use Rattle.machine.specs.Ends.{Flags, flagged}
 use Rattle.machine.specs.Held.{priority}
 use Rattle.machine.specs.Instructions.{Store, fresh, perform}
-use Rattle.machine.specs.Laws.BodyLaws.{body_step}
-use Rattle.order.specs.Laws.LengthLaws.{body_short}
+use Rattle.machine.proofs.Laws.BodyLaws.{body_step}
+use Rattle.order.proofs.Laws.LengthLaws.{body_short}
 use Rattle.plan.specs.declared.Round.{Round}
 use Rattle.plan.specs.Runs.{Plan, Step, job_total, round_at, step_bytes, step_effect, step_made, running_after}
 use Rattle.order_states.specs.Code.SnapshotSteps.{owner_in, instruction_in}

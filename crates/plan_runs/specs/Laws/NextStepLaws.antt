@@ -1,10 +1,10 @@
 -- One step of a job's run, by what its bytes come to and by whether it ends the job.
 -- Assumes nothing.
-use Rattle.std.specs.Prelude.{◌≡◌, ℕ, suc, ◌+◌, true, false, List, [], ◌∷◌, ◌++◌}
+use Rattle.std.specs.Prelude.{◌≡◌, ℕ, suc, true, false, List, [], ◌∷◌, ◌++◌}
 use Rattle.std.proofs.Math.Path.{refl}
 use Rattle.std.proofs.Common.{sym, ap, append_assoc}
 use Rattle.notation.specs.Checked.{Checked, refused, passed, ◌>>=◌, ◌>>◌}
-use Rattle.notation.specs.Lists.{if◌then◌else◌}
+use Rattle.std.specs.Prelude.{if◌then◌else◌}
 use Rattle.timing.specs.declared.Job.{Job}
 use Rattle.timing.specs.Accepted.{Accepted}
 use Rattle.machine.specs.declared.Local.{Local}
@@ -50,7 +50,7 @@ module _ (a : Accepted) (plan : Plan) (x : Job) (left : ℕ) (local : Local) (pr
           steps = step_made a plan x running effect ∷ [];
           running = running_after plan x running effect;
         })
-    unfolding run_job ◌>>◌ ◌>>=◌ if◌then◌else◌
+    unfolding run_job ◌>>◌ ◌>>=◌
     step_ended_lem ends = rw (passes, is, ends) refl
 
     rest_after : (c : Checked ℕ JobRun) (made : Step)
@@ -64,5 +64,5 @@ module _ (a : Accepted) (plan : Plan) (x : Job) (left : ℕ) (local : Local) (pr
         → run_job a plan x (suc left) local previous running
         ≡ after_steps (step_made a plan x running effect ∷ [])
         (run_job a plan x left effect.local (round_at plan running.offset) (running_after plan x running effect))
-    unfolding run_job ◌>>◌ if◌then◌else◌ step_made
+    unfolding run_job ◌>>◌ step_made
     step_goes goes = rw (passes, is, goes) (rest_after _ _)

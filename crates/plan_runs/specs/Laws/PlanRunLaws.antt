@@ -13,7 +13,8 @@ use Rattle.notation.specs.Checked.{Checked, refused, passed, require, ◌>>=◌,
 use Rattle.notation.specs.Laws.CheckedLaws.{require_holds, require_fails}
 use Rattle.notation.specs.Laws.ElementLaws.{map_map}
 use Rattle.notation.specs.Laws.TestLaws.{and_first, and_last, and_holds}
-use Rattle.notation.specs.Lists.{if◌then◌else◌, up_to}
+use Rattle.std.specs.Prelude.{if◌then◌else◌}
+use Rattle.notation.specs.Lists.{up_to}
 use Rattle.taskfile.specs.declared.Ceilings.{Ceilings}
 use Rattle.timing.specs.Accepted.{Accepted}
 use Rattle.timing.specs.Relations.{job_numbers}
@@ -70,11 +71,11 @@ module _ (size : ℕ) (fault : Fault) (offset : ℕ) where
   unless_left clear is = is ∙ ap (λ (f : Fault). leftover_fault size f offset) (sym clear)
 
   pub left_over : fault ≡ Nothing → (offset ≡ size → ⊥) → At 40 offset ≡ leftover_fault size fault offset
-  unfolding leftover_fault if◌then◌else◌
+  unfolding leftover_fault
   left_over clear more = unless_left clear (rw (ne_eqb offset size more) refl)
 
   pub left_nothing : fault ≡ Nothing → offset ≡ size → Nothing ≡ leftover_fault size fault offset
-  unfolding leftover_fault if◌then◌else◌
+  unfolding leftover_fault
   left_nothing clear end = unless_left clear (rw (eq-eqb offset size end) refl)
 
 -- ---- a plan's run

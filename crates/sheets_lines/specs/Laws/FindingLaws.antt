@@ -11,7 +11,8 @@ use Rattle.std.proofs.Math.ListN.{length, get_or, take, length-take}
 use Rattle.notation.specs.Checked.{refused, passed}
 use Rattle.notation.specs.Laws.CheckedLaws.{require_holds, require_fails}
 use Rattle.notation.specs.Laws.TestLaws.{test_decided}
-use Rattle.notation.specs.Lists.{if◌then◌else◌, up_to, only, each}
+use Rattle.std.specs.Prelude.{if◌then◌else◌}
+use Rattle.notation.specs.Lists.{up_to, only, each}
 use Rattle.notation.specs.Texts.{Text, decimal, line}
 use Rattle.taskfile.specs.declared.Table.{Table}
 use Rattle.timing.specs.Accepted.{Accepted}
@@ -22,7 +23,7 @@ use Rattle.timing.specs.declared.JobList.{JobList}
 use Rattle.order.specs.Orders.{OrderEnds}
 use Rattle.plan.specs.Plans.{legal_run}
 use Rattle.matching.specs.Conversions.{plan_of}
-use Rattle.walk.specs.Laws.FailingLaws.{walk_first}
+use Rattle.walk.proofs.Laws.FailingLaws.{walk_first}
 use Rattle.walk.specs.WalkEntry.{decided, refusal, verdict_of, decided_answer, shown, decided_bytes}
 use Rattle.walk.specs.Walks.{EndedOrder, Walked, walk}
 use Rattle.walk.specs.declared.Verdict.TheVariants.{None, Holds, Fails}
@@ -159,7 +160,7 @@ module _ {a : Accepted} {t : Table} {list : JobList} (p : PartsOf a t list) {bef
 
 only_of_map : {A B : Type 0} (g : A → B) (test : B → Bool) (xs : List A)
     → only test (map g xs) ≡ map g (only (λ x. test (g x)) xs)
-unfolding only if◌then◌else◌
+unfolding only
 only_of_map g test [] = refl
 only_of_map {A} {B} g test (x ∷ xs) = go (test (g x)) (only_of_map g test xs)
   where

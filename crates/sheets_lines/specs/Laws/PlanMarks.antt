@@ -26,8 +26,8 @@ use Rattle.plan.specs.Plans.{legal_run}
 use Rattle.plan.specs.Runs.{Step, JobRuns, job_total}
 use Rattle.plan.specs.declared.Round.{Round}
 use Rattle.matching.specs.Conversions.{plan_of}
-use Rattle.matching.specs.Laws.ConversionLaws.{order_legal}
-use Rattle.matching.specs.Laws.FitsLaws.{fill_keeps}
+use Rattle.matching.proofs.Laws.ConversionLaws.{order_legal}
+use Rattle.matching.proofs.Laws.FitsLaws.{fill_keeps}
 use Rattle.plan_marks.specs.Code.Marks.{steps_marked, rounds_in, steps_in}
 use Rattle.plan_marks.specs.Code.TableParts.{PlanCheckedAs, PlanCheckedOf}
 use Rattle.plan_marks.specs.declared.PlanChecked.{PlanChecked}

@@ -10,7 +10,7 @@ use Rattle.notation.specs.Checked.{Checked, passed}
 use Rattle.notation.specs.Laws.CheckedLaws.{require_holds, require_fails}
 use Rattle.notation.specs.Lists.{up_to, each}
 use Rattle.notation.specs.Texts.{Text, decimal, line}
-use Rattle.taskfile.specs.Laws.JudgingLaws.{tasks_length}
+use Rattle.taskfile.proofs.Laws.JudgingLaws.{tasks_length}
 use Rattle.taskfile.specs.Records.{File}
 use Rattle.taskfile.specs.Tables.{tasks_of}
 use Rattle.taskfile.specs.declared.Check.TheVariants.{Passed, Refused}
@@ -20,14 +20,14 @@ use Rattle.timing.specs.Code.AcceptParts.{AcceptedParts, AcceptedAs}
 use Rattle.timing.specs.Code.IsAccepted.{IsAccepted}
 use Rattle.timing.specs.Code.JobParts.{job_list_of}
 use Rattle.timing.specs.Code.ResponseParts.{Timeable}
-use Rattle.timing.specs.Laws.AcceptLaws.{accepted_refused, accepted_passed}
-use Rattle.timing.specs.Laws.AcceptedLaws.{file_accepted}
-use Rattle.timing.specs.Laws.JobFacts.{jobs_few}
+use Rattle.timing.proofs.Laws.AcceptLaws.{accepted_refused, accepted_passed}
+use Rattle.timing.proofs.Laws.AcceptedLaws.{file_accepted}
+use Rattle.timing.proofs.Laws.JobFacts.{jobs_few}
 use Rattle.timing.specs.declared.AcceptAnswer.{AcceptAnswer}
 use Rattle.timing.specs.declared.JobList.{JobList}
 use Rattle.plan.specs.Runs.{job_total}
 use Rattle.notation_buffers.specs.Laws.WritingLaws.{appends_count, appends_front}
-use Rattle.sheets.specs.Laws.SheetSizes.{sheet_fits}
+use Rattle.sheets.proofs.Laws.SheetSizes.{sheet_fits}
 use Rattle.sheets.specs.Sheets.{refused_line, totals_line, table_sheet, sheet_from, sheet_of}
 use Rattle.sheets.specs.Sheets.{sheet_room, printed, sheet_answer_of, sheet_after_of, sheet_answer, sheet_after}
 use Rattle.sheets.specs.SheetWords.{tasks_word, jobs_word}

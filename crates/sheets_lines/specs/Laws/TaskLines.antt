@@ -12,7 +12,7 @@ use Rattle.notation.specs.Texts.{Text, decimal, line}
 use Rattle.taskfile.specs.Code.JudgingParts.{Shaped}
 use Rattle.taskfile.specs.File.{load, record_at}
 use Rattle.taskfile.specs.Judgement.{numbered, task_numbers}
-use Rattle.taskfile.specs.Laws.JudgingLaws.{tasks_length}
+use Rattle.taskfile.proofs.Laws.JudgingLaws.{tasks_length}
 use Rattle.taskfile.specs.Records.{File}
 use Rattle.taskfile.specs.Tables.{tasks_of, task_of}
 use Rattle.taskfile.specs.declared.Table.{Table}
@@ -21,9 +21,9 @@ use Rattle.timing.specs.Accepted.{Accepted, accept, timed}
 use Rattle.timing.specs.Code.AcceptParts.{AcceptedParts}
 use Rattle.timing.specs.Code.ResponseParts.{Timeable}
 use Rattle.timing.specs.Jobs.{jobs_within}
-use Rattle.timing.specs.Laws.AcceptLaws.{loaded_timeable}
-use Rattle.timing.specs.Laws.JobLaws.{timed_passed}
-use Rattle.timing.specs.Laws.TimeableLaws.{task_read}
+use Rattle.timing.proofs.Laws.AcceptLaws.{loaded_timeable}
+use Rattle.timing.proofs.Laws.JobLaws.{timed_passed}
+use Rattle.timing.proofs.Laws.TimeableLaws.{task_read}
 use Rattle.timing.specs.declared.AcceptAnswer.{AcceptAnswer}
 use Rattle.sheets.specs.Sheets.{task_line}
 use Rattle.sheets.specs.SheetWords.{task_word, response_word, jobs_word}

@@ -16,7 +16,7 @@ use Rattle.writer_entries.specs.Laws.WrittenTableLaws.{refusal}
 use Rattle.texts.specs.declared.TextRead.{TextRead}
 use Rattle.texts.specs.Code.LineParts.{text_answer}
 use Rattle.texts.specs.Grammar.{Line}
-use Rattle.texts.specs.Laws.TextFaults.{read_numbered}
+use Rattle.texts.proofs.Laws.TextFaults.{read_numbered}
 use Rattle.texts.specs.Reading.{text_read}
 use Rattle.texts.specs.TextEntries.{text_room, line_of_record, filed, to_file_answer, to_file_after}
 use Rattle.texts.specs.TextTables.{table_of}

@@ -8,9 +8,9 @@ use Rattle.taskfile.specs.Records.{File}
 use Rattle.timing.specs.declared.AcceptAnswer.{AcceptAnswer}
 use Rattle.timing.specs.Accepted.{accept}
 use Rattle.timing.specs.Code.AcceptParts.{AcceptedAs}
-use Rattle.timing.specs.Laws.AcceptLaws.{accepted_passed}
+use Rattle.timing.proofs.Laws.AcceptLaws.{accepted_passed}
 use Rattle.writer.specs.Values.{Bytes}
-use Rattle.texts.specs.Laws.LongestText.{file_longest}
+use Rattle.texts.proofs.Laws.LongestText.{file_longest}
 use Rattle.texts.specs.TextTables.{text_of}
 
 -- as the reader's answer has the table

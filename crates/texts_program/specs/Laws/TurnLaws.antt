@@ -5,7 +5,8 @@ use Rattle.std.proofs.Common.{sym, ap, ◌∙◌, arith, length-append, eq-eqb, 
 use Rattle.std.proofs.Math.Seq.{take-append_seam}
 use Rattle.notation.specs.Checked.{Checked, refused, passed}
 use Rattle.notation.specs.Letters.{w}
-use Rattle.notation.specs.Lists.{if◌then◌else◌, first_or}
+use Rattle.std.specs.Prelude.{if◌then◌else◌}
+use Rattle.notation.specs.Lists.{first_or}
 use Rattle.notation.specs.Texts.{decimal}
 use Rattle.notation.specs.Laws.TextSizes.{decimal_most, line_most}
 use Rattle.sheets.specs.Sheets.{refused_line}
@@ -58,13 +59,13 @@ outcome_shown c bytes target turns made =
 -- a text, and a file
 pub text_converted : (bytes target : List ℕ) {x : WriteAnswer} {after : List ℕ} → true ≡ begins_text bytes
     → (x ≡ to_file_answer bytes target) × (after ≡ to_file_after bytes target) → ConvertedAs bytes target x after
-unfolding turned to_file_answer to_file_after if◌then◌else◌
+unfolding turned to_file_answer to_file_after
 text_converted bytes target begins made =
     outcome_shown (filed bytes target) bytes target (rw (sym begins) refl) made
 
 pub file_converted : (bytes target : List ℕ) {x : WriteAnswer} {after : List ℕ} → false ≡ begins_text bytes
     → (x ≡ to_text_answer bytes target) × (after ≡ to_text_after bytes target) → ConvertedAs bytes target x after
-unfolding turned to_text_answer to_text_after if◌then◌else◌
+unfolding turned to_text_answer to_text_after
 file_converted bytes target begins made =
     outcome_shown (texted bytes target) bytes target (rw (sym begins) refl) made
 
@@ -72,7 +73,7 @@ file_converted bytes target begins made =
 
 -- number 0: the bytes up to the length
 pub shows_bytes : (x : WriteAnswer) (after : List ℕ) → x.number ≡ 0 → take x.length after ≡ shown x after
-unfolding shown if◌then◌else◌
+unfolding shown
 shows_bytes x after zero = rw (eq-eqb x.number 0 zero) refl
 
 -- the line of a refusal is short
@@ -87,7 +88,7 @@ refused_short number place =
 
 pub shows_refusal : (x : WriteAnswer) (after : List ℕ) {before printed : List ℕ} {n : ℕ} → text_room ≤ length before
     → (x.number ≡ 0 → ⊥) → PutsText before 0 (refused_line x.number x.place) printed n → take n printed ≡ shown x after
-unfolding shown if◌then◌else◌
+unfolding shown
 shows_refusal x after {before} {printed} {n} enough some puts =
     let bytes = refused_line x.number x.place in
     let short : length bytes ≤ length before = omega (arith, enough, refused_short x.number x.place) in

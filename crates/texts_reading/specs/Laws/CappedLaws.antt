@@ -13,7 +13,7 @@ use Rattle.texts.specs.Grammar.{row_of, fits, wide_field}
 use Rattle.texts.specs.Reading.{is_numeral, value_of}
 use Rattle.texts.specs.Code.LineParts.{capped_value}
 use Rattle.texts_reading.specs.Laws.DigitLaws.{capped_numeral}
-use Rattle.texts.specs.Laws.FormLaws.{field_limited}
+use Rattle.texts.proofs.Laws.FormLaws.{field_limited}
 use Rattle.texts_reading.specs.Laws.RowOfLaws.{fields_few}
 
 -- a limit that is not above the cap does not tell a capped number from the true one

@@ -8,13 +8,14 @@ use Prim.Native.Nat.{ℕ, suc, ◌+◌, ◌*◌, ◌-◌, ◌≤◌, ◌<◌, mi
 use Rattle.std.proofs.Math.Decide.{dec_le}
 use Rattle.std.proofs.Math.ListN.{drop_of_length-le}
 use Rattle.std.proofs.lemmas.Bool.{lt-leb}
-use Rattle.notation.specs.Lists.{if◌then◌else◌, all}
+use Rattle.std.specs.Prelude.{if◌then◌else◌}
+use Rattle.notation.specs.Lists.{all}
 use Rattle.notation.specs.Laws.TestLaws.{and_first, and_second}
 use Rattle.notation.specs.Texts.{Text}
 use Rattle.texts.specs.Grammar.{wide_field}
 use Rattle.texts.specs.Reading.{is_digit, is_empty, is_numeral, value_after, value_of}
 use Rattle.texts.specs.Code.LineParts.{capped_value}
-use Rattle.texts.specs.Laws.NumeralLaws.{value_grows}
+use Rattle.texts.proofs.Laws.NumeralLaws.{value_grows}
 
 -- ---- a digit
 
@@ -134,9 +135,9 @@ module _ (word : Text) (value k : ℕ) (done : ValuedTo word value k) where
 -- ---- a numeral's value
 
 pub capped_other : (word : Text) → false ≡ is_numeral word → 0 ≡ capped_value word
-unfolding capped_value if◌then◌else◌
+unfolding capped_value
 capped_other word e = rw (sym e) refl
 
 pub capped_numeral : (word : Text) → true ≡ is_numeral word → min wide_field (value_of word) ≡ capped_value word
-unfolding capped_value if◌then◌else◌
+unfolding capped_value
 capped_numeral word e = rw (sym e) refl

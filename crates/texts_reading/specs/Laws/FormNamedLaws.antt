@@ -6,7 +6,8 @@ use Rattle.std.proofs.Common.{ap, ◌∙◌}
 use Rattle.std.proofs.Math.Bool.{true, false}
 use mathlib.Core.List.{List, [], ◌∷◌, map}
 use Rattle.std.proofs.Math.Option.{Option, none, some}
-use Rattle.notation.specs.Lists.{if◌then◌else◌, up_to, first_with, same}
+use Rattle.std.specs.Prelude.{if◌then◌else◌}
+use Rattle.notation.specs.Lists.{up_to, first_with, same}
 use Rattle.notation.specs.Laws.SearchLaws.{Searched, search_starts, search_goes_on, search_finds, search_ends}
 use Rattle.notation.specs.Texts.{Text}
 use Rattle.texts.specs.declared.Form.{Form}
@@ -22,11 +23,11 @@ use Rattle.texts_reading.specs.Code.FormParts.{operation_named}
 
 module _ {A : Type 0} (test : A → Bool) (x : A) (xs : List A) where
   first_named : true ≡ test x → first_with test (x ∷ xs) ≡ some x
-  unfolding first_with if◌then◌else◌
+  unfolding first_with
   first_named e = rw (sym e) refl
 
   first_passed_over : false ≡ test x → first_with test (x ∷ xs) ≡ first_with test xs
-  unfolding first_with if◌then◌else◌
+  unfolding first_with
   first_passed_over e = rw (sym e) refl
 
 -- ---- an instruction by its name
@@ -46,7 +47,7 @@ module _ (word : Text) where
 
   operation_first : (os : List ℕ)
       → operation_form (first_with NamesOperation os) ≡ named_of (first_with Names (map (λ o. InstructionLine o) os))
-  unfolding operation_form named_of first_with if◌then◌else◌
+  unfolding operation_form named_of first_with
   operation_first [] = refl
   operation_first (o ∷ os) = go (NamesOperation o) (operation_first os)
     where

@@ -2,15 +2,15 @@
 -- how long each name is.
 -- Assumes nothing.
 use Rattle.std.specs.Prelude.{◌≡◌, refl, ℕ, ◌+◌, ◌-◌, ◌*◌, ◌≤◌, ◌<◌, Bool, List, map, ◌++◌, length, get_or, take, drop, replicate, leb}
-use Rattle.std.proofs.Common.{sym, ap, ◌∙◌, arith, leb-true}
+use Rattle.std.proofs.Common.{ap, ◌∙◌, arith, leb-true}
 use Rattle.notation.specs.Lists.{all, each, same, up_to, from}
 use Rattle.notation.specs.Laws.ElementLaws.{same_equal}
-use Rattle.notation.specs.Laws.QuantifierLaws.{all_get_d}
+use Rattle.notation.specs.Laws.QuantifierLaws.{all_get_or}
 use Rattle.notation.specs.Letters.{space}
 use Rattle.notation.specs.Texts.{Text}
 use Rattle.texts.specs.declared.Form.TheVariants.{InstructionLine}
 use Rattle.texts.specs.Grammar.{Row, row_of, operation_rows}
-use Rattle.texts.specs.Laws.EveryLaws.{tested_below}
+use Rattle.texts.proofs.Laws.EveryLaws.{tested_below}
 use Rattle.texts.specs.Words.{end_word, load_word, store_word, set_word, add_word, subtract_word, less_word, equal_word}
 use Rattle.texts.specs.Words.{pick_word, acquire_word, release_word, assert_word}
 
@@ -42,7 +42,7 @@ name_at o below = same_equal _ _ (tested_below part_names 12 o refl below)
 -- and no longer than its place
 pub name_short : (o : ℕ) → get_or name_lengths o 0 ≤ 8
 unfolding names_opened all
-name_short o = leb-true (get_or name_lengths o 0) 8 (all_get_d (λ n. leb n 8) name_lengths o 0 refl refl)
+name_short o = leb-true (get_or name_lengths o 0) 8 (all_get_or (λ n. leb n 8) name_lengths o 0 refl refl)
 
 -- ---- the part that the code takes, for the row of an operation
 

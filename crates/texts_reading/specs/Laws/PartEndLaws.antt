@@ -11,7 +11,7 @@ use Rattle.notation.specs.Lists.{first_or}
 use Rattle.notation.specs.Texts.{Text}
 use Rattle.texts.specs.Reading.{begins, parts}
 use Rattle.texts.specs.Code.LineParts.{part_end, words_past}
-use Rattle.texts.specs.Laws.SeparatorLaws.{parts_some, parts_ended, parts_begun}
+use Rattle.texts.proofs.Laws.SeparatorLaws.{parts_some, parts_ended, parts_begun}
 use Rattle.texts_reading.specs.Code.NumeralParts.{PartEnds}
 
 module _ (separator : ℕ) where

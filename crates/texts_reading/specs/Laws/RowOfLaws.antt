@@ -13,7 +13,7 @@ use Rattle.notation.specs.Laws.TestLaws.{and_first, and_second}
 use Rattle.texts.specs.declared.Form.{Form}
 use Rattle.texts.specs.declared.Form.TheVariants.{WindowLine, StartLine, TaskLine, InstructionLine, LockLine}
 use Rattle.texts.specs.Grammar.{Row, row_of, may_come, operation_rows, byte_field, wide_field, in_body}
-use Rattle.texts.specs.Laws.RowLaws.{used_of, used_bytes, used_few}
+use Rattle.texts.proofs.Laws.RowLaws.{used_of, used_bytes, used_few}
 use Rattle.texts_reading.specs.Code.FormParts.{form_number}
 
 -- ---- the operations

@@ -1,4 +1,4 @@
--- Laws of the list_filled list: its length, its steps, and that it is the records before what was there.
+-- Laws of the filled list: its length, its steps, and that it is the records before what was there.
 -- Assumes nothing.
 use Rattle.std.specs.Prelude.{◌≡◌, refl, ℕ, zero, suc, ◌≤◌, ◌<◌, List, ◌++◌, length, get_or, set, drop}
 use Rattle.std.proofs.Common.{sym, ap, ◌∙◌, zero-add, arith, length-set}

@@ -17,9 +17,9 @@ use Rattle.timing.specs.declared.ListAnswer.{ListAnswer}
 use Rattle.timing.specs.Accepted.{accept, most_jobs}
 use Rattle.timing.specs.Code.AcceptParts.{AcceptedAs}
 use Rattle.timing.specs.Code.JobParts.{job_list_of}
-use Rattle.timing.specs.Laws.AcceptLaws.{accepted_refused, accepted_passed}
-use Rattle.timing.specs.Laws.AcceptedLaws.{file_accepted}
-use Rattle.timing.specs.Laws.JobFacts.{jobs_few}
+use Rattle.timing.proofs.Laws.AcceptLaws.{accepted_refused, accepted_passed}
+use Rattle.timing.proofs.Laws.AcceptedLaws.{file_accepted}
+use Rattle.timing.proofs.Laws.JobFacts.{jobs_few}
 use Rattle.timing.specs.ReadEntries.{listed, list_answer, list_answer_of, list_after, list_after_of}
 use Rattle.timing.specs.Relations.{no_job}
 use Rattle.timing_acceptance.specs.declared.job_list.Listed.{Listed}

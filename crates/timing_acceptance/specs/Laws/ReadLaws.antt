@@ -19,9 +19,9 @@ use Rattle.timing.specs.Accepted.{responses_of}
 use Rattle.timing.specs.Code.JobParts.{job_list_of}
 use Rattle.timing.specs.Code.ResponseParts.{ResponsesAs}
 use Rattle.timing.specs.Jobs.{job_count, jobs_of}
-use Rattle.timing.specs.Laws.AcceptLaws.{answers_refused, answers_overload, answers_many, answers_accepted}
-use Rattle.timing.specs.Laws.AcceptLaws.{reads_refused, reads_accepted}
-use Rattle.timing.specs.Laws.JobFacts.{jobs_counted}
+use Rattle.timing.proofs.Laws.AcceptLaws.{answers_refused, answers_overload, answers_many, answers_accepted}
+use Rattle.timing.proofs.Laws.AcceptLaws.{reads_refused, reads_accepted}
+use Rattle.timing.proofs.Laws.JobFacts.{jobs_counted}
 use Rattle.timing.specs.ReadEntries.{read_answer}
 use Rattle.timing_acceptance.specs.Code.ReadParts.{refused_read}
 

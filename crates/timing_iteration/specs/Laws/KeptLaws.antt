@@ -2,11 +2,12 @@
 -- the kept periods reach the interval's end, and replaced for one task, by one period more or by all that begin.
 -- Assumes nothing.
 use Rattle.std.specs.Prelude.{◌≡◌, refl, ℕ, ◌+◌, ◌*◌, ◌^◌, ◌≤◌, ◌<◌, List, get_or, set, replicate}
-use Rattle.std.proofs.Common.{sym, ap, ◌∙◌, zero-le, le_trans, zero-mul, add-mul, mul-le-mul_left, mul-le-mul_right, arith, length-set, get_or-set_same, get_or-set_other}
+use Rattle.std.proofs.Common.{sym, ap, ◌∙◌, zero-le, le_trans, zero-mul, add-mul, mul-le-mul_left, mul-le-mul_right}
+use Rattle.std.proofs.Common.{arith, length-set, get_or-set_same, get_or-set_other}
 use Rattle.std.proofs.Math.Decide.{ℕ_discrete}
 use Rattle.std.proofs.lemmas.List.{get_or-replicate}
 use Rattle.timing.specs.Response.{rounded_up}
-use Rattle.timing.specs.Laws.ResponseLaws.{rounded_up_below, rounded_up_mono, rounded_up_tight}
+use Rattle.timing.proofs.Laws.ResponseLaws.{rounded_up_below, rounded_up_mono, rounded_up_tight}
 use Rattle.timing.specs.Code.ResponseParts.{BoundedTimes}
 use Rattle.timing_iteration.specs.Code.Kept.{KeptPeriods, Kept}
 

@@ -9,7 +9,7 @@ use Rattle.notation.specs.Laws.TestLaws.{and_both, test_decided}
 use Rattle.order_states.specs.declared.Due.{Due}
 use Rattle.order_states.specs.Code.Snapshots.{Snapshot}
 use Rattle.order_states.specs.Code.SnapshotSteps.{bar_in, level_in, start_turn, top_of, top_turn, turn_in, step_in, offered_in}
-use Rattle.order_states.specs.Laws.StartLaws.{level_flat, level_none, level_some}
+use Rattle.order_states.proofs.Laws.StartLaws.{level_flat, level_none, level_some}
 use Rattle.walk_moves.specs.Laws.DueLaws as due
 use Rattle.walk_moves.specs.Laws.NextLaws as next
 use Rattle.walk_moves.specs.Code.MoveParts.{running_task}

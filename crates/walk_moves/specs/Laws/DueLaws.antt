@@ -9,15 +9,15 @@ use Rattle.std.proofs.Math.Dec.{ltb}
 use Rattle.std.proofs.Math.ListN.{take}
 use borrow.Author.Tests.{ltb-true, eqb-true, eq-eqb, lt-ltb}
 use Rattle.taskfile.specs.declared.Ceilings.{Ceilings}
-use Rattle.notation.specs.Lists.{if◌then◌else◌}
+use Rattle.std.specs.Prelude.{if◌then◌else◌}
 use Rattle.notation.specs.Laws.TestLaws.{and_both, and_holds, test_decided}
-use Rattle.machine.specs.Laws.HeldLaws.{priority_base}
+use Rattle.machine.proofs.Laws.HeldLaws.{priority_base}
 use Rattle.order_states.specs.declared.Due.{Due}
 use Rattle.order_states.specs.Code.Snapshots.{Snapshot}
 use Rattle.order_states.specs.Code.SnapshotSteps.{owner_in, owned_by, bar_in, level_in, nobody, starts_above, starts_in}
 use Rattle.order_states.specs.Code.SnapshotSteps.{start_turn, start_in, top_of, runs_in, top_turn, turn_in}
-use Rattle.order_states.specs.Laws.StartLaws as start
-use Rattle.order_states.specs.Laws.TurnLaws.{runs_says, turn_runs, turn_starts}
+use Rattle.order_states.proofs.Laws.StartLaws as start
+use Rattle.order_states.proofs.Laws.TurnLaws.{runs_says, turn_runs, turn_starts}
 use Rattle.walk_moves.specs.Code.MoveParts.{running_task}
 
 -- ---- the running job's task
@@ -25,11 +25,11 @@ use Rattle.walk_moves.specs.Code.MoveParts.{running_task}
 module _ (program : List ℕ) (p : Snapshot) where
   -- no job is active, or none that has a task
   pub running_none : (ltb 0 p.depth && ltb (top_of p).job.0 32) ≡ false → 8 ≡ running_task program p
-  unfolding running_task if◌then◌else◌
+  unfolding running_task
   running_none h = rw h refl
 
   pub running_some : 0 < p.depth → (top_of p).job.0 < 32 → owner_in program (top_of p).job.0 ≡ running_task program p
-  unfolding running_task if◌then◌else◌
+  unfolding running_task
   running_some deep job = rw (lt-ltb 0 p.depth deep, lt-ltb (top_of p).job.0 32 job) refl
 
   -- a task of the eight that it is has a job that runs

@@ -5,12 +5,12 @@ use Rattle.std.proofs.Common.{sym, ap, subst, ◌∙◌, arith}
 use Rattle.std.proofs.Math.Decide.{dec_lt}
 use Rattle.taskfile.specs.declared.Ceilings.{Ceilings}
 use Rattle.taskfile.specs.declared.Instruction.{Instruction}
-use Rattle.notation.specs.Lists.{if◌then◌else◌}
+use Rattle.std.specs.Prelude.{if◌then◌else◌}
 use Rattle.order_states.specs.declared.Due.{Due}
 use Rattle.order.specs.declared.Frame.{Frame}
 use Rattle.order_states.specs.Code.Snapshots.{Snapshot, Stepped}
 use Rattle.order_states.specs.Code.SnapshotSteps.{instruction_in, turn_in, step_with_in, step_in, offered_in}
-use Rattle.order_states.specs.Laws.TurnLaws.{step_none, step_due}
+use Rattle.order_states.proofs.Laws.TurnLaws.{step_none, step_due}
 use Rattle.walk_moves.specs.Laws.OfferLaws.{FirstOf, past_offered, first_offered}
 use Rattle.walk_moves.specs.Code.MoveParts.{NoStep, NextStep, StepOf, first_from}
 
@@ -19,7 +19,6 @@ use Rattle.walk_moves.specs.Code.MoveParts.{NoStep, NextStep, StepOf, first_from
 -- of a step that is allowed and one that is not, a test chooses the first exactly if it holds
 chosen : (b : Bool) (r s : Stepped) → r.allowed ≡ true → s.allowed ≡ false
     → (if◌then◌else◌ {A = Stepped} b r s).allowed ≡ b
-unfolding if◌then◌else◌
 chosen true r s h k = h
 chosen false r s h k = k
 

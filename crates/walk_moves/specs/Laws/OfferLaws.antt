@@ -10,10 +10,11 @@ use Rattle.std.proofs.Math.Dec.{ltb}
 use borrow.Author.Tests.{leb-true, ltb-true, leb-false, ltb-false, le-leb, lt-leb, lt-ltb, le-ltb}
 use Rattle.taskfile.specs.declared.Instruction.{Instruction}
 use Rattle.taskfile.specs.Code.Choices.{lowest, highest}
-use Rattle.notation.specs.Lists.{if◌then◌else◌, member}
+use Rattle.std.specs.Prelude.{if◌then◌else◌}
+use Rattle.notation.specs.Lists.{member}
 use Rattle.notation.specs.Laws.TestLaws.{and_both, and_holds, and_first, and_last, other_fails, test_decided}
 use Rattle.machine.specs.Instructions.{values}
-use Rattle.machine.specs.Laws.ValueLaws.{offered_within, offered_below, offered_above}
+use Rattle.machine.proofs.Laws.ValueLaws.{offered_within, offered_below, offered_above}
 use Rattle.order.specs.declared.Frame.{Frame}
 use Rattle.order_states.specs.Code.SnapshotSteps.{instruction_in, offered_in}
 use Rattle.walk_moves.specs.Code.MoveParts.{raised, first_from}
@@ -34,11 +35,11 @@ record Larger (v least r : ℕ) : Type 0 where
   below : (w : ℕ) → v ≤ w → w < r → w < least
 
 pub raised_up : (v least : ℕ) → v < least → least ≡ raised v least
-unfolding raised if◌then◌else◌
+unfolding raised
 raised_up v least lt = rw (lt-ltb v least lt) refl
 
 pub raised_kept : (v least : ℕ) → least ≤ v → v ≡ raised v least
-unfolding raised if◌then◌else◌
+unfolding raised
 raised_kept v least le = rw (le-ltb v least le) refl
 
 raised_larger : (v least : ℕ) → Larger v least (raised v least)
@@ -60,7 +61,6 @@ module _ (o : Instruction) (v : ℕ) where
   from_test b e = ap (λ (t : Bool). if t then raised v (lowest o) else 16) (sym e)
 
   first_from_lem : FirstOf (λ w. member w (values o)) v (first_from o v)
-  unfolding if◌then◌else◌
   first_from_lem =
       let first = raised v (lowest o) in
       let larger = raised_larger v (lowest o) in
@@ -99,17 +99,14 @@ module _ (o : Instruction) (v : ℕ) where
   -- case by case
   module _ {first : ℕ} (is : first ≡ raised v (lowest o)) where
     pub from_high : highest o < first → 16 ≡ first_from o v
-    unfolding if◌then◌else◌
     from_high lt =
         from_test false (and_first (leb (raised v (lowest o)) (highest o)) _ (lt-leb (raised v (lowest o)) (highest o) (omega (arith, is))))
 
     pub from_large : 15 < first → 16 ≡ first_from o v
-    unfolding if◌then◌else◌
     from_large lt =
         from_test false (and_last (leb (raised v (lowest o)) (highest o)) _ (le-ltb (raised v (lowest o)) 16 (omega (arith, is))))
 
     pub from_found : first ≤ highest o → first ≤ 15 → first ≡ first_from o v
-    unfolding if◌then◌else◌
     from_found le small =
         let larger = raised v (lowest o) in
         is

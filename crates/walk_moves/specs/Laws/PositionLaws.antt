@@ -3,13 +3,13 @@
 use Rattle.std.specs.Prelude.{◌≡◌, ℕ, ◌-◌, ◌≤◌, List, get_or}
 use Rattle.std.proofs.Math.Path.{refl, sym}
 use Rattle.std.proofs.Common.{ap, ◌∙◌, arith, eq-eqb, ne_eqb}
-use Rattle.notation.specs.Lists.{if◌then◌else◌}
+use Rattle.std.specs.Prelude.{if◌then◌else◌}
 use Rattle.machine.specs.Instructions.{fresh}
 use Rattle.order.specs.declared.Frame.{Frame}
 use Rattle.order_states.specs.Code.Snapshots.{Snapshot}
 use Rattle.order_states.specs.Code.SnapshotSteps.{start_turn, top_of, top_turn}
 use Rattle.order_states.specs.Code.StateBytes.{frame_in, snapshot_in, IsState}
-use Rattle.order_states.specs.Laws.StateReads.{depth_is, top_is}
+use Rattle.order_states.proofs.Laws.StateReads.{depth_is, top_is}
 use Rattle.walk_moves.specs.Code.MoveParts.{position_in}
 
 -- a job that starts stands at its first instruction
@@ -20,11 +20,11 @@ start_first p i = refl
 module _ (p : Snapshot) (top i : ℕ) where
   -- case by case
   position_top : i ≡ top → (top_of p).local.next ≡ position_in p top i
-  unfolding position_in if◌then◌else◌
+  unfolding position_in
   position_top here = rw (eq-eqb i top here) refl
 
   pub position_start : (i ≡ top → ⊥) → 0 ≡ position_in p top i
-  unfolding position_in if◌then◌else◌
+  unfolding position_in
   position_start other = rw (ne_eqb i top other) refl
 
   -- so it stands in the turn of the running job, and in that of one that starts

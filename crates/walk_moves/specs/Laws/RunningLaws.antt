@@ -7,7 +7,7 @@ use Rattle.std.proofs.Math.ListN.{get_or}
 use Rattle.notation.specs.Laws.TestLaws.{and_first, and_last}
 use Rattle.order_states.specs.Code.SnapshotSteps.{owner_in, top_of}
 use Rattle.order_states.specs.Code.StateBytes.{snapshot_in, IsState}
-use Rattle.order_states.specs.Laws.StateReads.{depth_is, top_job_is}
+use Rattle.order_states.proofs.Laws.StateReads.{depth_is, top_job_is}
 use Rattle.walk_moves.specs.Code.MoveParts.{running_task}
 use Rattle.walk_moves.specs.Laws.DueLaws.{running_none, running_some}
 

@@ -1,7 +1,8 @@
 -- The outcomes of a walk, as its functions yield them, and what they answer.
 -- Assumes nothing.
 use Rattle.std.specs.Prelude.{ℕ, ltb}
-use Rattle.notation.specs.Lists.{if◌then◌else◌, any}
+use Rattle.std.specs.Prelude.{if◌then◌else◌}
+use Rattle.notation.specs.Lists.{any}
 use Rattle.machine.specs.Ends.{no_store, no_flags}
 use Rattle.order_states.specs.Code.Snapshots.{Snapshot}
 use Rattle.walk.specs.declared.Verdict.TheVariants.{Holds, Fails}

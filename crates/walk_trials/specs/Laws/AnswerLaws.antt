@@ -9,14 +9,14 @@ use Rattle.std.proofs.Math.Logic.{inl, inr}
 use Rattle.std.proofs.Math.Bool.{not}
 use Rattle.std.proofs.lemmas.Bool.{eqb-false}
 use Rattle.taskfile.specs.declared.Ceilings.{Ceilings}
-use Rattle.notation.specs.Lists.{if◌then◌else◌}
+use Rattle.std.specs.Prelude.{if◌then◌else◌}
 use Rattle.notation.specs.Laws.TestLaws.{test_decided}
 use Rattle.order_states.specs.Code.Snapshots.{Snapshot, Stepped}
 use Rattle.order_states.specs.Code.SnapshotSteps.{finished_in, level_in, turn_in, step_in}
 use Rattle.order_states.specs.Code.SnapshotWithin.{AllWithin}
-use Rattle.order_states.specs.Laws.SnapshotWithinLaws.{due_within}
-use Rattle.order_states.specs.Laws.TurnLaws.{due_bounds, step_due}
-use Rattle.order_states.specs.Laws.StepPartLaws.{offered_inside, with_offered}
+use Rattle.order_states.proofs.Laws.SnapshotWithinLaws.{due_within}
+use Rattle.order_states.proofs.Laws.TurnLaws.{due_bounds, step_due}
+use Rattle.order_states.proofs.Laws.StepPartLaws.{offered_inside, with_offered}
 use Rattle.order_steps.specs.Code.Moving.{Steppable, mover_in, moved_in}
 use Rattle.walk_moves.specs.Code.MoveParts.{NextStep, FirstStart, running_task}
 use Rattle.walk_moves.specs.Laws.AllowedLaws.{allowed_due, allowed_offered, allowed_top, allowed_deep, allowed_start}
@@ -34,7 +34,7 @@ module _ (program waits : List ℕ) (locks : Ceilings) (p : Snapshot) {top : ℕ
     (running : top ≡ running_task program p) (small : byte < 128)
     (allowed : (step_in program waits locks p byte).allowed ≡ true) where
   mover_turn : mover_in p top (task_of_byte byte) ≡ turn_in program waits locks p (task_of_byte byte)
-  unfolding mover_in if◌then◌else◌
+  unfolding mover_in
   mover_turn =
       elim (test_decided (eqb (task_of_byte byte) top)) [
         | inl h ↦ rw h (allowed_top program waits locks p byte allowed small running (eqb-true _ _ h))

@@ -7,7 +7,8 @@ use Rattle.std.proofs.Common.{sym, ◌∙◌}
 use Rattle.machine.specs.Ends.{no_store, no_flags}
 use Rattle.walk.specs.declared.Verdict.TheVariants.{Holds, Fails}
 use Rattle.walk.specs.WalkEntry.{refusal}
-use Rattle.notation.specs.Lists.{any, if◌then◌else◌, bytes_at}
+use Rattle.std.specs.Prelude.{if◌then◌else◌}
+use Rattle.notation.specs.Lists.{any, bytes_at}
 use Rattle.order_states.specs.Code.StateBytes.{snapshot_in}
 use Rattle.walk_trials.specs.Code.Outcomes.{none_failed, ended_at, outcome_of, answer_of, shown_length}
 use Rattle.order_states.specs.Code.Snapshots.{Snapshot}
@@ -17,11 +18,11 @@ use Rattle.walk_trials.specs.declared.Outcome.{Outcome}
 
 module _ (p : Snapshot) (at : ℕ) {b : Bool} (e : b ≡ any (λ flag. flag) p.failed) where
   pub ended_failed : b ≡ true → at ≡ ended_at p at
-  unfolding ended_at if◌then◌else◌
+  unfolding ended_at
   ended_failed h = rw (sym e ∙ h) refl
 
   pub ended_held : b ≡ false → none_failed ≡ ended_at p at
-  unfolding ended_at if◌then◌else◌
+  unfolding ended_at
   ended_held h = rw (sym e ∙ h) refl
 
 -- ---- what a walk comes to
@@ -51,23 +52,23 @@ outcome_read bytes r count stored flags = λ t.
 -- ---- the three answers
 
 pub answer_stopped : (r : Outcome) → r.stopped ≡ true → refusal 21 0 ≡ answer_of r
-unfolding answer_of if◌then◌else◌
+unfolding answer_of
 answer_stopped r e = rw e refl
 
 pub answer_found : (r : Outcome) → r.stopped ≡ false → r.found ≡ true
     → record { number = 0; place = 0; verdict = Fails; count = r.count; length = r.length; store = r.store; failed = r.failed } ≡ answer_of r
-unfolding answer_of if◌then◌else◌
+unfolding answer_of
 answer_found r e f = rw (e, f) refl
 
 pub answer_held : (r : Outcome) → r.stopped ≡ false → r.found ≡ false
     → record { number = 0; place = 0; verdict = Holds; count = r.count; length = 0; store = replicate 8 0; failed = replicate 32 false } ≡ answer_of r
-unfolding answer_of if◌then◌else◌ no_store no_flags
+unfolding answer_of no_store no_flags
 answer_held r e f = rw (e, f) refl
 
 pub length_found : (r : Outcome) → r.found ≡ true → r.length ≡ shown_length r
-unfolding shown_length if◌then◌else◌
+unfolding shown_length
 length_found r e = rw e refl
 
 pub length_none : (r : Outcome) → r.found ≡ false → 0 ≡ shown_length r
-unfolding shown_length if◌then◌else◌
+unfolding shown_length
 length_none r e = rw e refl

@@ -16,7 +16,7 @@ use Rattle.timing.specs.Code.IsAccepted.{IsAccepted}
 use Rattle.order.specs.Code.Invariant.{Invariant}
 use Rattle.order.specs.Orders.{step}
 use Rattle.order.specs.States.{State}
-use Rattle.walk.specs.Laws.ByteLaws.{steps_from, moves_steps, steps_skip, steps_some}
+use Rattle.walk.proofs.Laws.ByteLaws.{steps_from, moves_steps, steps_skip, steps_some}
 use Rattle.walk_trials.specs.declared.Outcome.{Outcome}
 use Rattle.walk.specs.Moves.{Move, moves}
 use Rattle.walk_trials.specs.Code.Trials.{Path, WalkEndsAs, Came, Held, Stopped}

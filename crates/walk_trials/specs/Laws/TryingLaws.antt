@@ -9,10 +9,10 @@ use Rattle.order_states.specs.Code.Snapshots.{Snapshot}
 use Rattle.order.specs.Code.Invariant.{Invariant}
 use Rattle.order.specs.Orders.{step}
 use Rattle.order_states.specs.Code.Shows.{Lends, Shows}
-use Rattle.order_states.specs.Laws.SnapshotLaws.{step_agreed}
+use Rattle.order_states.proofs.Laws.SnapshotLaws.{step_agreed}
 use Rattle.order_states.specs.Code.SnapshotSteps.{step_in}
 use Rattle.order.specs.States.{State}
-use Rattle.order.specs.Laws.StepLaws.{step_keeps}
+use Rattle.order.proofs.Laws.StepLaws.{step_keeps}
 use Rattle.walk_trials.specs.declared.Outcome.{Outcome}
 use Rattle.walk_trials.specs.Laws.TrialLaws.{Rest, rest_all, rest_skip, trial_ends, trial_stops, trial_finds, trial_cut, trial_on}
 use Rattle.walk_trials.specs.Code.Trials.{Path, Came, Held, Stopped, Left, WalksAs, TriesAs}

@@ -13,21 +13,22 @@ use Rattle.taskfile.specs.declared.Check.TheVariants.{Passed, Refused}
 use Rattle.taskfile.specs.declared.Table.{Table}
 use Rattle.notation.specs.Checked.{Checked, refused, passed}
 use Rattle.notation.specs.Laws.CheckedLaws.{require_fails, bind_refused, bind_goes}
-use Rattle.notation.specs.Lists.{if◌then◌else◌, padded}
+use Rattle.notation.specs.Lists.{padded}
 use Rattle.taskfile.specs.Records.{File}
 use Rattle.timing.specs.declared.AcceptAnswer.{AcceptAnswer}
 use Rattle.timing.specs.declared.JobList.{JobList}
 use Rattle.timing.specs.Accepted.{Accepted, accept}
-use Rattle.timing.specs.Laws.AcceptedLaws.{file_accepted}
+use Rattle.timing.proofs.Laws.AcceptedLaws.{file_accepted}
 use Rattle.timing.specs.Code.IsAccepted.{IsAccepted}
-use Rattle.timing.specs.Laws.AcceptLaws.{accepted_refused, accepted_passed}
+use Rattle.timing.proofs.Laws.AcceptLaws.{accepted_refused, accepted_passed}
 use Rattle.timing.specs.Code.AcceptParts.{AcceptedParts, AcceptedAs}
 use Rattle.machine.specs.Ends.{no_store, no_flags}
 use Rattle.machine.specs.Buffers.{order_room, filled}
 use Rattle.order.specs.States.{initial}
-use Rattle.order.specs.Laws.StepLaws.{initial_invariant}
+use Rattle.order.proofs.Laws.StepLaws.{initial_invariant}
 use Rattle.walk_trials.specs.declared.Outcome.{Outcome}
-use Rattle.walk.specs.WalkEntry.{admitted, decided, refusal, verdict_of, decided_answer, shown, decided_bytes, walk_answer_of, walk_after_of, walk_answer, walk_after}
+use Rattle.walk.specs.WalkEntry.{admitted, decided, refusal, verdict_of, decided_answer, shown, decided_bytes}
+use Rattle.walk.specs.WalkEntry.{walk_answer_of, walk_after_of, walk_answer, walk_after}
 use Rattle.walk_trials.specs.Code.Outcomes.{answer_of, shown_length}
 use Rattle.walk_trials.specs.Code.Trials.{Came, WalkEndsAs, WalksAs}
 use Rattle.walk_trials.specs.Code.WalkParts.{WalkOf}
@@ -35,8 +36,8 @@ use Rattle.order_states.specs.Code.StateBytes.{snapshot_in}
 use Rattle.order_lending.specs.declared.Lent.{Lent}
 use Rattle.order_lending.specs.Code.Lending.{LentOf}
 use Rattle.walk_trials.specs.Laws.OutcomeLaws.{answer_stopped, answer_found, answer_held, length_found, length_none}
-use Rattle.walk.specs.Laws.FailingLaws.{walk_short}
-use Rattle.walk.specs.Laws.ShownLaws.{decided_within, decided_over, answer_room, after_room}
+use Rattle.walk.proofs.Laws.FailingLaws.{walk_short}
+use Rattle.walk.proofs.Laws.ShownLaws.{decided_within, decided_over, answer_room, after_room}
 use Rattle.walk.specs.Code.FromState.{walk_from}
 use Rattle.walk.specs.Walks.{EndedOrder, Walked, walk}
 use Rattle.notation_buffers.specs.Code.Writing.{Appends, cleared_from}

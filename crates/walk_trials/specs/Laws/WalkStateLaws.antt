@@ -8,14 +8,15 @@ use Rattle.std.proofs.Math.Decide.{dec_lt}
 use Rattle.std.proofs.Math.Option.{Option, none, some}
 use borrow.Author.Tests.{lt-ltb, le-ltb}
 use Rattle.taskfile.specs.declared.Ceilings.{Ceilings}
-use Rattle.notation.specs.Lists.{if◌then◌else◌, any}
+use Rattle.std.specs.Prelude.{if◌then◌else◌}
+use Rattle.notation.specs.Lists.{any}
 use Rattle.notation.specs.Laws.TestLaws.{test_decided}
 use Rattle.order_states.specs.Code.Snapshots.{Snapshot}
 use Rattle.order.specs.Orders.{order_end}
-use Rattle.order_states.specs.Laws.SnapshotLaws.{finished_agreed}
+use Rattle.order_states.proofs.Laws.SnapshotLaws.{finished_agreed}
 use Rattle.order_states.specs.Code.SnapshotSteps.{finished_in}
 use Rattle.order.specs.States.{State}
-use Rattle.walk.specs.Laws.CaseLaws.{walk_end, walk_cut, walk_on}
+use Rattle.walk.proofs.Laws.CaseLaws.{walk_end, walk_cut, walk_on}
 use Rattle.walk_trials.specs.declared.Outcome.{Outcome}
 use Rattle.walk.specs.Moves.{moves}
 use Rattle.walk_trials.specs.Code.Outcomes.{none_failed, ended_at, outcome_of}
@@ -63,7 +64,7 @@ came_held count allowance at buffer le walked nothing zero-moves {r} is =
 ended_came : (p : Snapshot) (s : State) → p.store ≡ s.store → p.failed ≡ s.failed
     → (count allowance at : ℕ) (buffer : List ℕ) → count ≤ allowance → at ≤ 512
     → Came (at_end s) count allowance at buffer buffer (outcome_of (ended_at p at) count p)
-unfolding ended_at at_end fails order_end if◌then◌else◌ outcome_of
+unfolding ended_at at_end fails order_end outcome_of
 ended_came p s store failed count allowance at buffer le short =
     elim (test_decided (any (λ flag. flag) s.failed)) [
       | inl bad ↦

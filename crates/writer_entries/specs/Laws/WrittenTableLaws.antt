@@ -14,15 +14,15 @@ use Rattle.taskfile.specs.Records.{File}
 use Rattle.timing.specs.declared.AcceptAnswer.{AcceptAnswer}
 use Rattle.timing.specs.Accepted.{Accepted, accept}
 use Rattle.timing.specs.Code.AcceptParts.{AcceptedParts, AcceptedAs}
-use Rattle.timing.specs.Laws.AcceptLaws.{accepted_refused, accepted_passed}
+use Rattle.timing.proofs.Laws.AcceptLaws.{accepted_refused, accepted_passed}
 use Rattle.notation_buffers.specs.Code.Writing.{Appends}
 use Rattle.notation_buffers.specs.Laws.WritingLaws.{appends_count, appends_front, appends_length}
 use Rattle.writer.specs.declared.WriteAnswer.{WriteAnswer}
 use Rattle.writer.specs.Values.{Fits}
 use Rattle.writer.specs.Fields.{accept_table}
-use Rattle.writer.specs.Laws.AcceptLaidLaws.{accept_laid}
-use Rattle.writer.specs.Laws.EntryDemandLaws.{fields_sound}
-use Rattle.writer.specs.Laws.LayoutSizes.{layout_fits, layout_length}
+use Rattle.writer.proofs.Laws.AcceptLaidLaws.{accept_laid}
+use Rattle.writer.proofs.Laws.EntryDemandLaws.{fields_sound}
+use Rattle.writer.proofs.Laws.LayoutSizes.{layout_fits, layout_length}
 use Rattle.writer.specs.Layout.{layout, layout_room}
 use Rattle.writer.specs.WriteEntries.{written, answer_of, after_of, write_answer, write_after, file_room}
 

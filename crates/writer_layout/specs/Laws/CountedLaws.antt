@@ -3,16 +3,17 @@
 use Rattle.std.specs.Prelude.{◌≡◌, refl, ℕ, zero, suc, ◌+◌, ◌≤◌, ◌<◌, min, List, [], ◌∷◌, ◌++◌, map, length, get_or, drop}
 use Rattle.std.proofs.Common.{sym, ap, ◌∙◌, arith, add-one, length-append, length-take, length-drop, drop_of_length-le, drop-cons, get_or-take, lt-ltb, le-ltb}
 use Rattle.std.proofs.Math.Decide.{dec_le}
-use Rattle.notation.specs.Lists.{if◌then◌else◌, sum}
+use Rattle.std.specs.Prelude.{if◌then◌else◌}
+use Rattle.notation.specs.Lists.{sum}
 use Rattle.taskfile.specs.declared.Instruction.{Instruction}
 use Rattle.taskfile.specs.declared.Table.{Table}
 use Rattle.taskfile.specs.declared.TaskEntry.{TaskEntry}
 use Rattle.taskfile.specs.Tables.{end_instruction, no_task}
 use Rattle.writer.specs.declared.Lock.{Lock}
 use Rattle.writer.specs.Claims.{claimed, claimed_tasks, claimed_body, lock_array, no_lock, claimed_locks}
-use Rattle.writer.specs.Laws.SiteLaws.{record_total}
+use Rattle.writer.proofs.Laws.SiteLaws.{record_total}
 use Rattle.writer.specs.Values.{Fits}
-use Rattle.writer.specs.Laws.LockLaws.{locks_full}
+use Rattle.writer.proofs.Laws.LockLaws.{locks_full}
 use Rattle.writer.specs.Layout.{link_to}
 use Rattle.writer_layout.specs.Code.ClaimedParts.{link_at}
 
@@ -87,7 +88,7 @@ link_some r (x ∷ xs) some = refl
 
 -- the link to the parts from part p on is the link to part p
 pub link_from : {A : Type 0} (r p : ℕ) (xs : List A) → link_to r (drop p xs) ≡ link_at r p (length xs)
-unfolding link_at if◌then◌else◌
+unfolding link_at
 link_from r p xs =
     elim (dec_le (suc p) (length xs)) [
       | yes inside ↦ rw (lt-ltb p (length xs) inside) (link_some r (drop p xs) (omega (arith, length-drop p xs)))
@@ -95,11 +96,11 @@ link_from r p xs =
     ]
 
 pub link_at_inside : (r p count : ℕ) → p < count → r ≡ link_at r p count
-unfolding link_at if◌then◌else◌
+unfolding link_at
 link_at_inside r p count inside = rw (lt-ltb p count inside) refl
 
 pub link_at_outside : (r p count : ℕ) → count ≤ p → 0 ≡ link_at r p count
-unfolding link_at if◌then◌else◌
+unfolding link_at
 link_at_outside r p count outside = rw (le-ltb p count outside) refl
 
 -- ---- records

@@ -1,0 +1,15 @@
+-- `taskfile_judgement::judgement::judge_ceilings` meets its contract. The loop keeps how far the check of the tasks' bodies for faults of 9
+-- has come, and the measure is what is left of the tasks.
+-- Assumes nothing.
+use Prim.Native.Nat.{◌-◌}
+use Rattle.taskfile.specs.Judgement.{instruction_sites, of_instruction, ceiling_fault}
+use Rattle.taskfile.proofs.Laws.JudgingLaws.{body_sites}
+use Rattle.notation.specs.Laws.SearchLaws.{CheckedTo}
+use Rattle.taskfile_judgement.proofs.judgement.judge_ceilings.Given as goal
+
+abbrev pub invariant-loop-i : goal.invariant-loop-i
+invariant-loop-i l =
+    CheckedTo 9 (of_instruction (ceiling_fault l.t)) (instruction_sites l.t) (body_sites l.t) l.t.tasks l.i
+
+abbrev pub decreases-loop-i : goal.decreases-loop-i
+decreases-loop-i l = l.t.tasks - l.i

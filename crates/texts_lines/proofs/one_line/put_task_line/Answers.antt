@@ -1,0 +1,19 @@
+-- `texts_lines::one_line::put_task_line` meets its contract. The words of the line stand one after the other.
+-- Assumes nothing.
+use Rattle.sheets.specs.SheetWords.{task_word}
+use Rattle.texts.specs.Grammar.{line_text, row_of}
+use Rattle.sheets_printing.specs.Laws.LineLaws.{line_begun, line_more, line_ended}
+use Rattle.texts_lines.proofs.one_line.put_task_line.Goals as goal
+
+pub returns : goal.returns
+unfolding line_text row_of task_word
+returns c =
+    line_ended
+    (line_more
+    (line_more
+    (line_more
+    (line_begun c.put_word-word.ensures)
+    c.then_number-first.ensures)
+    c.then_number-second.ensures)
+    c.then_number-third.ensures)
+    c.end_line.ensures

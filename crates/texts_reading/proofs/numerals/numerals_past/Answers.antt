@@ -1,0 +1,14 @@
+-- What `texts_reading::numerals::numerals_past` owes and the search does not find.
+use Rattle.texts_reading.specs.Laws.NumeralsLaws.{numerals_none, numerals_more, numerals_all}
+use Rattle.texts_reading.proofs.numerals.numerals_past.Goals as goal
+
+pub loop-at-init : goal.loop-at-init
+loop-at-init c = numerals_none _ _ c.requires
+
+pub loop-at-preserved : goal.loop-at-preserved
+loop-at-preserved c =
+    numerals_more _ _ _ _ c.loop-at.invariant c.loop-at-test.true _ c.part_end-at.ensures.end _
+    c.with_numeral-read.ensures
+
+pub returns : goal.returns
+returns c = numerals_all _ _ _ _ c.loop-at.invariant c.loop-at-test.false

@@ -1,0 +1,21 @@
+-- What `timing_iteration::utilisation::common_divisor` owes and the search does not find.
+use mathlib.Core.Path.{◌≡◌}
+use native.Mathlib.Nat.{dvd_refl, dvd-zero, dvd-mod_iff, mod-lt}
+use native.Mathlib.Omega.{arith}
+use Rattle.timing_iteration.proofs.utilisation.common_divisor.Goals as goal
+
+pub loop-y-init : goal.loop-y-init
+loop-y-init c = (c.requires, λ d first second. (first, second))
+
+pub loop-y-smaller : goal.loop-y-smaller
+loop-y-smaller c = omega (arith, mod-lt c.loop-y.x {m = c.loop-y.y} (omega arith))
+
+pub loop-y-preserved : goal.loop-y-preserved
+loop-y-preserved c =
+    (omega arith, λ d first second. c.loop-y.invariant.1 d ((dvd-mod_iff d first).0 second) first)
+
+pub returns : goal.returns
+returns c =
+    let ended : c.loop-y.y ≡ 0 = omega arith in
+    let both = c.loop-y.invariant.1 _ (dvd_refl _) (rw ended (dvd-zero _)) in
+    (c.loop-y.invariant.0, both.0, both.1)

@@ -1,0 +1,10 @@
+-- `walk_trials::ended` meets its contract: the two returns are the two cases of the definition.
+-- Assumes nothing.
+use Rattle.walk_trials.specs.Laws.OutcomeLaws.{ended_failed, ended_held}
+use Rattle.walk_trials.proofs.ended.Goals as goal
+
+pub returns-then-some_failed : goal.returns-then-some_failed
+returns-then-some_failed c = ended_failed _ _ c.some_failed.ensures c.if-some_failed.true
+
+pub returns : goal.returns
+returns c = ended_held _ _ c.some_failed.ensures c.if-some_failed.false

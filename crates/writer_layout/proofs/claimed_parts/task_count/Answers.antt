@@ -1,0 +1,10 @@
+-- `writer_layout::claimed_parts::task_count` meets its contract.
+-- Assumes nothing.
+use native.Mathlib.Omega.{arith}
+use Rattle.writer_layout.specs.Laws.CountedLaws.{tasks_claim}
+use Rattle.writer_layout.proofs.claimed_parts.task_count.Goals as goal
+
+pub returns : goal.returns
+returns c =
+    let claimed = tasks_claim c.args.t c.well_formed.0.1.1.1.1.1.0.1.0.1 in
+    (omega (arith, claimed, c.claimed_count.ensures), omega (arith, c.claimed_count.ensures))
