@@ -11,7 +11,7 @@ fn directory() -> PathBuf {
     let package = PathBuf::from(env::var_os("CARGO_MANIFEST_DIR").expect("cargo sets it"));
     match env::var_os("ADQURIM_LIB_DIR") {
         Some(directory) => PathBuf::from(directory),
-        None => package.join("../../target/staticlib"),
+        None => package.join("../../crates/adqurim/out"),
     }
 }
 
@@ -23,7 +23,7 @@ fn main() {
     println!("cargo:rerun-if-changed={}", library.display());
     if !library.is_file() {
         eprintln!("error: {} is missing.", library.display());
-        eprintln!("Run `rt staticlib adqurim` in the repository's root,");
+        eprintln!("Run `rt lib` in the folder crates/adqurim,");
         eprintln!("or set ADQURIM_LIB_DIR to the directory that holds {LIBRARY}.");
         std::process::exit(1);
     }

@@ -10,13 +10,15 @@ const PICTURE: &str = "docs/house.svg";
 /// How the picture writes an arrow between two names.
 const ARROW: &str = "&#45;&gt;";
 
-/// What each crate of the repository names, the kit's libraries aside.
+/// What each crate of the repository names, the kit's libraries aside. A name may stand before what
+/// the crate is built as.
 fn named(list: &str) -> BTreeMap<String, BTreeSet<String>> {
     let lines = list.lines().map(|line| line.split('#').next().unwrap_or_default());
     let all: BTreeMap<String, BTreeSet<String>> = lines
         .filter_map(|line| line.split_once(':'))
         .map(|(name, others)| {
-            (name.trim().into(), others.split_whitespace().map(String::from).collect())
+            let name = name.split_whitespace().next().unwrap_or_default();
+            (name.into(), others.split_whitespace().map(String::from).collect())
         })
         .collect();
     let known: BTreeSet<String> = all.keys().cloned().collect();

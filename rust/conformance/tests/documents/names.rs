@@ -59,7 +59,10 @@ fn stands_alone(tree: &Tree, code: &str) -> bool {
     };
     let names_nothing =
         !code.contains(char::is_alphabetic) || code.contains(|c| FORMULA.contains(c));
-    if names_nothing || code.split('/').any(|part| part == "target") || tree.has_path(code) {
+    if names_nothing
+        || code.split('/').any(|part| part == "target" || part == "out")
+        || tree.has_path(code)
+    {
         return true;
     }
     let name = code.trim_start_matches(['-', '.']);
@@ -67,13 +70,13 @@ fn stands_alone(tree: &Tree, code: &str) -> bool {
     tree.has_together(&parts) || (code.starts_with('.') && tree.has_extension(name))
 }
 
-/// The notes of landings: records of the past, which name things as they were then.
-const PAST: &str = "docs/landings/";
+/// The notes of landings and of the port: records of the past, which name things as they were then.
+const PAST: [&str; 2] = ["docs/landings/", "docs/PORT.md"];
 
 /// The documents for readers.
 fn documents() -> Vec<String> {
     let pages = files("docs").into_iter().filter(|path| path.ends_with(".md"));
-    let present = pages.filter(|path| !path.starts_with(PAST));
+    let present = pages.filter(|path| !PAST.iter().any(|past| path.starts_with(past)));
     present.chain(["README.md".to_string()]).collect()
 }
 

@@ -8,6 +8,9 @@ use std::path::{Path, PathBuf};
 /// not count.
 const ASIDE: [&str; 3] = ["target", ".git", "rust/conformance/tests/documents"];
 
+/// The folder of a crate that holds what is built.
+const BUILT: &str = "out";
+
 /// A file: its path from the root, and the words of its code.
 struct Source {
     path: String,
@@ -34,6 +37,9 @@ pub fn files(folder: &str) -> Vec<String> {
         let name = entry.file_name().into_string().expect("a name is a text");
         let path = if folder.is_empty() { name.clone() } else { format!("{folder}/{name}") };
         if ASIDE.contains(&name.as_str()) || ASIDE.contains(&path.as_str()) {
+            continue;
+        }
+        if name == BUILT && path.starts_with("crates/") {
             continue;
         }
         if entry.path().is_dir() {

@@ -26,7 +26,7 @@ fn root() -> PathBuf {
 
 /// The static library, found as the binding's build does.
 fn library() -> PathBuf {
-    let built = || root().join("target/staticlib");
+    let built = || root().join("crates/adqurim/out");
     env::var_os("ADQURIM_LIB_DIR").map_or_else(built, PathBuf::from).join("libadqurim.a")
 }
 

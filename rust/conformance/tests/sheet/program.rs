@@ -36,8 +36,8 @@ fn root() -> PathBuf {
 
 /// A program, which is built with the proofs, before these tests.
 fn built(name: &str) -> Command {
-    let built = root().join("target/bin").join(name);
-    assert!(built.is_file(), "{} is missing: run `rt check {name}`", built.display());
+    let built = root().join("crates").join(name).join("out").join(name);
+    assert!(built.is_file(), "{} is missing: run `rt run {name}`", built.display());
     Command::new(built)
 }
 
