@@ -70,8 +70,9 @@ fn stands_alone(tree: &Tree, code: &str) -> bool {
     tree.has_together(&parts) || (code.starts_with('.') && tree.has_extension(name))
 }
 
-/// The notes of landings and of the port: records of the past, which name things as they were then.
-const PAST: [&str; 2] = ["docs/landings/", "docs/PORT.md"];
+/// The notes of landings, of the port and of the rewriting: records of the past, which name things as
+/// they were then.
+const PAST: [&str; 3] = ["docs/landings/", "docs/PORT.md", "docs/DESIGN-PASS.md"];
 
 /// The documents for readers.
 fn documents() -> Vec<String> {
