@@ -1,4 +1,3 @@
-pub mod Code
 pub mod JobWords
 pub mod Laws
 pub mod WriteWords

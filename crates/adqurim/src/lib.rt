@@ -4,7 +4,6 @@
 
 ghost use Rattle.std.specs.Prelude.{◌≡◌, leb, length};
 ghost use Rattle.std.specs.Prelude.{if◌then◌else◌};
-ghost use Rattle.adqurim.specs.Code.GivenJobs.{GivenAs};
 ghost use Rattle.adqurim.specs.JobWords.{words_after, entry_after};
 ghost use Rattle.adqurim.specs.WriteWords.{lends_enough, write_words_after, write_file_after};
 ghost use Rattle.timing.specs.ReadEntries.{read_answer};
@@ -30,9 +29,9 @@ use order_replay::entries::replay;
 use plan_check::entries::check_plan;
 use sheets_lines::fill_sheet;
 use texts_entries::{file_to_text, text_to_file};
-use timing::JobRecord;
+use timing::{JobRecord, ListAnswer};
 use timing_acceptance::entries::read;
-use timing_acceptance::job_list::{Listed, count_of, fill, jobs_for, refused_list};
+use timing_acceptance::job_list::list_jobs;
 use walk_trials::entries::walk_file;
 use writer::TABLE_ROOM;
 use writer_entries::{fill_table, write_table};
@@ -276,27 +275,17 @@ pub extern "C" fn adqurim_file_to_text(file: &[u8], text: &mut [u8], answer: &mu
 // How many words the job list answers.
 const LIST_WORDS: usize = 3;
 
-// The answer and the records of a file's jobs, or none where there is no room for the words.
-pub fn jobs_given(file: &[u8], room: usize, words: usize) -> Listed
-    ensures { GivenAs result file.now room words }
-{
-    if words < LIST_WORDS {
-        return refused_list(0, 0);
-    }
-    jobs_for(file, room)
-}
-
 // The words of the job list's answer, if there is room for them.
-pub fn put_list(answer: &mut [u64], from: Listed) -> bool
+pub fn put_list(answer: &mut [u64], from: ListAnswer) -> bool
     ensures { (result ≡ leb words_of_list (length answer.old))
-        × (answer.new ≡ filled_with (list_words from.answer) answer.old) }
+        × (answer.new ≡ filled_with (list_words from) answer.old) }
 {
     if answer.len() < LIST_WORDS {
         return false;
     }
-    answer[0] = from.answer.number as u64;
-    answer[1] = from.answer.place as u64;
-    answer[2] = from.answer.jobs as u64;
+    answer[0] = u64::from(from.number);
+    answer[1] = u64::from(from.place);
+    answer[2] = u64::from(from.jobs);
     true
 }
 
@@ -309,7 +298,10 @@ pub extern "C" fn adqurim_jobs(file: &[u8], jobs: &mut [JobRecord], answer: &mut
         × (jobs.new ≡ entry_after file.now jobs.old answer.old)
         × (answer.new ≡ words_after file.now jobs.old answer.old) }
 {
-    let listed = jobs_given(file, jobs.len(), answer.len());
-    fill(jobs, listed, count_of(listed));
+    let words = answer.len();
+    if words < LIST_WORDS {
+        return false;
+    }
+    let listed = list_jobs(file, jobs);
     put_list(answer, listed)
 }

@@ -1,15 +1,13 @@
 // The words of an answer, stored into those that the caller of the C interface lends.
 #![tactic(auto)]
 
-ghost use Rattle.std.specs.Prelude.{◌≡◌, ◌<◌, ◌≤◌, [], ◌∷◌, length, get_or};
+ghost use Rattle.std.specs.Prelude.{◌≡◌, ◌≤◌, [], ◌∷◌, length};
 ghost use Rattle.adqurim_words.specs.Words.{
   words_of_sheet,
   words_of_write,
   words_of_read,
   words_of_run,
   words_of_walk,
-  flag,
-  verdict_number,
   run_part,
   sheet_words,
   write_words,
@@ -22,7 +20,7 @@ ghost use Rattle.adqurim_words.specs.Words.{
 use machine::RunAnswer;
 use sheets::SheetAnswer;
 use timing::ReadAnswer;
-use walk::{Verdict, WalkAnswer};
+use walk::WalkAnswer;
 use writer::WriteAnswer;
 
 // How many words the sheet, the entries over a table in memory, the reader, a replay and a walk answer.
@@ -65,67 +63,15 @@ pub const VERDICT: usize = 43;
 
 pub const COUNT_WORD: usize = 44;
 
-// Word k of the reader's answer.
-fn read_word(a: ReadAnswer, k: usize) -> u64
-    requires { k < words_of_read }
-    ensures { result ≡ get_or (read_words a) k 0 }
-{
-    if k == NUMBER {
-        return a.number as u64;
-    }
-    if k == PLACE {
-        return a.place as u64;
-    }
-    if k < JOBS_WORD {
-        return a.responses[k - RESPONSES];
-    }
-    a.jobs as u64
-}
-
 // The words of the reader's answer.
 pub fn put_read(a: ReadAnswer, answer: &mut [u64])
     requires { words_of_read ≤ length answer.old }
     ensures { answer.new ≡ filled_with (read_words a) answer.old }
 {
-    let mut k: usize = 0;
-    while k < READ_WORDS {
-        answer[k] = read_word(a, k);
-        k += 1;
-    }
-}
-
-// A flag as a word.
-fn flag_word(test: bool) -> u64
-    ensures { result ≡ flag test }
-{
-    if test { 1 } else { 0 }
-}
-
-// A byte as a word.
-fn byte_word(x: u8) -> u64
-    ensures { result ≡ x }
-{
-    x as u64
-}
-
-// Word k of a run's answer.
-fn run_word(run: RunAnswer, k: usize) -> u64
-    requires { k < words_of_run }
-    ensures { result ≡ get_or (run_words run) k 0 }
-{
-    if k == NUMBER {
-        return run.number as u64;
-    }
-    if k == PLACE {
-        return run.place as u64;
-    }
-    if k < FAILED_WORD {
-        return byte_word(run.store[k - STORE_WORD]);
-    }
-    if k < LENGTH_WORD {
-        return flag_word(run.failed[k - FAILED_WORD]);
-    }
-    run.length as u64
+    answer[NUMBER] = u64::from(a.number);
+    answer[PLACE] = u64::from(a.place);
+    answer[RESPONSES..JOBS_WORD].copy_from_slice(&a.responses);
+    answer[JOBS_WORD] = u64::from(a.jobs);
 }
 
 // The words of a run's answer.
@@ -133,22 +79,11 @@ pub fn put_run(run: RunAnswer, answer: &mut [u64])
     requires { words_of_run ≤ length answer.old }
     ensures { answer.new ≡ filled_with (run_words run) answer.old }
 {
-    let mut k: usize = 0;
-    while k < RUN_WORDS {
-        answer[k] = run_word(run, k);
-        k += 1;
-    }
-}
-
-// A verdict as a word.
-fn verdict_word(v: Verdict) -> u64
-    ensures { result ≡ verdict_number v }
-{
-    match v {
-        Verdict::None => 0,
-        Verdict::Holds => 1,
-        Verdict::Fails => 2,
-    }
+    answer[NUMBER] = u64::from(run.number);
+    answer[PLACE] = u64::from(run.place);
+    answer[STORE_WORD..FAILED_WORD].copy_from_slice(&run.store.map(u64::from));
+    answer[FAILED_WORD..LENGTH_WORD].copy_from_slice(&run.failed.map(u64::from));
+    answer[LENGTH_WORD] = u64::from(run.length);
 }
 
 // What a walk answers of its failing order's run.
@@ -160,8 +95,8 @@ fn run_part(x: WalkAnswer) -> RunAnswer
     RunAnswer {
         number: x.number,
         place: x.place,
-        store: store,
-        failed: failed,
+        store,
+        failed,
         length: x.length,
     }
 }
@@ -172,8 +107,7 @@ pub fn put_walk(x: WalkAnswer, answer: &mut [u64])
     ensures { answer.new ≡ filled_with (walk_words x) answer.old }
 {
     put_run(run_part(x), answer);
-    let verdict = x.verdict;
-    answer[VERDICT] = verdict_word(verdict);
+    answer[VERDICT] = x.verdict as u64;
     answer[COUNT_WORD] = x.count;
 }
 
@@ -182,9 +116,9 @@ pub fn put_sized(number: u8, place: u32, size: u32, answer: &mut [u64])
     requires { 3 ≤ length answer.old }
     ensures { answer.new ≡ filled_with (number ∷ place ∷ size ∷ []) answer.old }
 {
-    answer[NUMBER] = number as u64;
-    answer[PLACE] = place as u64;
-    answer[SIZE_WORD] = size as u64;
+    answer[NUMBER] = u64::from(number);
+    answer[PLACE] = u64::from(place);
+    answer[SIZE_WORD] = u64::from(size);
 }
 
 // The words of the sheet's answer.

@@ -6,7 +6,8 @@ use Rattle.std.specs.Prelude.{ℕ, List, [], ◌++◌, length, drop}
 use Rattle.notation.specs.Checked.{Checked, refused, passed}
 use Rattle.notation.specs.Lists.{padded}
 use Rattle.machine.specs.declared.RunAnswer.{RunAnswer}
-use Rattle.machine.specs.Ends.{no_flags, End, no_store}
+use Rattle.machine.specs.Ends.{no_flags, no_store}
+use Rattle.machine.specs.declared.End.{End}
 
 -- an end, and the bytes written for it
 pub record Written : Type 0 where

@@ -16,11 +16,6 @@ no_flags = replicate 32 false
 unfoldable pub flagged : Bool → ℕ → Flags → Flags
 flagged test x flags = if test then set flags x true else flags
 
--- the store left and the failed jobs
-pub record End : Type 0 where
-  pub store : Store
-  pub failed : Flags
-
 -- "every other field zero"
 unfoldable pub no_store : Store
 no_store = replicate 8 0

@@ -25,6 +25,13 @@ pub struct Effect {
     pub ended: bool,
 }
 
+// How an order or a plan ends: with the store left and the failed jobs.
+#[derive(Clone, Copy)]
+pub struct End {
+    pub store: [u8; VARIABLES],
+    pub failed: [bool; JOBS],
+}
+
 // What the replay of an order, the check of a plan and both conversions answer: number and place, the end
 // store, the failed jobs, and how many bytes were written to the lent buffer.
 #[derive(Clone, Copy)]

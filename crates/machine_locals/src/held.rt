@@ -26,14 +26,10 @@ pub fn priority_of(ceilings: [u8; LOCKS], locks: u8, base: u8, held: [u8; LOCKS]
     ensures { result ≡ priority (take locks ceilings) base held }
 {
     let mut highest = base;
-    let mut lock: u8 = locks;
-    while 0 < lock {
-        lock -= 1;
+    for lock in (0..locks).rev() {
         let ceiling = ceilings[lock as usize];
-        if holds_lock(held, lock) {
-            if highest < ceiling {
-                highest = ceiling;
-            }
+        if holds_lock(held, lock) && highest < ceiling {
+            highest = ceiling;
         }
     }
     highest

@@ -25,8 +25,5 @@ pub fn highest(i: Instruction) -> u8
 pub fn on_offer(i: Instruction, v: u8) -> bool
     ensures { result ≡ member v (values i) }
 {
-    if v < lowest(i) {
-        return false;
-    }
-    v <= highest(i)
+    lowest(i) <= v && v <= highest(i)
 }

@@ -6,8 +6,9 @@ ghost use Rattle.taskfile.specs.Chains.{most_instructions};
 
 use crate::{ends, perform_in};
 use machine::{Effect, Local};
-use order_states::states::{eight_at, frame_at, put_eight, put_frame};
-use order_states::{STATE, STORE_AT};
+use notation::bytes::bytes_at;
+use order_states::states::{frame_at, put_eight, put_frame};
+use order_states::{STATE_BYTES, STORE_AT};
 use taskfile::Instruction;
 use taskfile::limits::VARIABLES;
 use timing::Job;
@@ -18,17 +19,16 @@ pub fn perform_instruction(i: Instruction, v: u8, l: Local, s: [u8; VARIABLES]) 
     requires { (l.next < most_instructions) × LocksWithin l }
     ensures { result ≡ perform i v l s }
 {
-    let mut bytes = [0u8; STATE];
+    let mut bytes = [0u8; STATE_BYTES];
     put_eight(&mut bytes, STORE_AT, s);
     put_frame(&mut bytes, 0, Job(0), l);
     let failed = perform_in(&mut bytes, 0, i, v);
-    let f = frame_at(&bytes, 0);
-    let local = f.local;
-    let store = eight_at(&bytes, STORE_AT);
+    let local = frame_at(&bytes, 0).local;
+    let store = bytes_at(&bytes, STORE_AT);
     Effect {
-        local: local,
-        store: store,
-        failed: failed,
+        local,
+        store,
+        failed,
         ended: ends(i),
     }
 }

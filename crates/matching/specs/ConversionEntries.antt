@@ -6,7 +6,7 @@ use Rattle.notation.specs.Checked.{Checked, require, ◌>>=◌, ◌>>◌}
 use Rattle.taskfile.specs.Records.{File}
 use Rattle.timing.specs.Accepted.{accept}
 use Rattle.machine.specs.declared.RunAnswer.{RunAnswer}
-use Rattle.machine.specs.Ends.{End}
+use Rattle.machine.specs.declared.End.{End}
 use Rattle.machine.specs.Buffers.{Written, run_answer, buffer_after, order_room, plan_room}
 use Rattle.plan.specs.Runs.{Plan}
 use Rattle.matching.specs.Conversions.{order_to_plan, plan_to_order}

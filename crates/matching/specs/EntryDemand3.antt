@@ -8,7 +8,7 @@ use Rattle.notation.specs.Checked.{passed}
 use Rattle.taskfile.specs.Records.{File}
 use Rattle.timing.specs.Accepted.{Accepted, accept}
 use Rattle.machine.specs.Buffers.{order_room, plan_room}
-use Rattle.machine.specs.Ends.{End}
+use Rattle.machine.specs.declared.End.{End}
 use Rattle.order.specs.Orders.{OrderEnds}
 use Rattle.order.specs.Replay.{replay_answer}
 use Rattle.plan.specs.Plans.{PlanEnds, plan_answer}

@@ -1,51 +1,69 @@
 // The entry from an order to a plan.
 ghost use Rattle.std.specs.Prelude.{◌≡◌, ◌≤◌, length};
-ghost use Rattle.taskfile.specs.Code.JudgingParts.{Shaped};
-ghost use Rattle.matching.specs.ConversionEntries.{order_to_plan_answer, order_to_plan_after};
+ghost use Rattle.notation.specs.Checked.{mapped};
+ghost use Rattle.taskfile.specs.Code.Refusals.{outcome};
+ghost use Rattle.matching.specs.ConversionEntries.{planned_order, order_to_plan_answer, order_to_plan_after};
 ghost use Rattle.matching_plans.specs.Code.PlanWritten.{PlanWritten};
 ghost use Rattle.machine.specs.Buffers.{plan_room};
-ghost use Rattle.timing.specs.Accepted.{most_jobs};
 
-use crate::columns::put_plan;
-use crate::tracing::trace_order;
-use machine::RunAnswer;
-use machine_locals::answers::{refused_run, written_run};
-use notation_buffers::clear_from;
+use crate::Trace;
+use crate::columns::fill_plan;
+use machine::{End, RunAnswer};
+use machine_locals::run_answers::written_answer;
 use order_lending::lend;
 use order_replay::entries::replay_table;
 use plan::Round;
 use plan_marks::rounds::put_store;
-use plan_marks::{MARKS, PLAN_ROOM, STORES};
-use taskfile::numbers::ROOM;
-use taskfile::{Check, Table};
-use timing::JobList;
+use plan_marks::{Marks, PLAN_ROOM, STORES};
+use taskfile::refusals::{Refusal, Refused};
+use timing::ListedTable;
 use timing_acceptance::entries::accept_file;
 
 // Writes the plan of a complete order of a table's jobs, and zeros after it up to the room of a plan.
-pub fn write_plan(t: Table, list: JobList, order: &[u8], out: &mut [u8]) -> usize
-    requires { Shaped t × (list.count ≤ most_jobs) × (plan_room ≤ length out.old) }
-    ensures { PlanWritten t list order.now out.old out.new result }
+pub fn write_plan(listed: &ListedTable, order: &[u8], out: &mut [u8]) -> usize
+    requires { plan_room ≤ length out.old }
+    ensures { PlanWritten listed.now.table listed.now.list order.now out.old out.new result }
 {
-    let l = lend(t, list);
-    let program = l.program;
-    let waits = l.waits;
-    let start = l.start;
-    let mut marks = [0u8; MARKS];
+    let lent = lend(listed);
     let mut guesses = [0u8; STORES];
-    let store = t.store;
-    put_store(&mut guesses, Round(0), store);
-    trace_order(
-        &program,
-        &waits,
-        l.locks,
-        start,
-        order,
-        &mut marks,
-        &mut guesses,
-    );
-    let length = put_plan(&guesses, &marks, list.count, out);
-    clear_from(length, PLAN_ROOM, out);
-    length
+    put_store(&mut guesses, Round(0), listed.table.store);
+    let mut trace = Trace {
+        state: lent.start,
+        round: Round(0),
+        marks: Marks::none(),
+        guesses,
+    };
+    trace.follow(&lent, order);
+    fill_plan(
+        &trace.guesses,
+        &trace.marks,
+        listed.list.count,
+        &mut out[..PLAN_ROOM],
+    )
+}
+
+// Writes the plan of a file's order: the file's refusal, then 20, then 30 to 34; or how the order ends, and the length
+// of the plan.
+pub fn convert_order(file: &[u8], order: &[u8], out: &mut [u8]) -> Result<(End, u32), Refused<u32>>
+    ensures answer { mapped (λ w. record { 0 = w.ending; 1 = length w.bytes })
+        (planned_order file.now order.now out.old) ≡ outcome result }
+    ensures buffer { out.new ≡ order_to_plan_after file.now order.now out.old }
+{
+    let accepted = accept_file(file)?;
+    if out.len() < PLAN_ROOM {
+        return Err(Refusal::Room.at(0));
+    }
+    let listed = ListedTable {
+        table: accepted.table,
+        list: accepted.list,
+    };
+    match replay_table(&listed, order) {
+        Ok(end) => {
+            let length = write_plan(&listed, order, out);
+            Ok((end, length as u32))
+        }
+        Err(e) => Err(e.why.at(e.place as u32)),
+    }
 }
 
 // The entry from an order to a plan: the file's numbers, then 20, then 30 to 34. The plan stands at the front of the
@@ -55,20 +73,5 @@ pub fn order_to_plan(file: &[u8], order: &[u8], out: &mut [u8]) -> RunAnswer
     ensures buffer { out.new
         ≡ order_to_plan_after file.now order.now out.old }
 {
-    let accepted = accept_file(file);
-    let check = accepted.check;
-    if let Check::Refused(number, place) = check {
-        return refused_run(number, place as u32);
-    }
-    if out.len() < PLAN_ROOM {
-        return refused_run(ROOM, 0);
-    }
-    let r = replay_table(accepted.table, accepted.list, order);
-    if r.number != 0 {
-        return refused_run(r.number, r.place as u32);
-    }
-    let length = write_plan(accepted.table, accepted.list, order, out);
-    let store = r.store;
-    let failed = r.failed;
-    written_run(store, failed, length as u32)
+    written_answer(convert_order(file, order, out))
 }

@@ -37,3 +37,12 @@ none_of number fault (place ∷ places) = if fault place then refused number pla
 unfoldable pub placed_by : {P Q A : Type 0} → (P → Q) → Checked P A → Checked Q A
 placed_by f (refused number place) = refused number (f place)
 placed_by f (passed value) = passed value
+
+-- the same check with its value led to another
+unfoldable pub mapped : {P A B : Type 0} → (A → B) → Checked P A → Checked P B
+mapped f (refused number place) = refused number place
+mapped f (passed value) = passed (f value)
+
+-- the same check without its value
+abbrev pub bare : {P A : Type 0} → Checked P A → Checked P (Unit {0})
+bare check = mapped (λ _. tt) check

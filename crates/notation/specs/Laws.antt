@@ -1,3 +1,4 @@
+pub mod BytesLaws
 pub mod CheckedLaws
 pub mod ClearLaws
 pub mod CountLaws

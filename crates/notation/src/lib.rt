@@ -2,4 +2,5 @@
 // document 01.
 #![tactic(auto)]
 
+pub mod bytes;
 pub mod characters;

@@ -1,2 +1,4 @@
-pub mod BytesLaws
+pub mod FrontLaws
+pub mod LineLaws
+pub mod PageLaws
 pub mod WritingLaws

@@ -11,7 +11,8 @@ use Rattle.std.specs.Prelude.{if◌then◌else◌}
 use Rattle.notation.specs.Lists.{member, first_with}
 use Rattle.timing.specs.Accepted.{Accepted}
 use Rattle.timing.specs.Relations.{base, job_at, job_numbers}
-use Rattle.machine.specs.Ends.{End, flagged}
+use Rattle.machine.specs.Ends.{flagged}
+use Rattle.machine.specs.declared.End.{End}
 use Rattle.machine.specs.declared.Effect.{Effect}
 use Rattle.machine.specs.Instructions.{fresh, values, perform}
 use Rattle.order.specs.OrderBytes.{task_of_byte, value_of_byte}

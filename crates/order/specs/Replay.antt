@@ -7,7 +7,7 @@ use Rattle.taskfile.specs.Records.{File}
 use Rattle.taskfile.specs.Tables.{tasks_of}
 use Rattle.timing.specs.Accepted.{Accepted, accept}
 use Rattle.machine.specs.declared.RunAnswer.{RunAnswer}
-use Rattle.machine.specs.Ends.{End}
+use Rattle.machine.specs.declared.End.{End}
 use Rattle.machine.specs.Buffers.{run_answer, unwritten}
 use Rattle.order.specs.OrderBytes.{task_of_byte, value_of_byte}
 use Rattle.order.specs.States.{State, initial, all_ended}

@@ -1,13 +1,13 @@
 // The state that an order starts from.
 ghost use Rattle.std.specs.Prelude.{◌≡◌, ◌<◌};
 ghost use Rattle.order_states.specs.Code.SnapshotSteps.{first_from, first_snapshot};
-ghost use Rattle.order_states.specs.Code.StateBytes.{snapshot_in, IsState};
+ghost use Rattle.order_states.specs.Code.StateBytes.{snapshot_in};
 ghost use Rattle.taskfile.specs.Chains.{most_tasks};
 
 use order_states::states::put_eight;
-use order_states::{OWNERS_AT, PROGRAM, STATE, STORE_AT, UNENDED_AT};
+use order_states::{OWNERS_AT, PROGRAM, STATE_BYTES, STORE_AT, State, UNENDED_AT};
 use taskfile::Task;
-use taskfile::limits::{MOST_JOBS, VARIABLES};
+use taskfile::limits::{MOST_JOBS, MOST_TASKS, TASKS, VARIABLES};
 use timing::Job;
 
 // The number of the first job of task i or above, or 32.
@@ -15,34 +15,24 @@ pub fn first_unended(program: &[u8; PROGRAM], i: Task) -> Job
     requires { i.0 < most_tasks }
     ensures { result.0 ≡ first_from program.now i.0 0 32 }
 {
-    let mut x: u8 = 0;
-    while x < MOST_JOBS {
-        let owner = program[OWNERS_AT + (x as usize)];
-        if i.0 <= owner {
+    for x in 0..MOST_JOBS {
+        if i.0 <= program[OWNERS_AT + (x as usize)] {
             return Job(x);
         }
-        x += 1;
     }
-    Job(x)
+    Job(MOST_JOBS)
 }
 
 // The state that an order starts from.
-pub fn first_state(program: &[u8; PROGRAM], store: [u8; VARIABLES]) -> [u8; STATE]
-    ensures shown { snapshot_in result ≡ first_snapshot program.now store }
-    ensures whole { IsState result }
+pub fn first_state(program: &[u8; PROGRAM], store: [u8; VARIABLES]) -> State
+    ensures { snapshot_in result.bytes ≡ first_snapshot program.now store }
 {
-    let unended = [
-        first_unended(program, Task(0)).0,
-        first_unended(program, Task(1)).0,
-        first_unended(program, Task(2)).0,
-        first_unended(program, Task(3)).0,
-        first_unended(program, Task(4)).0,
-        first_unended(program, Task(5)).0,
-        first_unended(program, Task(6)).0,
-        first_unended(program, Task(7)).0,
-    ];
-    let mut s = [0u8; STATE];
-    put_eight(&mut s, STORE_AT, store);
-    put_eight(&mut s, UNENDED_AT, unended);
-    s
+    let mut unended = [0; TASKS];
+    for k in 0..MOST_TASKS {
+        unended[k as usize] = first_unended(program, Task(k)).0;
+    }
+    let mut bytes = [0u8; STATE_BYTES];
+    put_eight(&mut bytes, STORE_AT, store);
+    put_eight(&mut bytes, UNENDED_AT, unended);
+    State { bytes }
 }

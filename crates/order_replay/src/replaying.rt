@@ -1,85 +1,62 @@
 // The replay of an order's bytes, from a state on.
-ghost use Rattle.std.specs.Prelude.{◌≡◌, ◌≤◌};
-ghost use Rattle.order_states.specs.Code.ReplayParts.{replay_end_at, replayed_of};
+ghost use Rattle.std.specs.Prelude.{◌≡◌};
+ghost use Rattle.notation.specs.Checked.{mapped};
+ghost use Rattle.taskfile.specs.Code.Refusals.{number_of, outcome};
+ghost use Rattle.order_states.specs.Code.ReplayParts.{end_in};
 ghost use Rattle.order_states.specs.Code.SnapshotSteps.{slip_in, replay_in};
-ghost use Rattle.order_states.specs.Code.StateBytes.{snapshot_in, IsState};
-ghost use Rattle.taskfile.specs.Chains.{most_locks};
+ghost use Rattle.order_states.specs.Code.StateBytes.{snapshot_in};
 
 use crate::ends::{failed_in, finished};
-use order_states::states::eight_at;
-use order_states::{PROGRAM, Replayed, STATE, STORE_AT, VALUES, WAITS};
+use machine::End;
+use notation::bytes::bytes_at;
+use order_states::{Lent, STORE_AT, State, VALUES};
 use order_steps::step;
 use order_turns::turns::turn_of;
-use taskfile::numbers::{EXTRA, OFFER, SHORT, STEP, TASK};
-use taskfile::{Ceilings, Task};
+use taskfile::Task;
+use taskfile::refusals::{Refusal, Refused};
 
-// What a replay comes to at a state.
-fn outcome(number: u8, index: usize, s: &[u8; STATE]) -> Replayed
-    ensures { result ≡ replayed_of (replay_end_at number index (snapshot_in s.now)) }
+// How an order ends at a state.
+fn end_at(s: &State) -> End
+    ensures { result ≡ end_in (snapshot_in s.now.bytes) }
 {
-    let store = eight_at(s, STORE_AT);
+    let store = bytes_at(&s.bytes, STORE_AT);
     let failed = failed_in(s);
-    Replayed {
-        number: number,
-        place: index as u64,
-        store: store,
-        failed: failed,
-    }
+    End { store, failed }
 }
 
-// The number of a byte that is no step, in a table with so many tasks: 33 if its task is none of them, 30 if it has no
-// turn, else 34, since its value is not on offer.
-fn slip(
-    program: &[u8; PROGRAM],
-    waits: &[u8; WAITS],
-    locks: Ceilings,
-    tasks: u8,
-    s: &[u8; STATE],
-    byte: u8,
-) -> u8
-    requires { (locks.count ≤ most_locks) × IsState s.now }
-    ensures { result ≡ slip_in program.now waits.now locks tasks
-        (snapshot_in s.now) byte }
+// Why a byte is no step, in a table with so many tasks: its task is none of them, or has no turn, or else its value is
+// not on offer.
+fn slip(lent: &Lent, tasks: u8, s: &State, byte: u8) -> Refusal
+    ensures { number_of result ≡ slip_in lent.now.program lent.now.waits lent.now.locks tasks
+        (snapshot_in s.now.bytes) byte }
 {
     let i = Task(byte / VALUES);
     if tasks <= i.0 {
-        return TASK;
+        return Refusal::Task;
     }
-    let d = turn_of(program, waits, locks, s, i);
-    if !d.due {
-        return STEP;
+    match turn_of(lent, s, i) {
+        None => Refusal::Step,
+        Some(_) => Refusal::Offer,
     }
-    OFFER
 }
 
-// The replay of an order's bytes from a state on, in a table with so many tasks.
-pub fn replay_from(
-    program: &[u8; PROGRAM],
-    waits: &[u8; WAITS],
-    locks: Ceilings,
-    tasks: u8,
-    start: [u8; STATE],
-    order: &[u8],
-) -> Replayed
-    requires { (locks.count ≤ most_locks) × IsState start }
-    ensures { result ≡ replayed_of (replay_in program.now waits.now locks tasks
-        (snapshot_in start) 0 order.now) }
+// The replay of an order's bytes, in a table with so many tasks.
+pub fn replay_from(lent: &Lent, tasks: u8, order: &[u8]) -> Result<End, Refused<usize>>
+    ensures { outcome result ≡ mapped end_in (replay_in lent.now.program lent.now.waits lent.now.locks tasks
+        (snapshot_in lent.now.start.bytes) 0 order.now) }
 {
-    let mut s = start;
-    let mut index: usize = 0;
-    while index < order.len() {
-        if finished(program, &s) {
-            return outcome(EXTRA, index, &s);
+    let mut s = lent.start;
+    for (index, byte) in order.iter().enumerate() {
+        if finished(&lent.program, &s) {
+            return Err(Refusal::Extra.at(index));
         }
-        let byte = order[index];
-        if !step(program, waits, locks, &mut s, byte) {
-            let number = slip(program, waits, locks, tasks, &s, byte);
-            return outcome(number, index, &s);
+        if !step(lent, &mut s, *byte) {
+            return Err(slip(lent, tasks, &s, *byte).at(index));
         }
-        index += 1;
     }
-    if finished(program, &s) {
-        return outcome(0, 0, &s);
+    if finished(&lent.program, &s) {
+        Ok(end_at(&s))
+    } else {
+        Err(Refusal::Short.at(order.len()))
     }
-    outcome(SHORT, index, &s)
 }

@@ -4,8 +4,13 @@
 
 pub mod states;
 
+ghost use Rattle.std.specs.Prelude.{◌≤◌};
+ghost use Rattle.taskfile.specs.Chains.{most_locks};
+ghost use Rattle.order_states.specs.Code.StateBytes.{IsState};
+
 use order::Frame;
-use taskfile::limits::{INSTRUCTIONS, JOBS, MOST_JOBS, MOST_TASKS, TASKS, VARIABLES};
+use taskfile::Ceilings;
+use taskfile::limits::{INSTRUCTIONS, JOBS, MOST_TASKS, TASKS, VARIABLES};
 
 // ---- An order.
 
@@ -45,7 +50,14 @@ pub const FRAME_BYTES: usize = 16;
 pub const HELD_AT: usize = 8;
 
 // Bytes of a state.
-pub const STATE: usize = STACK_AT + FRAME_BYTES * TASKS;
+pub const STATE_BYTES: usize = STACK_AT + FRAME_BYTES * TASKS;
+
+// A state of an order.
+#[derive(Clone, Copy)]
+pub struct State {
+    pub bytes: [u8; STATE_BYTES],
+    pub ghost whole: { IsState bytes },
+}
 
 // ---- A table in the arrays that are lent to the steps.
 
@@ -70,31 +82,33 @@ pub const LATEST_AT: usize = JOBS;
 // How many times there are.
 pub const TIMES: usize = LATEST_AT + JOBS;
 
+// What is lent to steps: the program, the wait table, the ceilings, and the state that an order starts from.
+#[derive(Clone, Copy)]
+pub struct Lent {
+    pub program: [u8; PROGRAM],
+    pub waits: [u8; WAITS],
+    pub locks: Ceilings,
+    pub start: State,
+    pub ghost few: { locks.count ≤ most_locks },
+}
+
+// What is lent to the runs of a plan: the program, the times and the ceilings.
+#[derive(Clone, Copy)]
+pub struct LentTimes {
+    pub program: [u8; PROGRAM],
+    pub times: [u64; TIMES],
+    pub locks: Ceilings,
+    pub ghost few: { locks.count ≤ most_locks },
+}
+
 // ---- What stands for nothing.
 
 // No task's number.
 pub const NO_TASK: u8 = MOST_TASKS;
 
-// No job's number.
-pub const NO_JOB: u8 = MOST_JOBS;
-
-// No move's byte.
-pub const NO_MOVE: u8 = VALUES * MOST_TASKS;
-
-// Whose turn a byte of a task is, if anyone's: the job that steps, and how many active jobs are under it.
+// Whose turn a byte of a task is: the job that steps, and how many active jobs are under it.
 #[derive(Clone, Copy)]
 pub struct Due {
-    pub due: bool,
     pub frame: Frame,
     pub under: u8,
-}
-
-// What a replay comes to: 0 or the number of the fault, its step's index, and the store and the failed jobs that it
-// left.
-#[derive(Clone, Copy)]
-pub struct Replayed {
-    pub number: u8,
-    pub place: u64,
-    pub store: [u8; VARIABLES],
-    pub failed: [bool; JOBS],
 }

@@ -1,13 +1,12 @@
 // What the steps of an order read of an accepted table, in lent arrays of numbers.
 ghost use Rattle.std.specs.Prelude.{◌≡◌, ◌<◌};
 ghost use Rattle.order_states.specs.Code.SnapshotSteps.{instruction_in, before_in, preempts_in, owned_by};
-ghost use Rattle.timing.specs.Accepted.{most_jobs};
 ghost use Rattle.taskfile.specs.Chains.{most_instructions, most_tasks};
 
 use order_states::{BODY_BYTES, INSTRUCTION_BYTES, LATEST_AT, OWNERS_AT, PROGRAM, TIMES};
 use taskfile::limits::MOST_JOBS;
 use taskfile::{Instruction, Task};
-use timing::Job;
+use timing::{Job, ListedJob};
 
 // The instruction at a position of a task's body.
 pub fn instruction_at(program: &[u8; PROGRAM], i: Task, p: u16) -> Instruction
@@ -27,42 +26,38 @@ pub fn instruction_at(program: &[u8; PROGRAM], i: Task, p: u16) -> Instruction
 pub fn owned_by(program: &[u8; PROGRAM], k: Task, x: Job) -> bool
     ensures { result ≡ owned_by program.now k.0 x.0 }
 {
-    if MOST_JOBS <= x.0 {
-        return false;
-    }
-    program[OWNERS_AT + (x.0 as usize)] == k.0
+    x.0 < MOST_JOBS && program[OWNERS_AT + (x.0 as usize)] == k.0
 }
 
 // Does job x come before job y, another job?
-pub fn comes_before(program: &[u8; PROGRAM], times: &[u64; TIMES], x: Job, y: Job) -> bool
-    requires { (x.0 < most_jobs) × (y.0 < most_jobs) }
-    ensures { result ≡ before_in program.now times.now x.0 y.0 }
+pub fn comes_before(
+    program: &[u8; PROGRAM],
+    times: &[u64; TIMES],
+    x: ListedJob,
+    y: ListedJob,
+) -> bool
+    ensures { result ≡ before_in program.now times.now x.number y.number }
 {
-    let first = x.0 as usize;
-    let second = y.0 as usize;
+    let first = x.number as usize;
+    let second = y.number as usize;
     let arrival = times[second];
-    if times[LATEST_AT + first] <= arrival {
-        return true;
-    }
-    if arrival < times[first] {
-        return false;
-    }
-    program[OWNERS_AT + second] <= program[OWNERS_AT + first]
+    times[LATEST_AT + first] <= arrival
+        || times[first] <= arrival && program[OWNERS_AT + second] <= program[OWNERS_AT + first]
 }
 
 // May job y preempt job x?
-pub fn may_preempt(program: &[u8; PROGRAM], times: &[u64; TIMES], y: Job, x: Job) -> bool
-    requires { (x.0 < most_jobs) × (y.0 < most_jobs) }
-    ensures { result ≡ preempts_in program.now times.now y.0 x.0 }
+pub fn may_preempt(
+    program: &[u8; PROGRAM],
+    times: &[u64; TIMES],
+    y: ListedJob,
+    x: ListedJob,
+) -> bool
+    ensures { result ≡ preempts_in program.now times.now y.number x.number }
 {
-    let lower = x.0 as usize;
-    let upper = y.0 as usize;
-    if program[OWNERS_AT + upper] <= program[OWNERS_AT + lower] {
-        return false;
-    }
+    let lower = x.number as usize;
+    let upper = y.number as usize;
     let arrival = times[upper];
-    if arrival <= times[lower] {
-        return false;
-    }
-    arrival < times[LATEST_AT + lower]
+    program[OWNERS_AT + lower] < program[OWNERS_AT + upper]
+        && times[lower] < arrival
+        && arrival < times[LATEST_AT + lower]
 }

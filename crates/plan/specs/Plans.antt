@@ -8,7 +8,7 @@ use Rattle.notation.specs.Lists.{last_or}
 use Rattle.taskfile.specs.Records.{File}
 use Rattle.timing.specs.Accepted.{Accepted, accept}
 use Rattle.machine.specs.declared.RunAnswer.{RunAnswer}
-use Rattle.machine.specs.Ends.{End}
+use Rattle.machine.specs.declared.End.{End}
 use Rattle.machine.specs.Buffers.{run_answer, unwritten}
 use Rattle.plan.specs.Legality.{legality}
 use Rattle.plan.specs.Runs.{Plan, JobRuns, run_plan}

@@ -1,3 +1,4 @@
+pub mod IsMarks
 pub mod Marks
 pub mod PairParts
 pub mod RunParts

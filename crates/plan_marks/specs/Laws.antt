@@ -1,4 +1,3 @@
 pub mod FaultLaws
 pub mod MarkLaws
-pub mod RoundLaws
 pub mod StoreLaws

@@ -1,8 +1,12 @@
 // Round plans, as their code keeps them: the steps of each job and the stores of the rounds, in arrays of fixed length.
 #![tactic(auto)]
 
+ghost use Rattle.plan_marks.specs.Code.IsMarks.{IsMarks};
+
 pub mod rounds;
 
+use machine::End;
+use plan::Round;
 use taskfile::limits::{INSTRUCTIONS, JOBS, VARIABLES};
 
 // Steps of all jobs, at most.
@@ -25,60 +29,49 @@ pub const STORES: usize = VARIABLES * JOBS;
 
 // ---- The marks of the jobs' steps, sixteen places for each job.
 
-// Where the round of each step stands.
-pub const ROUNDS: usize = 0;
+// A step that a job has made: its round, its value, and the job's priority after it.
+#[derive(Clone, Copy)]
+pub struct StepMark {
+    pub round: Round,
+    pub value: u8,
+    pub priority: u8,
+}
 
-// Where the value of each step stands.
-pub const CHOICES: usize = ROUNDS + STEPS;
-
-// Where the job's priority after each step stands.
-pub const PRIORITIES: usize = CHOICES + STEPS;
-
-// Where the number of steps of each job stands.
-pub const COUNTS: usize = PRIORITIES + STEPS;
-
-// Bytes of the marks.
-pub const MARKS: usize = COUNTS + JOBS;
+// How many steps each job has, and their marks: that of step n of job x stands at 16 * x + n.
+#[derive(Clone, Copy)]
+pub struct Marks {
+    pub counts: [u8; JOBS],
+    pub steps: [StepMark; STEPS],
+    pub ghost is_marks: { IsMarks counts steps },
+}
 
 // ---- What the functions yield.
 
-// The fault of a plan: none, or its number at its place, an offset, a job or a round.
-#[derive(Clone, Copy)]
-pub enum Fault {
-    Nothing,
-    At(u8, u32),
-}
-
-// What a job's run comes to: its fault, the offset after its steps, and whether an assertion of it failed.
+// What a job's run comes to: the offset after its steps, and whether an assertion of it failed.
 #[derive(Clone, Copy)]
 pub struct JobRan {
-    pub fault: Fault,
     pub offset: usize,
     pub failed: bool,
 }
 
-// What the run of all jobs comes to: its fault, the offset after the steps, and the failed jobs.
+// What the run of all jobs comes to: the offset after the steps, and the failed jobs.
 #[derive(Clone, Copy)]
 pub struct JobsRan {
-    pub fault: Fault,
     pub offset: usize,
     pub failed: [bool; JOBS],
 }
 
-// What a plan's run comes to: its fault, the failed jobs, the stores left in the rounds, and the marks of the steps.
+// What a plan's run comes to: the failed jobs, the stores left in the rounds, and the marks of the steps.
 #[derive(Clone, Copy)]
 pub struct PlanRan {
-    pub fault: Fault,
     pub failed: [bool; JOBS],
     pub stores: [u8; STORES],
-    pub marks: [u8; MARKS],
+    pub marks: Marks,
 }
 
-// What a plan's check comes to: its fault, the end store, the failed jobs, and the marks of the steps.
+// What the check of a legal plan comes to: its end, and the marks of the steps.
 #[derive(Clone, Copy)]
 pub struct PlanChecked {
-    pub fault: Fault,
-    pub store: [u8; VARIABLES],
-    pub failed: [bool; JOBS],
-    pub marks: [u8; MARKS],
+    pub end: End,
+    pub marks: Marks,
 }

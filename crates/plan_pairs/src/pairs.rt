@@ -1,76 +1,41 @@
 // The rules of legal plans over all pairs of jobs.
-ghost use Rattle.std.specs.Prelude.{◌≡◌, suc, ◌-◌, ◌≤◌, ◌<◌};
+ghost use Rattle.std.specs.Prelude.{◌≡◌, ℕ, Bool, suc, ◌-◌, ◌≤◌, ◌<◌};
 ghost use Rattle.notation.specs.Lists.{any, from};
-ghost use Rattle.plan_marks.specs.Code.Marks.{fault_of, IsMarks};
-ghost use Rattle.plan_marks.specs.Code.PairParts.{pair_faulty, pair_fault_in};
+ghost use Rattle.plan_marks.specs.Code.PairParts.{TakesPairs, JudgesPairs, pair_fault_in};
+ghost use Rattle.taskfile.specs.Code.Refusals.{outcome, number_of};
 ghost use Rattle.timing.specs.Accepted.{most_jobs};
 
-use crate::pair_rules::{lock_faulty, order_faulty};
-use order_states::{PROGRAM, TIMES};
-use plan_marks::{Fault, MARKS};
-use taskfile::numbers::ORDER;
-use timing::Job;
+use taskfile::refusals::{Refusal, Refused};
+use timing::ListedJob;
 
-// Has the pair the fault of number 43, or else that of 44?
-pub fn pair_faulty(
-    number: u8,
-    program: &[u8; PROGRAM],
-    times: &[u64; TIMES],
-    marks: &[u8; MARKS],
-    x: Job,
-    y: Job,
-) -> bool
-    requires { IsMarks marks.now × (x.0 < most_jobs) × (y.0 < most_jobs) }
-    ensures { result ≡ pair_faulty number program.now times.now marks.now
-        x.0 y.0 }
+// Has a pair of x with a job above it, of k jobs, a fault?
+pub fn faulty_with<F: Fn(ListedJob, ListedJob) -> bool>(faulty: &F, k: u8, x: ListedJob) -> bool
+    requires { (k ≤ most_jobs) × (x.number < k) × TakesPairs (F.pre faulty.now) k }
+    ensures { (test : ℕ → ℕ → Bool) → JudgesPairs (F.post faulty.now) test k
+        → result ≡ any (test x.number) (from (suc x.number) (k - suc x.number)) }
 {
-    if number == ORDER {
-        return order_faulty(program, times, marks, x, y);
-    }
-    lock_faulty(program, times, marks, x, y)
-}
-
-// Has a pair of x with a job above it, of k jobs, that fault?
-pub fn faulty_with(
-    number: u8,
-    program: &[u8; PROGRAM],
-    times: &[u64; TIMES],
-    marks: &[u8; MARKS],
-    k: u8,
-    x: Job,
-) -> bool
-    requires { IsMarks marks.now × (k ≤ most_jobs) × (x.0 < k) }
-    ensures { result ≡ any (pair_faulty number program.now times.now marks.now x.0)
-        (from (suc x.0) (k - suc x.0)) }
-{
-    let mut y = x.0 + 1;
-    while y < k {
-        if pair_faulty(number, program, times, marks, x, Job(y)) {
+    for y in x.number + 1..k {
+        if faulty(x, ListedJob { number: y }) {
             return true;
         }
-        y += 1;
     }
     false
 }
 
-// The first pair with that fault, by the lower job, of k jobs.
-pub fn pair_fault(
-    number: u8,
-    program: &[u8; PROGRAM],
-    times: &[u64; TIMES],
-    marks: &[u8; MARKS],
+// Refuses at the first pair with a fault, by the lower job, of k jobs.
+pub fn pair_fault<F: Fn(ListedJob, ListedJob) -> bool>(
     k: u8,
-) -> Fault
-    requires { IsMarks marks.now × (k ≤ most_jobs) }
-    ensures { result ≡ fault_of (pair_fault_in number program.now times.now
-        marks.now k) }
+    why: Refusal,
+    faulty: F,
+) -> Result<(), Refused<u32>>
+    requires { (k ≤ most_jobs) × TakesPairs (F.pre faulty) k }
+    ensures { (test : ℕ → ℕ → Bool) → JudgesPairs (F.post faulty) test k
+        → outcome result ≡ pair_fault_in (number_of why) test k }
 {
-    let mut x: u8 = 0;
-    while x < k {
-        if faulty_with(number, program, times, marks, k, Job(x)) {
-            return Fault::At(number, x as u32);
+    for x in 0..k {
+        if faulty_with(&faulty, k, ListedJob { number: x }) {
+            return Err(why.at(u32::from(x)));
         }
-        x += 1;
     }
-    Fault::Nothing
+    Ok(())
 }

@@ -4,43 +4,48 @@ ghost use Rattle.machine.specs.Code.Within.{LocksWithin};
 ghost use Rattle.machine.specs.Held.{priority};
 ghost use Rattle.machine.specs.Instructions.{perform};
 ghost use Rattle.plan.specs.Runs.{round_at};
-ghost use Rattle.plan_marks.specs.Code.Marks.{fault_of, store_at, with_store, with_mark, stores_bytes, mark_bytes};
+ghost use Rattle.taskfile.specs.Code.Refusals.{outcome};
+ghost use Rattle.plan_marks.specs.Code.Marks.{store_at, with_store, with_mark};
 ghost use Rattle.plan.specs.Runs.{step_bytes_for};
 ghost use Rattle.timing.specs.Accepted.{most_jobs};
-ghost use Rattle.taskfile.specs.Chains.{most_instructions, most_locks};
+ghost use Rattle.taskfile.specs.Chains.{most_instructions};
 ghost use Rattle.machine.specs.Buffers.{plan_room};
 
 use machine::{Effect, Local};
 use machine_locals::held::priority_of;
 use machine_locals::values::on_offer;
 use machine_performing::instructions::perform_instruction;
+use order_states::LentTimes;
 use plan::Round;
-use plan_marks::rounds::{put_mark, put_store, store_of};
-use plan_marks::{Fault, MARKS, STORES};
-use taskfile::numbers::{ROUND, SHAPE, VALUE};
-use taskfile::{Ceilings, Instruction, Task};
-use timing::Job;
+use plan_marks::rounds::{put_store, store_of};
+use plan_marks::{Marks, STORES, StepMark};
+use taskfile::refusals::{Refusal, Refused};
+use taskfile::{Instruction, Task};
+use timing::ListedJob;
 
-// The fault of the step whose bytes are at an offset, for its instruction and the round of the job's previous step: 40,
-// 42 or 41.
-pub fn step_fault(plan: &[u8], k: u8, i: Instruction, previous: Round, offset: usize) -> Fault
+// Checks the step whose bytes are at an offset, for its instruction and the round of the job's previous step: 40, 42 or
+// 41.
+pub fn step_fault(
+    plan: &[u8],
+    k: u8,
+    i: Instruction,
+    previous: Round,
+    offset: usize,
+) -> Result<(), Refused<u32>>
     requires { offset ≤ plan_room }
-    ensures { result ≡ fault_of (step_bytes_for k i plan.now previous offset) }
+    ensures { outcome result ≡ step_bytes_for k i plan.now previous offset }
 {
     if plan.len() <= offset + 1 {
-        return Fault::At(SHAPE, plan.len() as u32);
+        return Err(Refusal::Shape.at(plan.len() as u32));
     }
-    let round = Round(plan[offset]);
-    if k <= round.0 {
-        return Fault::At(ROUND, offset as u32);
-    }
-    if round.0 < previous.0 {
-        return Fault::At(ROUND, offset as u32);
+    let round = plan[offset];
+    if k <= round || round < previous.0 {
+        return Err(Refusal::Round.at(offset as u32));
     }
     if !on_offer(i, plan[offset + 1]) {
-        return Fault::At(VALUE, (offset + 1) as u32);
+        return Err(Refusal::Value.at(offset as u32 + 1));
     }
-    Fault::Nothing
+    Ok(())
 }
 
 // Makes the step whose bytes are at an offset: its instruction, from where its job stands, on its round's store.
@@ -52,7 +57,7 @@ pub fn make_step(
     stores: &mut [u8; STORES],
 ) -> Effect
     requires bytes { (offset + 1 < length plan.now) × ((round_at plan.now offset).0 < most_jobs) }
-    requires bounds { (local.next < most_instructions) × LocksWithin local × (length stores.old ≡ stores_bytes) }
+    requires bounds { (local.next < most_instructions) × LocksWithin local }
     ensures effect { result ≡ perform i (get_or plan.now (offset + 1) 0) local
         (store_at stores.old (round_at plan.now offset).0) }
     ensures stores { stores.new
@@ -60,8 +65,7 @@ pub fn make_step(
 {
     let r = Round(plan[offset]);
     let effect = perform_instruction(i, plan[offset + 1], local, store_of(stores, r));
-    let store = effect.store;
-    put_store(stores, r, store);
+    put_store(stores, r, effect.store);
     effect
 }
 
@@ -70,27 +74,33 @@ pub fn make_step(
 pub fn mark_step(
     plan: &[u8],
     offset: usize,
-    locks: Ceilings,
+    lent: &LentTimes,
     base: Task,
     local: Local,
-    x: Job,
+    x: ListedJob,
     n: u8,
-    marks: &mut [u8; MARKS],
+    marks: &mut Marks,
 ) -> Round
     requires bytes { offset + 1 < length plan.now }
-    requires bounds { (locks.count ≤ most_locks) × (x.0 < most_jobs) × (n < most_instructions)
-        × (length marks.old ≡ mark_bytes) }
+    requires bounds { n < most_instructions }
     ensures round { result ≡ round_at plan.now offset }
-    ensures marks { marks.new ≡ with_mark marks.old x.0 n (record {
+    ensures marks { marks.new ≡ with_mark marks.old x.number n (record {
       round = round_at plan.now offset;
       value = get_or plan.now (offset + 1) 0;
-      priority_after = priority (take locks.count locks.ceilings) base.0 local.held;
+      priority_after = priority (take lent.now.locks.count lent.now.locks.ceilings) base.0 local.held;
     }) }
 {
     let r = Round(plan[offset]);
-    let ceilings = locks.ceilings;
-    let held = local.held;
-    let priority = priority_of(ceilings, locks.count, base.0, held);
-    put_mark(marks, x, n, r, plan[offset + 1], priority);
+    let priority = priority_of(lent.locks.ceilings, lent.locks.count, base.0, local.held);
+    let value = plan[offset + 1];
+    marks.put(
+        x,
+        n,
+        StepMark {
+            round: r,
+            value,
+            priority,
+        },
+    );
     r
 }

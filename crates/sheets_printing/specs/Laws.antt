@@ -1,2 +1,1 @@
 pub mod LineLaws
-pub mod SpacedLaws

@@ -3,4 +3,5 @@ pub mod JudgingParts
 pub mod Reading
 pub mod ReadingParts
 pub mod RecordFields
+pub mod Refusals
 pub mod WellMade

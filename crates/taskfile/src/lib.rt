@@ -1,11 +1,10 @@
 // The task file: what a table is, and what its reader yields. Document 01, "The task file".
 #![tactic(auto)]
 
-pub mod kinds;
 pub mod limits;
-pub mod numbers;
 pub mod offsets;
 pub mod operations;
+pub mod refusals;
 
 use crate::limits::{INSTRUCTIONS, LOCKS, TASKS, VARIABLES};
 
@@ -47,21 +46,21 @@ pub struct Table {
     pub holdings: [u32; LOCKS],
 }
 
-// The kind of a record: "Byte 0 is the kind".
+// The kind of a record, by its number: "Byte 0 is the kind".
 #[derive(Clone, Copy)]
 pub enum Kind {
-    Header,
-    TaskRecord,
-    LockRecord,
-    InstructionRecord,
+    Header = 1,
+    TaskRecord = 2,
+    LockRecord = 3,
+    InstructionRecord = 4,
 }
 
-// What a check of the file comes to: passed, or refused with a number of document 01 and the record that is
-// its place.
+// A field of an instruction.
 #[derive(Clone, Copy)]
-pub enum Check {
-    Passed,
-    Refused(u8, u8),
+pub enum Field {
+    A,
+    B,
+    C,
 }
 
 // A site of a table: its header, a task, the instruction at a position of a task's body, or a lock.
@@ -73,32 +72,11 @@ pub enum Site {
     AtLock(u8),
 }
 
-// What the judgement of a table comes to: passed, or refused with a number of document 01 at a site.
+// How many items there are, and the array that holds them first.
 #[derive(Clone, Copy)]
-pub enum Judged {
-    Sound,
-    Faulty(u8, Site),
-}
-
-// The records of a chain by following indices, how many there are, and the array that holds them.
-#[derive(Clone, Copy)]
-pub struct Chain {
+pub struct Filled<T, const N: usize> {
     pub count: u8,
-    pub records: [u8; INSTRUCTIONS],
-}
-
-// The instructions of a body, how many there are, and the array that holds them.
-#[derive(Clone, Copy)]
-pub struct Body {
-    pub length: u8,
-    pub body: [Instruction; INSTRUCTIONS],
-}
-
-// The tasks' entries, how many there are, and the array that holds them.
-#[derive(Clone, Copy)]
-pub struct Entries {
-    pub count: u8,
-    pub entries: [TaskEntry; TASKS],
+    pub items: [T; N],
 }
 
 // The locks' ceilings, how many there are, and the array that holds them.
@@ -114,18 +92,4 @@ pub struct Locks {
     pub count: u8,
     pub ceilings: [u8; LOCKS],
     pub holdings: [u32; LOCKS],
-}
-
-// What loading a file comes to: its check and, if it passed, its table.
-#[derive(Clone, Copy)]
-pub struct LoadAnswer {
-    pub check: Check,
-    pub table: Table,
-}
-
-// A position that was looked for.
-#[derive(Clone, Copy)]
-pub enum Found {
-    At(u8),
-    Nothing,
 }

@@ -5,11 +5,13 @@
 ghost use Rattle.std.specs.Prelude.{◌≡◌, List, ℕ};
 ghost use Rattle.taskfile.specs.Chains.{chain, body_chain, task_chains, records_of};
 ghost use Rattle.taskfile.specs.Code.Reading.{seen_of, ChainedAs};
+ghost use Rattle.taskfile.specs.Code.Refusals.{outcome};
 ghost use Rattle.taskfile.specs.Records.{byte_at, next};
 
 use crate::links::follow_index;
 use taskfile::limits::{MOST_INSTRUCTIONS, RECORDS};
-use taskfile::{Check, Kind, numbers, offsets};
+use taskfile::refusals::{Refusal, Refused};
+use taskfile::{Kind, offsets};
 use taskfile_records::records::byte_at;
 
 // The lent file together with the present index in it.
@@ -68,31 +70,28 @@ pub fn read_chain(
     seen: &mut [bool; RECORDS],
     holder: u8,
     index: u8,
-) -> Check
+) -> Result<(), Refused<u8>>
     ensures { (reached : List ℕ) → seen.old ≡ seen_of reached
-        → ChainedAs (λ l. l) result seen.new reached
+        → ChainedAs (λ l. l) (outcome result) seen.new reached
         (chain kind allowed file.now reached holder index) }
 {
     if index == 0 {
-        return Check::Passed;
+        return Ok(());
     }
     let at = index as usize;
-    let step = follow_index(file, kind, allowed, seen[at], holder, index);
-    let Check::Passed = step else {
-        return step;
-    };
+    follow_index(file, kind, allowed, seen[at], holder, index)?;
     seen[at] = true;
     read_chain(file, kind, allowed - 1, seen, index, next_at(file, index))
 }
 
 // The body of the task whose record is `holder`.
-pub fn read_body(file: &[u8], seen: &mut [bool; RECORDS], holder: u8) -> Check
+pub fn read_body(file: &[u8], seen: &mut [bool; RECORDS], holder: u8) -> Result<(), Refused<u8>>
     ensures { (reached : List ℕ) → seen.old ≡ seen_of reached
-        → ChainedAs (λ l. l) result seen.new reached (body_chain file.now reached holder) }
+        → ChainedAs (λ l. l) (outcome result) seen.new reached (body_chain file.now reached holder) }
 {
     let first = index_at(file, holder, offsets::FIRST_INSTRUCTION);
     if first == 0 {
-        return Check::Refused(numbers::COUNT, holder);
+        return Err(Refusal::Count.at(holder));
     }
     read_chain(
         file,
@@ -111,23 +110,17 @@ pub fn read_tasks(
     seen: &mut [bool; RECORDS],
     holder: u8,
     index: u8,
-) -> Check
+) -> Result<(), Refused<u8>>
     ensures { (reached : List ℕ) → seen.old ≡ seen_of reached
-        → ChainedAs records_of result seen.new reached
+        → ChainedAs records_of (outcome result) seen.new reached
         (task_chains allowed file.now reached holder index) }
 {
     if index == 0 {
-        return Check::Passed;
+        return Ok(());
     }
     let at = index as usize;
-    let step = follow_index(file, Kind::TaskRecord, allowed, seen[at], holder, index);
-    let Check::Passed = step else {
-        return step;
-    };
+    follow_index(file, Kind::TaskRecord, allowed, seen[at], holder, index)?;
     seen[at] = true;
-    let body = read_body(file, seen, index);
-    let Check::Passed = body else {
-        return body;
-    };
+    read_body(file, seen, index)?;
     read_tasks(file, allowed - 1, seen, index, next_at(file, index))
 }

@@ -1,27 +1,26 @@
 // One record of a chain: numbers 2 and 4 at a record, and 3, 5, 2, 4 on following an index to it.
 ghost use Rattle.std.specs.Prelude.{◌≡◌};
 ghost use Rattle.taskfile.specs.Chains.{record_of, follow};
-ghost use Rattle.taskfile.specs.Code.Reading.{check_of};
+ghost use Rattle.taskfile.specs.Code.Refusals.{outcome};
 
 use taskfile::limits::RECORD;
-use taskfile::{Check, Kind, numbers, offsets};
+use taskfile::refusals::{Refusal, Refused};
+use taskfile::{Kind, offsets};
 use taskfile_records::fields::{record_in_range, tidy_record};
-use taskfile_records::records::{byte_at, kind_number};
+use taskfile_records::records::byte_at;
 
 // 2 and 4 at a record.
-pub fn record_of(file: &[u8], kind: Kind, r: u8) -> Check
-    ensures { result ≡ check_of (record_of kind file.now r) }
+pub fn record_of(file: &[u8], kind: Kind, r: u8) -> Result<(), Refused<u8>>
+    ensures { outcome result ≡ record_of kind file.now r }
 {
-    if byte_at(file, r, offsets::KIND) != kind_number(kind) {
-        return Check::Refused(numbers::KIND, r);
+    if byte_at(file, r, offsets::KIND) != kind as u8 {
+        return Err(Refusal::Kind.at(r));
     }
-    if !tidy_record(file, r, kind) {
-        return Check::Refused(numbers::FIELD, r);
+    if tidy_record(file, r, kind) && record_in_range(file, r, kind) {
+        Ok(())
+    } else {
+        Err(Refusal::Field.at(r))
     }
-    if !record_in_range(file, r, kind) {
-        return Check::Refused(numbers::FIELD, r);
-    }
-    Check::Passed
 }
 
 // Follows an index that the record `holder` holds: 3, 5, 2, 4.
@@ -32,17 +31,14 @@ pub fn follow_index(
     again: bool,
     holder: u8,
     index: u8,
-) -> Check
-    ensures { result ≡ check_of (follow kind allowed file.now again holder index) }
+) -> Result<(), Refused<u8>>
+    ensures { outcome result ≡ follow kind allowed file.now again holder index }
 {
-    if file.len() / RECORD <= (index as usize) {
-        return Check::Refused(numbers::CHAIN, holder);
-    }
-    if again {
-        return Check::Refused(numbers::CHAIN, holder);
+    if file.len() / RECORD <= index as usize || again {
+        return Err(Refusal::Chain.at(holder));
     }
     if allowed == 0 {
-        return Check::Refused(numbers::COUNT, index);
+        return Err(Refusal::Count.at(index));
     }
     record_of(file, kind, index)
 }

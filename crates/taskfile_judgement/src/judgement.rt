@@ -5,77 +5,59 @@ ghost use Rattle.notation.specs.Checked.{none_of};
 ghost use Rattle.taskfile.specs.Judgement.{task_numbers, instruction_sites, of_instruction, of_task};
 ghost use Rattle.taskfile.specs.Judgement.{body_fault, rate_fault, ceiling_fault, judged};
 ghost use Rattle.taskfile.specs.Code.JudgingParts.{Shaped};
-ghost use Rattle.taskfile.specs.Code.Reading.{judged_of};
+ghost use Rattle.taskfile.specs.Code.Refusals.{outcome};
 
 use crate::faults::{first_body_fault, first_ceiling_fault};
-use taskfile::{Found, Judged, Site, Table, Task, numbers};
+use taskfile::refusals::{Refusal, Refused};
+use taskfile::{Site, Table, Task};
 
 // 7 over the whole table.
-pub fn judge_bodies(t: Table) -> Judged
-    requires { Shaped t }
-    ensures { result ≡ judged_of (none_of 7 (of_instruction (body_fault t)) (instruction_sites t)) }
+pub fn judge_bodies(t: &Table) -> Result<(), Refused<Site>>
+    requires { Shaped t.now }
+    ensures { outcome result ≡ none_of 7 (of_instruction (body_fault t.now)) (instruction_sites t.now) }
 {
-    let mut i: u8 = 0;
-    while i < t.tasks {
-        let at = i as usize;
-        let found = first_body_fault(t.entries[at]);
-        if let Found::At(p) = found {
-            return Judged::Faulty(numbers::BODY, Site::AtInstruction(Task(i), p));
+    for i in 0..t.tasks {
+        if let Some(p) = first_body_fault(&t.entries[i as usize]) {
+            return Err(Refusal::Body.at(Site::AtInstruction(Task(i), p)));
         }
-        i += 1;
     }
-    Judged::Sound
+    Ok(())
 }
 
 // 8 over the whole table.
-pub fn judge_rates(t: Table) -> Judged
-    requires { Shaped t }
-    ensures { result ≡ judged_of (none_of 8 (of_task (rate_fault t)) (map (λ i. AtTask i) (task_numbers t))) }
+pub fn judge_rates(t: &Table) -> Result<(), Refused<Site>>
+    requires { Shaped t.now }
+    ensures { outcome result ≡ none_of 8 (of_task (rate_fault t.now)) (map (λ i. AtTask i) (task_numbers t.now)) }
 {
-    let mut i: u8 = 0;
-    while i < t.tasks {
+    for i in 0..t.tasks {
         let at = i as usize;
-        if 0 < at {
-            let before = at - 1;
-            if t.entries[before].period < t.entries[at].period {
-                return Judged::Faulty(numbers::RATE, Site::AtTask(Task(i)));
-            }
+        if 0 < at && t.entries[at - 1].period < t.entries[at].period {
+            return Err(Refusal::Rate.at(Site::AtTask(Task(i))));
         }
-        i += 1;
     }
-    Judged::Sound
+    Ok(())
 }
 
 // 9 over the whole table.
-pub fn judge_ceilings(t: Table) -> Judged
-    requires { Shaped t }
-    ensures { result ≡ judged_of (none_of 9 (of_instruction (ceiling_fault t)) (instruction_sites t)) }
+pub fn judge_ceilings(t: &Table) -> Result<(), Refused<Site>>
+    requires { Shaped t.now }
+    ensures { outcome result ≡ none_of 9 (of_instruction (ceiling_fault t.now)) (instruction_sites t.now) }
 {
-    let ceilings = t.ceilings;
-    let mut i: u8 = 0;
-    while i < t.tasks {
-        let at = i as usize;
-        let found = first_ceiling_fault(t.locks, ceilings, Task(i), t.entries[at]);
-        if let Found::At(p) = found {
-            return Judged::Faulty(numbers::CEILING, Site::AtInstruction(Task(i), p));
+    let ceilings = &t.ceilings[..t.locks as usize];
+    for i in 0..t.tasks {
+        if let Some(p) = first_ceiling_fault(ceilings, Task(i), &t.entries[i as usize]) {
+            return Err(Refusal::Ceiling.at(Site::AtInstruction(Task(i), p)));
         }
-        i += 1;
     }
-    Judged::Sound
+    Ok(())
 }
 
 // 7, 8 and 9.
-pub fn judge(t: Table) -> Judged
-    requires { Shaped t }
-    ensures { result ≡ judged_of (judged t) }
+pub fn judge(t: &Table) -> Result<(), Refused<Site>>
+    requires { Shaped t.now }
+    ensures { outcome result ≡ judged t.now }
 {
-    let bodies = judge_bodies(t);
-    let Judged::Sound = bodies else {
-        return bodies;
-    };
-    let rates = judge_rates(t);
-    let Judged::Sound = rates else {
-        return rates;
-    };
+    judge_bodies(t)?;
+    judge_rates(t)?;
     judge_ceilings(t)
 }

@@ -1,5 +1,5 @@
 // Number 4 at one record: its unused bytes are zero, and its values are in range.
-ghost use Rattle.std.specs.Prelude.{◌≡◌, ◌+◌, ◌*◌, ◌≤◌, length};
+ghost use Rattle.std.specs.Prelude.{◌≡◌};
 ghost use Rattle.taskfile.specs.Records.{zero_from, uses_of, tidy_field, field_in_range};
 ghost use Rattle.taskfile.specs.Records.{tidy_instruction, fields_in_range, choice_in_range, instruction_in_range};
 ghost use Rattle.taskfile.specs.Records.{tidy, in_range};
@@ -10,45 +10,15 @@ use taskfile::limits::{
     HIGHEST_CEILING, MOST_OPERATIONS, MOST_REGISTERS, MOST_VARIABLES, OPERATIONS, RECORD,
 };
 use taskfile::operations::PICK;
-use taskfile::{Instruction, Kind, offsets};
+use taskfile::{Field, Instruction, Kind, offsets};
 
-// Are the n bytes of record r from byte k on zero, where the file has them all?
-pub fn zero_within(file: &[u8], r: u8, k: u8, n: u8) -> bool
-    requires { (k + n ≤ 16) × (16 * r + k + n ≤ length file.now) }
-    ensures { result ≡ zero_from file.now r k n }
-{
-    let start = RECORD * (r as usize);
-    let mut j = k;
-    let mut left = n;
-    while 0 < left {
-        let at = start + (j as usize);
-        if file[at] != 0 {
-            return false;
-        }
-        j += 1;
-        left -= 1;
-    }
-    true
-}
-
-// The same, where the file may end before them. Whether it does is tested once, and not for each byte.
+// Are the n bytes of record r from byte k on zero? Those past the file's end are.
 pub fn zero_from(file: &[u8], r: u8, k: u8, n: u8) -> bool
-    requires { k + n ≤ 16 }
     ensures { result ≡ zero_from file.now r k n }
 {
-    if RECORD * (r as usize) + (k as usize) + (n as usize) <= file.len() {
-        return zero_within(file, r, k, n);
-    }
-    let mut j = k;
-    let mut left = n;
-    while 0 < left {
-        if byte_at(file, r, j) != 0 {
-            return false;
-        }
-        j += 1;
-        left -= 1;
-    }
-    true
+    let start = (RECORD * (r as usize) + (k as usize)).min(file.len());
+    let end = (start + (n as usize)).min(file.len());
+    file[start..end].iter().all(|&byte| byte == 0)
 }
 
 // The largest value of a field by what the operation uses it for, or 0 where it is unused. "lock numbers are left to
@@ -109,9 +79,8 @@ const LIMITS: [u8; 3 * OPERATIONS] = [
     UNUSED, // Assert
 ];
 
-// The largest value of a field of an operation, 0 to 2 for a to c.
-pub fn limit(operation: u8, field: u8) -> u8
-    requires { field ≤ 2 }
+// The largest value of a field of an operation.
+pub fn limit(operation: u8, field: Field) -> u8
     ensures { result ≡ limit_of (field_of field (uses_of operation)) }
 {
     let o = operation as usize;
@@ -123,74 +92,56 @@ pub fn limit(operation: u8, field: u8) -> u8
 }
 
 // Is a field zero, if the operation does not use it?
-pub fn tidy_field(operation: u8, field: u8, x: u8) -> bool
-    requires { field ≤ 2 }
+pub fn tidy_field(operation: u8, field: Field, x: u8) -> bool
     ensures { result ≡ tidy_field (field_of field (uses_of operation)) x }
 {
-    if limit(operation, field) == 0 {
-        x == 0
-    } else {
-        true
-    }
+    limit(operation, field) != UNUSED || x == 0
 }
 
 // Is a field in range, if the operation uses it?
-pub fn field_in_range(operation: u8, field: u8, x: u8) -> bool
-    requires { field ≤ 2 }
+pub fn field_in_range(operation: u8, field: Field, x: u8) -> bool
     ensures { result ≡ field_in_range (field_of field (uses_of operation)) x }
 {
     let most = limit(operation, field);
-    if most == 0 { true } else { x <= most }
+    most == UNUSED || x <= most
 }
 
+#[tactic(auto, unfolding(taskfile::specs::Records::tidy_instruction, taskfile::specs::Code::RecordFields::field_of))]
 pub fn tidy_instruction(i: Instruction) -> bool
     ensures { result ≡ tidy_instruction i }
 {
-    if !tidy_field(i.operation, 0, i.a) {
-        return false;
-    }
-    if !tidy_field(i.operation, 1, i.b) {
-        return false;
-    }
-    tidy_field(i.operation, 2, i.c)
+    tidy_field(i.operation, Field::A, i.a)
+        && tidy_field(i.operation, Field::B, i.b)
+        && tidy_field(i.operation, Field::C, i.c)
 }
 
+#[tactic(auto, unfolding(taskfile::specs::Records::fields_in_range, taskfile::specs::Records::operation_uses, taskfile::specs::Code::RecordFields::field_of))]
 pub fn fields_in_range(i: Instruction) -> bool
     ensures { result ≡ fields_in_range i }
 {
-    if MOST_OPERATIONS <= i.operation {
-        return false;
-    }
-    if !field_in_range(i.operation, 0, i.a) {
-        return false;
-    }
-    if !field_in_range(i.operation, 1, i.b) {
-        return false;
-    }
-    field_in_range(i.operation, 2, i.c)
+    i.operation < MOST_OPERATIONS
+        && field_in_range(i.operation, Field::A, i.a)
+        && field_in_range(i.operation, Field::B, i.b)
+        && field_in_range(i.operation, Field::C, i.c)
 }
 
 // Is a Pick's lowest value c at most its highest value b?
+#[tactic(auto, unfolding(taskfile::specs::Records::choice_in_range))]
 pub fn choice_in_range(i: Instruction) -> bool
     ensures { result ≡ choice_in_range i }
 {
-    if i.operation == PICK {
-        i.c <= i.b
-    } else {
-        true
-    }
+    i.operation != PICK || i.c <= i.b
 }
 
+#[tactic(auto, unfolding(taskfile::specs::Records::instruction_in_range))]
 pub fn instruction_in_range(i: Instruction) -> bool
     ensures { result ≡ instruction_in_range i }
 {
-    if !fields_in_range(i) {
-        return false;
-    }
-    choice_in_range(i)
+    fields_in_range(i) && choice_in_range(i)
 }
 
 // Are the unused bytes of a record of this kind zero?
+#[tactic(auto, unfolding(taskfile::specs::Records::tidy))]
 pub fn tidy_record(file: &[u8], r: u8, kind: Kind) -> bool
     ensures { result ≡ tidy file.now r kind }
 {
@@ -198,31 +149,28 @@ pub fn tidy_record(file: &[u8], r: u8, kind: Kind) -> bool
         Kind::Header => byte_at(file, r, offsets::NEXT) == 0,
         Kind::TaskRecord => byte_at(file, r, offsets::TASK_UNUSED) == 0,
         Kind::LockRecord => {
-            if byte_at(file, r, offsets::LOCK_UNUSED) != 0 {
-                return false;
-            }
-            zero_from(
-                file,
-                r,
-                offsets::LOCK_UNUSED_LAST,
-                offsets::LOCK_UNUSED_LAST_BYTES,
-            )
+            byte_at(file, r, offsets::LOCK_UNUSED) == 0
+                && zero_from(
+                    file,
+                    r,
+                    offsets::LOCK_UNUSED_LAST,
+                    offsets::LOCK_UNUSED_LAST_BYTES,
+                )
         }
         Kind::InstructionRecord => {
-            if !tidy_instruction(instruction_at(file, r)) {
-                return false;
-            }
-            zero_from(
-                file,
-                r,
-                offsets::INSTRUCTION_UNUSED,
-                offsets::INSTRUCTION_UNUSED_BYTES,
-            )
+            tidy_instruction(instruction_at(file, r))
+                && zero_from(
+                    file,
+                    r,
+                    offsets::INSTRUCTION_UNUSED,
+                    offsets::INSTRUCTION_UNUSED_BYTES,
+                )
         }
     }
 }
 
 // Are the values of a record of this kind in range?
+#[tactic(auto, unfolding(taskfile::specs::Records::in_range))]
 pub fn record_in_range(file: &[u8], r: u8, kind: Kind) -> bool
     ensures { result ≡ in_range file.now r kind }
 {
@@ -230,10 +178,7 @@ pub fn record_in_range(file: &[u8], r: u8, kind: Kind) -> bool
         Kind::Header => 1 <= wide_at(file, r, offsets::WINDOW),
         Kind::TaskRecord => {
             let execution = wide_at(file, r, offsets::EXECUTION);
-            if execution < 1 {
-                return false;
-            }
-            execution <= wide_at(file, r, offsets::PERIOD)
+            1 <= execution && execution <= wide_at(file, r, offsets::PERIOD)
         }
         Kind::LockRecord => byte_at(file, r, offsets::CEILING) <= HIGHEST_CEILING,
         Kind::InstructionRecord => instruction_in_range(instruction_at(file, r)),

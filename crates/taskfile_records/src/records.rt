@@ -1,10 +1,10 @@
-// The records of a task file: bytes, wide fields, instructions and kinds, and what fills a table's arrays up.
-ghost use Rattle.std.specs.Prelude.{◌≡◌, ◌+◌, ◌*◌, ◌≤◌};
-ghost use Rattle.taskfile.specs.Records.{byte_at, wide_at, instruction_at, kind_number};
+// The records of a task file: bytes, wide fields and instructions, and what fills a table's arrays up.
+ghost use Rattle.std.specs.Prelude.{◌≡◌, ◌≤◌};
+ghost use Rattle.taskfile.specs.Records.{byte_at, wide_at, instruction_at};
 ghost use Rattle.taskfile.specs.Tables.{end_instruction, no_task};
 
 use taskfile::limits::{INSTRUCTIONS, RECORD};
-use taskfile::{Instruction, Kind, TaskEntry, kinds, offsets, operations};
+use taskfile::{Instruction, TaskEntry, offsets, operations};
 
 // Byte k of record r, or 0 past the file's end.
 pub fn byte_at(file: &[u8], r: u8, k: u8) -> u8
@@ -12,13 +12,6 @@ pub fn byte_at(file: &[u8], r: u8, k: u8) -> u8
 {
     let at = RECORD * (r as usize) + (k as usize);
     if at < file.len() { file[at] } else { 0 }
-}
-
-// Four bytes as an unsigned number of 32 bits, low byte first.
-pub fn wide_of(a: u8, b: u8, c: u8, d: u8) -> u32
-    ensures { result ≡ a + 256 * b + 65536 * c + 16777216 * d }
-{
-    (a as u32) + 256 * (b as u32) + 65536 * (c as u32) + 16777216 * (d as u32)
 }
 
 // The unsigned 32-bit field that starts at byte k of record r, low byte first. One test serves all four bytes of a
@@ -29,14 +22,14 @@ pub fn wide_at(file: &[u8], r: u8, k: u8) -> u32
 {
     let at = RECORD * (r as usize) + (k as usize);
     if at + 3 < file.len() {
-        return wide_of(file[at], file[at + 1], file[at + 2], file[at + 3]);
+        return u32::from_le_bytes([file[at], file[at + 1], file[at + 2], file[at + 3]]);
     }
-    wide_of(
+    u32::from_le_bytes([
         byte_at(file, r, k),
         byte_at(file, r, k + 1),
         byte_at(file, r, k + 2),
         byte_at(file, r, k + 3),
-    )
+    ])
 }
 
 // The instruction of record r. One test serves all four bytes of one that the file has whole.
@@ -76,23 +69,11 @@ pub fn end_instruction() -> Instruction
 pub fn empty_task() -> TaskEntry
     ensures { result ≡ no_task }
 {
-    let end = end_instruction();
     TaskEntry {
         execution: 0,
         period: 0,
         arrival: 0,
         length: 0,
-        body: [end; INSTRUCTIONS],
-    }
-}
-
-pub fn kind_number(kind: Kind) -> u8
-    ensures { result ≡ kind_number kind }
-{
-    match kind {
-        Kind::Header => kinds::HEADER,
-        Kind::TaskRecord => kinds::TASK,
-        Kind::LockRecord => kinds::LOCK,
-        Kind::InstructionRecord => kinds::INSTRUCTION,
+        body: [end_instruction(); INSTRUCTIONS],
     }
 }

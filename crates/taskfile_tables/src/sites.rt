@@ -10,10 +10,8 @@ pub fn link_after(file: &[u8], index: u8, n: u8) -> u8
     ensures { result ≡ link_after file.now index n }
 {
     let mut at = index;
-    let mut left = n;
-    while 0 < left {
+    for i in 0..n {
         at = next_at(file, at);
-        left -= 1;
     }
     at
 }

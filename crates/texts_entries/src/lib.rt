@@ -1,38 +1,39 @@
 // Both conversions, of a file to its text and of a text to its file. Document 02, E5.
 #![tactic(auto)]
 
-ghost use Rattle.std.specs.Prelude.{◌≡◌, ◌<◌};
-ghost use Rattle.texts.specs.TextEntries.{line_of_record, to_file_answer, to_file_after, to_text_answer, to_text_after};
+ghost use Rattle.std.specs.Prelude.{◌≡◌, ◌<◌, length as count};
+ghost use Rattle.notation.specs.Checked.{mapped};
+ghost use Rattle.taskfile.specs.Code.Refusals.{outcome};
+ghost use Rattle.texts.specs.TextEntries.{line_of_record, to_file_answer, to_file_after};
+ghost use Rattle.texts.specs.TextEntries.{texted, to_text_answer, to_text_after};
 
-use taskfile::Check;
-use taskfile::numbers::{LONG, ROOM};
+use taskfile::refusals::{Refusal, Refused};
 use texts::TEXT_ROOM;
 use texts_lines::all_lines::put_text;
 use texts_tables::text_reader::read_text;
 use timing_acceptance::entries::accept_file;
 use writer::WriteAnswer;
-use writer_entries::{refused_record, refused_write, write_table};
+use writer_entries::{answered, refused, write_table};
+
+// Writes a file's text, and answers its length.
+pub fn write_text(file: &[u8], text: &mut [u8]) -> Result<u32, Refused<u8>>
+    ensures answer { outcome result ≡ mapped count (texted file.now text.old) }
+    ensures written { text.new ≡ to_text_after file.now text.old }
+{
+    let accepted = accept_file(file)?;
+    if text.len() < TEXT_ROOM {
+        return Err(Refusal::Room.at(0));
+    }
+    let n = put_text(accepted.table, text);
+    Ok(n as u32)
+}
 
 // A file's text.
 pub fn file_to_text(file: &[u8], text: &mut [u8]) -> WriteAnswer
     ensures answer { result ≡ to_text_answer file.now text.old }
     ensures written { text.new ≡ to_text_after file.now text.old }
 {
-    let accepted = accept_file(file);
-    let check = accepted.check;
-    if let Check::Refused(number, place) = check {
-        return refused_record(number, place);
-    }
-    if text.len() < TEXT_ROOM {
-        return refused_write(ROOM, 0);
-    }
-    let t = accepted.table;
-    let n = put_text(t, text);
-    WriteAnswer {
-        number: 0,
-        place: 0,
-        length: n as u32,
-    }
+    answered(write_text(file, text))
 }
 
 // The answer with its place led from a record to its line: two lines stand for the header.
@@ -56,13 +57,10 @@ pub fn text_to_file(text: &[u8], file: &mut [u8]) -> WriteAnswer
     ensures written { file.new ≡ to_file_after text.now file.old }
 {
     if text.len() > TEXT_ROOM {
-        return refused_write(LONG, 0);
+        return refused(Refusal::Long.at(0));
     }
-    let read = read_text(text);
-    if read.number != 0 {
-        return refused_write(read.number, read.line);
+    match read_text(text) {
+        Ok(t) => at_line(write_table(t, file)),
+        Err(e) => refused(e),
     }
-    let t = read.table;
-    let written = write_table(t, file);
-    at_line(written)
 }

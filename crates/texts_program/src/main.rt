@@ -8,7 +8,8 @@ ghost use Rattle.texts.specs.Turned.{begins_text, turned};
 ghost use Rattle.texts_program.specs.Code.Conversions.{ConvertedAs};
 
 use notation_buffers::fill_front;
-use sheets_printing::put_refused;
+use notation_buffers::pages::Page;
+use sheets_printing::lines::put_refused;
 use std::io::{self, Write};
 use texts::TEXT_ROOM;
 use texts_entries::{file_to_text, text_to_file};
@@ -23,10 +24,7 @@ const FIRST_LETTER: u8 = b'w';
 fn begins_text(bytes: &[u8]) -> bool
     ensures { result ≡ begins_text bytes.now }
 {
-    if bytes.len() == 0 {
-        return false;
-    }
-    bytes[0] == FIRST_LETTER
+    !bytes.is_empty() && bytes[0] == FIRST_LETTER
 }
 
 // A text's file, or a file's text.
@@ -34,9 +32,10 @@ fn convert(bytes: &[u8], out: &mut [u8]) -> WriteAnswer
     ensures { ConvertedAs bytes.now out.old result out.new }
 {
     if begins_text(bytes) {
-        return text_to_file(bytes, out);
+        text_to_file(bytes, out)
+    } else {
+        file_to_text(bytes, out)
     }
-    file_to_text(bytes, out)
 }
 
 // Puts what is to be printed at the front of the room, and answers how many bytes that is.
@@ -47,7 +46,9 @@ fn turn(bytes: &[u8], out: &mut [u8]) -> usize
 {
     let x = convert(bytes, out);
     if x.number != 0 {
-        return put_refused(x.number as u64, x.place as u64, 0, out);
+        let mut page = Page::new(out);
+        put_refused(&mut page, u64::from(x.number), u64::from(x.place));
+        return page.written();
     }
     x.length as usize
 }

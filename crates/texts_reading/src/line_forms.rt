@@ -1,44 +1,91 @@
 // The forms of a line: which one a word names, at which stages it may come, how many numbers it has, and how large.
 ghost use Rattle.std.specs.Prelude.{◌≡◌, ◌<◌, length, get_or, take};
-ghost use Rattle.notation.specs.Lists.{same};
 ghost use Rattle.texts.specs.Grammar.{row_of, may_come, fits};
 ghost use Rattle.texts.specs.Reading.{form_named};
 ghost use Rattle.texts.specs.Code.LineParts.{named_of};
-ghost use Rattle.texts_reading.specs.Code.FormParts.{form_number, operation_named};
+ghost use Rattle.texts_reading.specs.Code.FormParts.{stage_number, operation_named};
 
-use crate::numerals::is_word;
-use taskfile::limits::{MOST_OPERATIONS, OPERATIONS};
-use texts::{Form, NUMBERS, Named};
+use taskfile::limits::OPERATIONS;
+use texts::{Form, NUMBERS};
 
 // How far a text has come: the window is due; the start values are due; a task or a lock may come; after a task line,
 // an instruction too; after a lock, locks alone.
-pub const AT_WINDOW: u8 = 0;
+#[derive(Clone, Copy, PartialEq, Eq, PartialOrd, Ord)]
+pub enum Stage {
+    Window,
+    Start,
+    Tasks,
+    Body,
+    Locks,
+}
 
-pub const AT_START: u8 = 1;
+// The words that lines of the other forms begin with.
+const WINDOW: &[u8] = b"window";
 
-pub const AT_TASKS: u8 = 2;
+const START: &[u8] = b"start";
 
-pub const IN_BODY: u8 = 3;
+const TASK: &[u8] = b"task";
 
-pub const AT_LOCKS: u8 = 4;
+const LOCK: &[u8] = b"lock";
 
-// The first and the last stage at which a line may come, and the stage after it: of the window's line, the start
-// values', a task's, an instruction's and a lock's.
-const FORMS: usize = 5;
+// An operation's line: its name, and how many of the fields a, b and c it has.
+#[derive(Clone, Copy)]
+pub struct OperationLine {
+    pub name: &'static [u8],
+    pub fields: usize,
+}
 
-const EARLIEST: [u8; FORMS] = [AT_WINDOW, AT_START, AT_TASKS, IN_BODY, AT_TASKS];
-
-const LATEST: [u8; FORMS] = [AT_WINDOW, AT_START, IN_BODY, IN_BODY, AT_LOCKS];
-
-const STAGE_AFTER: [u8; FORMS] = [AT_START, AT_TASKS, IN_BODY, IN_BODY, AT_LOCKS];
-
-// The operations' names in the order of their numbers, each with spaces after it, and how long each is.
-pub const NAME_WIDTH: usize = 8;
-
-pub const NAMES: [u8; NAME_WIDTH * OPERATIONS] =
-    *b"end     load    store   set     add     subtractless    equal   pick    acquire release assert  ";
-
-pub const NAME_LENGTHS: [u8; OPERATIONS] = [3, 4, 5, 3, 3, 8, 4, 5, 4, 7, 7, 6];
+// The operations' lines in the order of their numbers.
+const OPERATION_LINES: [OperationLine; OPERATIONS] = [
+    OperationLine {
+        name: b"end",
+        fields: 0,
+    },
+    OperationLine {
+        name: b"load",
+        fields: 2,
+    },
+    OperationLine {
+        name: b"store",
+        fields: 2,
+    },
+    OperationLine {
+        name: b"set",
+        fields: 2,
+    },
+    OperationLine {
+        name: b"add",
+        fields: 2,
+    },
+    OperationLine {
+        name: b"subtract",
+        fields: 2,
+    },
+    OperationLine {
+        name: b"less",
+        fields: 3,
+    },
+    OperationLine {
+        name: b"equal",
+        fields: 3,
+    },
+    OperationLine {
+        name: b"pick",
+        fields: 3,
+    },
+    OperationLine {
+        name: b"acquire",
+        fields: 1,
+    },
+    OperationLine {
+        name: b"release",
+        fields: 1,
+    },
+    OperationLine {
+        name: b"assert",
+        fields: 1,
+    },
+];
 
 // How many fields a line has.
 const WINDOW_FIELDS: usize = 1;
@@ -47,15 +94,12 @@ const TASK_FIELDS: usize = 3;
 
 const LOCK_FIELDS: usize = 2;
 
-// The same of each operation's line.
-const OPERATION_FIELDS: [usize; OPERATIONS] = [0, 2, 2, 2, 2, 2, 3, 3, 3, 1, 1, 1];
-
 // A field holds numbers below its limit: a byte, or 32 bits.
 const BYTE_FIELD: u64 = 256;
 
 const WIDE_FIELD: u64 = 4294967296;
 
-// The row of an operation in the tables above: End's past the operations.
+// The place of an operation's line in the table above: End's past the operations.
 pub fn operation_row(operation: u8) -> usize
     ensures { (result < 12) × (row_of (Form.InstructionLine result) ≡ row_of (Form.InstructionLine operation)) }
 {
@@ -63,48 +107,39 @@ pub fn operation_row(operation: u8) -> usize
     if o < OPERATIONS { o } else { 0 }
 }
 
+// An operation's line. One above 11 is taken as End.
+pub fn operation_line(operation: u8) -> OperationLine
+    ensures name { result.name.now ≡ (row_of (Form.InstructionLine operation)).word }
+    ensures fields { result.fields ≡ length (row_of (Form.InstructionLine operation)).fields }
+{
+    OPERATION_LINES[operation_row(operation)]
+}
+
 // The form of an instruction by its name.
-fn operation_named(word: &[u8]) -> Named
+fn operation_named(word: &[u8]) -> Option<Form>
     ensures { result ≡ named_of (operation_named word.now) }
 {
-    let mut operation: u8 = 0;
-    while operation < MOST_OPERATIONS {
-        let row = operation as usize;
-        let start = NAME_WIDTH * row;
-        let end = start + NAME_LENGTHS[row] as usize;
-        if is_word(word, &NAMES[start..end]) {
-            return Named::As(Form::InstructionLine(operation));
-        }
-        operation += 1;
+    match OPERATION_LINES.iter().position(|line| line.name == word) {
+        Some(operation) => Some(Form::InstructionLine(operation as u8)),
+        None => None,
     }
-    Named::Unknown
 }
 
 // The form whose lines begin with a word.
-pub fn form_named(word: &[u8]) -> Named
+pub fn form_named(word: &[u8]) -> Option<Form>
     ensures { result ≡ named_of (form_named word.now) }
 {
-    if is_word(word, b"window") {
-        return Named::As(Form::WindowLine);
+    if word == WINDOW {
+        Some(Form::WindowLine)
+    } else if word == START {
+        Some(Form::StartLine)
+    } else if word == TASK {
+        Some(Form::TaskLine)
+    } else if word == LOCK {
+        Some(Form::LockLine)
+    } else {
+        operation_named(word)
     }
-    if is_word(word, b"start") {
-        return Named::As(Form::StartLine);
-    }
-    if is_word(word, b"task") {
-        return Named::As(Form::TaskLine);
-    }
-    if is_word(word, b"lock") {
-        return Named::As(Form::LockLine);
-    }
-    operation_named(word)
-}
-
-// How many fields an operation's line has.
-fn operation_fields(operation: u8) -> usize
-    ensures { result ≡ length (row_of (Form.InstructionLine operation)).fields }
-{
-    let row = operation_row(operation);
-    OPERATION_FIELDS[row]
 }
 
 // How many fields a line of a form has.
@@ -115,56 +150,44 @@ pub fn field_count(form: Form) -> usize
         Form::WindowLine => WINDOW_FIELDS,
         Form::StartLine => NUMBERS,
         Form::TaskLine => TASK_FIELDS,
-        Form::InstructionLine(operation) => operation_fields(operation),
+        Form::InstructionLine(operation) => operation_line(operation).fields,
         Form::LockLine => LOCK_FIELDS,
     }
 }
 
-// The number of a form in the tables of the stages.
-fn form_number(form: Form) -> usize
-    ensures { (result < 5) × (result ≡ form_number form) }
+// The first and the last stage at which a line of a form may come.
+fn stages_of(form: Form) -> (Stage, Stage)
+    ensures earliest { stage_number result.0 ≡ (row_of form).earliest }
+    ensures latest { stage_number result.1 ≡ (row_of form).latest }
 {
     match form {
-        Form::WindowLine => 0,
-        Form::StartLine => 1,
-        Form::TaskLine => 2,
-        Form::InstructionLine(_) => 3,
-        Form::LockLine => 4,
+        Form::WindowLine => (Stage::Window, Stage::Window),
+        Form::StartLine => (Stage::Start, Stage::Start),
+        Form::TaskLine => (Stage::Tasks, Stage::Body),
+        Form::InstructionLine(_) => (Stage::Body, Stage::Body),
+        Form::LockLine => (Stage::Tasks, Stage::Locks),
     }
-}
-
-// The first stage at which a line of a form may come.
-fn earliest(form: Form) -> u8
-    ensures { result ≡ (row_of form).earliest }
-{
-    let k = form_number(form);
-    EARLIEST[k]
-}
-
-// The last stage at which a line of a form may come.
-fn latest(form: Form) -> u8
-    ensures { result ≡ (row_of form).latest }
-{
-    let k = form_number(form);
-    LATEST[k]
 }
 
 // May a line of a form come at this stage?
-pub fn may_come(form: Form, stage: u8) -> bool
-    ensures { result ≡ may_come stage (row_of form) }
+pub fn may_come(form: Form, stage: Stage) -> bool
+    ensures { result ≡ may_come (stage_number stage) (row_of form) }
 {
-    if stage < earliest(form) {
-        return false;
-    }
-    stage <= latest(form)
+    let (earliest, latest) = stages_of(form);
+    earliest <= stage && stage <= latest
 }
 
 // The stage after a line of a form.
-pub fn stage_after(form: Form) -> u8
-    ensures { result ≡ (row_of form).stage }
+pub fn stage_after(form: Form) -> Stage
+    ensures { stage_number result ≡ (row_of form).stage }
 {
-    let k = form_number(form);
-    STAGE_AFTER[k]
+    match form {
+        Form::WindowLine => Stage::Start,
+        Form::StartLine => Stage::Tasks,
+        Form::TaskLine => Stage::Body,
+        Form::InstructionLine(_) => Stage::Body,
+        Form::LockLine => Stage::Locks,
+    }
 }
 
 // The limit of field k of a form.
@@ -185,13 +208,5 @@ fn field_limit(form: Form, k: usize) -> u64
 pub fn numbers_fit(form: Form, values: [u64; NUMBERS]) -> bool
     ensures { result ≡ fits (row_of form).fields (take (length (row_of form).fields) values) }
 {
-    let count = field_count(form);
-    let mut k: usize = 0;
-    while k < count {
-        if field_limit(form, k) <= values[k] {
-            return false;
-        }
-        k += 1;
-    }
-    true
+    (0..field_count(form)).all(|k| values[k] < field_limit(form, k))
 }

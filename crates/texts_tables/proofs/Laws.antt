@@ -1,4 +1,3 @@
 pub mod LineAnswerLaws
-pub mod OverfullLaws
 pub mod PartFieldLaws
 pub mod TextReadLaws

@@ -1,3 +1,2 @@
-pub mod Overfull
 pub mod PartFields
 pub mod TableReading

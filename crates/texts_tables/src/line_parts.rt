@@ -1,21 +1,18 @@
 // The table that the lines of a text spell: a table with one line's part added. Document 02, E5.
-ghost use Rattle.std.specs.Prelude.{◌≡◌, ℕ, ◌-◌, ◌≤◌, true, List, []};
+ghost use Rattle.std.specs.Prelude.{◌≡◌, ◌-◌, ◌≤◌, [], get_or, set};
 ghost use Rattle.notation.specs.Lists.{bytes_at};
-ghost use Rattle.taskfile.specs.declared.Instruction.{Instruction};
+ghost use Rattle.taskfile.specs.Tables.{no_task};
 ghost use Rattle.texts.specs.declared.Form.TheVariants.{StartLine, TaskLine, InstructionLine, LockLine};
-ghost use Rattle.texts.specs.Code.AddedLines.{counted, with_window, with_store, add_task};
+ghost use Rattle.texts.specs.Code.AddedLines.{counted, add_task};
 ghost use Rattle.texts.specs.Code.AddedLines.{longer_task, add_instruction, add_lock, add_part};
 ghost use Rattle.texts.specs.TextTables.{instruction_with, task_with, lock_with};
-ghost use Rattle.texts_tables.specs.Code.Overfull.{body_over, adds_nothing};
 ghost use Rattle.texts_tables.specs.Code.PartFields.{PartFits};
 ghost use Rattle.taskfile.specs.Chains.{most_instructions};
 
-use taskfile::limits::{
-    INSTRUCTIONS, LOCKS, MOST_INSTRUCTIONS, MOST_LOCKS, MOST_TASKS, TASKS, VARIABLES,
-};
+use taskfile::limits::{MOST_INSTRUCTIONS, MOST_LOCKS, MOST_TASKS, VARIABLES};
 use taskfile::{Instruction, Table, TaskEntry};
 use taskfile_records::records::empty_task;
-use texts::{Form, NUMBERS};
+use texts::{Form, NUMBERS, ReadLine};
 use writer::Lock;
 
 // One more, and never more than one too many.
@@ -23,81 +20,69 @@ pub fn one_more(count: u8, most: u8) -> u8
     requires { most ≤ most_instructions }
     ensures { result ≡ counted most count }
 {
-    if count < most { count + 1 } else { most + 1 }
+    count.min(most) + 1
 }
 
-pub fn with_window(mut t: Table, window: u32) -> Table
-    ensures { result ≡ with_window t window }
+// Stores an element at its place, if the array has it.
+fn keep<T: Copy>(array: &mut [T], at: u8, x: T)
+    ensures { array.new ≡ set array.old at x }
 {
-    t.window = window;
-    t
-}
-
-pub fn with_store(mut t: Table, store: [u8; VARIABLES]) -> Table
-    ensures { result ≡ with_store t store }
-{
-    t.store = store;
-    t
-}
-
-// The table with one task more. A ninth is counted and not kept, and so is any after it.
-pub fn add_task(mut t: Table, e: TaskEntry) -> Table
-    ensures { result ≡ add_task t e }
-{
-    let at = t.tasks as usize;
-    t.tasks = one_more(t.tasks, MOST_TASKS);
-    if at < TASKS {
-        t.entries[at] = e;
+    let at = usize::from(at);
+    if at < array.len() {
+        array[at] = x;
     }
-    t
 }
 
-// A task with one instruction more, of which a seventeenth is counted and not kept.
-pub fn longer_task(mut e: TaskEntry, i: Instruction) -> TaskEntry
-    ensures { result ≡ longer_task e i }
+// Adds a task. A ninth is counted and not kept, and so is any after it.
+pub fn add_task(t: &mut Table, e: TaskEntry)
+    ensures { t.new ≡ add_task t.old e }
 {
-    let at = e.length as usize;
-    e.length = one_more(e.length, MOST_INSTRUCTIONS);
-    if at < INSTRUCTIONS {
-        e.body[at] = i;
+    let at = t.tasks;
+    keep(&mut t.entries, at, e);
+    t.tasks = one_more(at, MOST_TASKS);
+}
+
+// Adds an instruction to a task. A seventeenth is counted and not kept.
+pub fn longer_task(e: &mut TaskEntry, i: Instruction)
+    ensures { e.new ≡ longer_task e.old i }
+{
+    let at = e.length;
+    keep(&mut e.body, at, i);
+    e.length = one_more(at, MOST_INSTRUCTIONS);
+}
+
+// Adds an instruction to the task at a place, if the array has it.
+fn longer_at(entries: &mut [TaskEntry], at: usize, i: Instruction)
+    ensures { entries.new ≡ set entries.old at (longer_task (get_or entries.old at no_task) i) }
+{
+    if at < entries.len() {
+        longer_task(&mut entries[at], i);
     }
-    e
 }
 
 // The number of the task that came last, or 0 where none came.
 pub fn last_task(tasks: u8) -> usize
     ensures { result ≡ tasks - 1 }
 {
-    if tasks == 0 {
-        return 0;
-    }
-    let last = tasks - 1;
-    last as usize
+    usize::from(tasks.saturating_sub(1))
 }
 
-// The table with one instruction more in the body of the task that came last.
-pub fn add_instruction(mut t: Table, i: Instruction) -> Table
-    ensures { result ≡ add_instruction t i }
+// Adds an instruction to the body of the task that came last.
+pub fn add_instruction(t: &mut Table, i: Instruction)
+    ensures { t.new ≡ add_instruction t.old i }
 {
     let last = last_task(t.tasks);
-    if last < TASKS {
-        let e = t.entries[last];
-        t.entries[last] = longer_task(e, i);
-    }
-    t
+    longer_at(&mut t.entries, last, i);
 }
 
-// The table with one lock more, of which a ninth is counted and not kept.
-pub fn add_lock(mut t: Table, lock: Lock) -> Table
-    ensures { result ≡ add_lock t lock }
+// Adds a lock. A ninth is counted and not kept, and so is any after it.
+pub fn add_lock(t: &mut Table, lock: Lock)
+    ensures { t.new ≡ add_lock t.old lock }
 {
-    let at = t.locks as usize;
-    t.locks = one_more(t.locks, MOST_LOCKS);
-    if at < LOCKS {
-        t.ceilings[at] = lock.ceiling;
-        t.holdings[at] = lock.holding;
-    }
-    t
+    let at = t.locks;
+    keep(&mut t.ceilings, at, lock.ceiling);
+    keep(&mut t.holdings, at, lock.holding);
+    t.locks = one_more(at, MOST_LOCKS);
 }
 
 // A task's line: its times, and no instruction yet.
@@ -105,14 +90,13 @@ pub fn task_with(numbers: [u64; NUMBERS]) -> TaskEntry
     requires { PartFits TaskLine numbers }
     ensures { result ≡ task_with numbers [] }
 {
-    let none = empty_task();
-    let body = none.body;
+    let body = empty_task().body;
     TaskEntry {
         execution: numbers[0] as u32,
         period: numbers[1] as u32,
         arrival: numbers[2] as u32,
         length: 0,
-        body: body,
+        body,
     }
 }
 
@@ -122,7 +106,7 @@ pub fn instruction_with(operation: u8, numbers: [u64; NUMBERS]) -> Instruction
     ensures { result ≡ instruction_with operation numbers }
 {
     Instruction {
-        operation: operation,
+        operation,
         a: numbers[0] as u8,
         b: numbers[1] as u8,
         c: numbers[2] as u8,
@@ -145,58 +129,27 @@ pub fn store_with(numbers: [u64; NUMBERS]) -> [u8; VARIABLES]
     requires { PartFits StartLine numbers }
     ensures { result ≡ bytes_at numbers 0 8 }
 {
-    [
-        numbers[0] as u8,
-        numbers[1] as u8,
-        numbers[2] as u8,
-        numbers[3] as u8,
-        numbers[4] as u8,
-        numbers[5] as u8,
-        numbers[6] as u8,
-        numbers[7] as u8,
-    ]
+    let mut store = [0; VARIABLES];
+    for v in 0..VARIABLES {
+        store[v] = numbers[v] as u8;
+    }
+    store
 }
 
-// The table with a line's part added.
-pub fn add_part(t: Table, form: Form, numbers: [u64; NUMBERS]) -> Table
-    requires { PartFits form numbers }
-    ensures { result ≡ add_part t form numbers }
+// Adds a line's part to a table.
+pub fn add_part(t: &mut Table, line: &ReadLine)
+    requires { PartFits line.now.form line.now.numbers }
+    ensures { t.new ≡ add_part t.old line.now.form line.now.numbers }
 {
-    match form {
-        Form::WindowLine => with_window(t, numbers[0] as u32),
-        Form::StartLine => with_store(t, store_with(numbers)),
+    let numbers = line.numbers;
+    match line.form {
+        Form::WindowLine => t.window = numbers[0] as u32,
+        Form::StartLine => t.store = store_with(numbers),
         Form::TaskLine => add_task(t, task_with(numbers)),
         Form::InstructionLine(operation) => add_instruction(
             t,
             instruction_with(operation, numbers),
         ),
         Form::LockLine => add_lock(t, lock_with(numbers)),
-    }
-}
-
-// Would one instruction more leave the table as it is? Its task was not kept, or its body counts one too many already.
-pub fn instruction_adds_nothing(t: Table) -> bool
-    ensures is { result ≡ body_over t }
-    ensures kept { result ≡ true → (i : Instruction) → add_instruction t i ≡ t }
-{
-    let at = last_task(t.tasks);
-    if TASKS <= at {
-        return true;
-    }
-    let e = t.entries[at];
-    e.length == MOST_INSTRUCTIONS + 1
-}
-
-// Would a line of this form leave the table as it is, whatever its numbers?
-pub fn adds_nothing(t: Table, form: Form) -> bool
-    ensures is { result ≡ adds_nothing t form }
-    ensures kept { result ≡ true → (numbers : List ℕ) → add_part t form numbers ≡ t }
-{
-    match form {
-        Form::WindowLine => false,
-        Form::StartLine => false,
-        Form::TaskLine => false,
-        Form::InstructionLine(_) => instruction_adds_nothing(t),
-        Form::LockLine => false,
     }
 }

@@ -2,12 +2,24 @@
 // and jobs" and "Numbers by who causes them".
 #![tactic(auto)]
 
+ghost use Rattle.std.specs.Prelude.{◌≤◌, ◌<◌};
+ghost use Rattle.taskfile.specs.Code.JudgingParts.{Shaped};
+ghost use Rattle.timing.specs.Accepted.{most_jobs};
+ghost use Rattle.timing.specs.Code.ResponseParts.{TimesOf};
+
 use taskfile::limits::{JOBS, TASKS};
-use taskfile::{Check, Judged, Table, Task};
+use taskfile::{Table, Task};
 
 // A job's number, by task, then by arrival, from 0.
 #[derive(Clone, Copy)]
 pub struct Job(pub u8);
+
+// The number of a job in the list: below 32.
+#[derive(Clone, Copy)]
+pub struct ListedJob {
+    pub number: u8,
+    pub ghost below: { number < most_jobs },
+}
 
 // A job's record in the job list: its task, its arrival and its latest finish. Arrival and response time
 // are below 2^32 each, so their sum wants more than 32 bits. A caller of the C interface lends such records.
@@ -26,18 +38,29 @@ pub struct JobList {
     pub jobs: [JobRecord; JOBS],
 }
 
-// A task's response time, if it is at most the task's period.
+// A table with its job list, as every entry has them of a file that is accepted: the table's arrays are full, and the
+// list has no more jobs than its array.
 #[derive(Clone, Copy)]
-pub enum Bound {
-    Within(u64),
-    Overload,
+pub struct ListedTable {
+    pub table: Table,
+    pub list: JobList,
+    pub ghost shaped: { Shaped table },
+    pub ghost few: { list.count ≤ most_jobs },
 }
 
-// The execution times and the periods of a table's tasks, by task number.
+// What a task asks of the processor: so much time in each of its periods.
 #[derive(Clone, Copy)]
-pub struct TaskTimes {
-    pub executions: [u64; TASKS],
-    pub periods: [u64; TASKS],
+pub struct Timing {
+    pub execution: u64,
+    pub period: u64,
+}
+
+// A table whose times can be worked out, and what each of its tasks asks of the processor, by task number.
+#[derive(Clone, Copy)]
+pub struct TaskTimes<'a> {
+    pub table: &'a Table,
+    pub timings: [Timing; TASKS],
+    pub ghost times_of: { TimesOf table.now timings },
 }
 
 // A fraction of the processor, part of whole, that tasks need at least.
@@ -47,17 +70,9 @@ pub struct Utilisation {
     pub whole: u64,
 }
 
-// The response times of a table, or the first task that has none.
+// What every entry has of a file that is accepted: its table, the response times and the jobs.
 #[derive(Clone, Copy)]
-pub struct Responses {
-    pub check: Judged,
-    pub times: [u64; TASKS],
-}
-
-// What every entry has of a file: its check and, if it passed, its table, the response times and the jobs.
-#[derive(Clone, Copy)]
-pub struct AcceptAnswer {
-    pub check: Check,
+pub struct AcceptedFile {
     pub table: Table,
     pub responses: [u64; TASKS],
     pub list: JobList,

@@ -1,3 +1,4 @@
 pub mod FilledLaws
 pub mod ListedLaws
 pub mod ReadLaws
+pub mod TimedLaws

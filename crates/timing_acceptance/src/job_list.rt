@@ -1,95 +1,36 @@
 // The job list's entry: a file's jobs into a lent list, one record a job. Document 01: "The job list goes into a lent
-// list". What decides and computes stands in functions of its own before those that store.
-ghost use Rattle.std.specs.Prelude.{◌≡◌, ◌≤◌, ◌<◌, length};
-ghost use Rattle.timing.specs.ReadEntries.{list_answer, list_after};
-ghost use Rattle.timing_acceptance.specs.Code.Filled.{job_record_of, list_filled, ListedAs};
+// list".
+ghost use Rattle.std.specs.Prelude.{◌≡◌, ◌≤◌, List, ◌++◌, length, take, drop};
+ghost use Rattle.notation.specs.Checked.{mapped};
+ghost use Rattle.taskfile.specs.Code.Refusals.{outcome};
+ghost use Rattle.timing.specs.declared.JobRecord.{JobRecord};
 ghost use Rattle.timing.specs.Accepted.{most_jobs};
+ghost use Rattle.timing.specs.Code.JobParts.{job_list_of};
+ghost use Rattle.timing.specs.ReadEntries.{listed, list_answer, list_after};
 
 use crate::entries::accept_file;
 use taskfile::limits::JOBS;
-use taskfile::{Check, numbers};
-use timing::{JobRecord, ListAnswer};
-use timing_jobs::no_jobs;
+use taskfile::refusals::{Refusal, Refused};
+use timing::{JobList, JobRecord, ListAnswer};
 
-// What the entry answers, and the records that go into the list: the first of the 32, as many as the answer says.
-#[derive(Clone, Copy)]
-pub struct Listed {
-    pub answer: ListAnswer,
-    pub jobs: [JobRecord; JOBS],
-}
-
-// An answer with no record.
-pub fn refused_list(number: u8, place: u32) -> Listed
-    ensures { result.answer ≡ record { number = number; place = place; jobs = 0 } }
+// The file's jobs for a list with this room, or the refusal of the file or of the room.
+pub fn jobs_for(file: &[u8], room: usize) -> Result<JobList, Refused<u32>>
+    ensures { (list : List JobRecord) → length list ≡ room → outcome result ≡ mapped job_list_of (listed file.now list) }
 {
-    let none = no_jobs();
-    let jobs = none.jobs;
-    Listed {
-        answer: ListAnswer {
-            number: number,
-            place: place,
-            jobs: 0,
-        },
-        jobs: jobs,
-    }
-}
-
-// The answer and the records for a list with this room.
-pub fn jobs_for(file: &[u8], room: usize) -> Listed
-    ensures { ListedAs result file.now room }
-{
-    let accepted = accept_file(file);
-    let check = accepted.check;
-    if let Check::Refused(number, place) = check {
-        return refused_list(number, place as u32);
-    }
+    let accepted = accept_file(file)?;
     if room < JOBS {
-        return refused_list(numbers::ROOM, 0);
+        return Err(Refusal::Room.at(0));
     }
-    let list = accepted.list;
-    let jobs = list.jobs;
-    Listed {
-        answer: ListAnswer {
-            number: 0,
-            place: 0,
-            jobs: list.count,
-        },
-        jobs: jobs,
-    }
+    Ok(accepted.list)
 }
 
-// The answer alone.
-pub fn answer_of(from: Listed) -> ListAnswer
-    ensures { result ≡ from.answer }
+// The jobs go to the start of the list; the records after them keep their contents.
+pub fn fill(list: &mut [JobRecord], jobs: &JobList)
+    requires { (jobs.now.count ≤ most_jobs) × (jobs.now.count ≤ length list.old) }
+    ensures { list.new ≡ take jobs.now.count jobs.now.jobs ++ drop jobs.now.count list.old }
 {
-    from.answer
-}
-
-// How many records there are.
-pub fn count_of(from: Listed) -> usize
-    ensures { result ≡ from.answer.jobs }
-{
-    from.answer.jobs as usize
-}
-
-// One record.
-pub fn record_of(from: Listed, i: usize) -> JobRecord
-    requires { i < most_jobs }
-    ensures { result ≡ job_record_of from i }
-{
-    from.jobs[i]
-}
-
-// The first `count` records into the list, each at its own place.
-pub fn fill(list: &mut [JobRecord], from: Listed, count: usize)
-    requires { (count ≤ most_jobs) × (count ≤ length list.old) }
-    ensures { list.new ≡ list_filled from count list.old }
-{
-    let mut i = 0;
-    while i < count {
-        list[i] = record_of(from, i);
-        i += 1;
-    }
+    let n = jobs.count as usize;
+    list[..n].copy_from_slice(&jobs.jobs[..n]);
 }
 
 // The job list's entry: number and place, how many records it wrote, and those records at the start of the list. The
@@ -98,7 +39,19 @@ pub fn list_jobs(file: &[u8], list: &mut [JobRecord]) -> ListAnswer
     ensures { (result ≡ list_answer file.now list.old)
         × (list.new ≡ list_after file.now list.old) }
 {
-    let listed = jobs_for(file, list.len());
-    fill(list, listed, count_of(listed));
-    answer_of(listed)
+    match jobs_for(file, list.len()) {
+        Ok(jobs) => {
+            fill(list, &jobs);
+            ListAnswer {
+                number: 0,
+                place: 0,
+                jobs: jobs.count,
+            }
+        }
+        Err(refused) => ListAnswer {
+            number: refused.why.number(),
+            place: refused.place,
+            jobs: 0,
+        },
+    }
 }

@@ -1,76 +1,60 @@
-// The demand of a task: the tasks' times in arrays to be lent, interference, and demand.
-ghost use Rattle.std.specs.Prelude.{◌≡◌, ◌^◌, ◌≤◌, ◌<◌};
-ghost use Rattle.taskfile.specs.declared.Table.{Table};
-ghost use Rattle.timing.specs.Response.{tasks_above, interference, need, demand};
-ghost use Rattle.timing.specs.Code.ResponseParts.{Timeable, BoundedTimes, TimesOf};
+// The demand of a task: the tasks' times in an array to be lent, interference, and demand.
+ghost use Rattle.std.specs.Prelude.{◌≡◌, ◌^◌, ◌<◌};
+ghost use Rattle.timing.specs.Response.{tasks_above, interference, demand};
+ghost use Rattle.timing.specs.Code.ResponseParts.{Timeable, NeedOf};
 
 use taskfile::limits::TASKS;
 use taskfile::{Table, Task};
-use timing::TaskTimes;
+use timing::{TaskTimes, Timing};
 use timing_rounding::rounded_up;
 
-// A number of 32 bits as one of 64.
-pub fn wide(x: u32) -> u64
-    ensures { (result ≡ x) × (result < 2 ^ 32) }
-{
-    x as u64
+// A task's response equation: the times of the tasks of its table, and what the task needs beside interference.
+#[derive(Clone, Copy)]
+pub struct Equation<'a> {
+    pub times: &'a TaskTimes<'a>,
+    pub task: Task,
+    pub own: u64,
+    pub ghost inside: { task.0 < times.now.table.now.tasks },
+    pub ghost need: { NeedOf times.now.table.now task own },
 }
 
 // The execution times and periods of a table's tasks, to be lent.
-pub fn times_of(t: Table) -> TaskTimes
-    requires { Timeable t }
-    ensures { TimesOf t result.executions result.periods t.tasks }
+pub fn times_of<'a>(t: &'a Table) -> TaskTimes<'a>
+    requires { Timeable t.now }
+    ensures { result.table ≡ t.entry }
 {
-    let mut executions = [0u64; TASKS];
-    let mut periods = [0u64; TASKS];
-    let mut k: usize = 0;
-    let end = t.tasks as usize;
-    while k < end {
-        let e = t.entries[k];
-        executions[k] = wide(e.execution);
-        periods[k] = wide(e.period);
-        k += 1;
+    let mut timings = [Timing {
+        execution: 0,
+        period: 0,
+    }; TASKS];
+    for (k, e) in t.entries[..t.tasks as usize].iter().enumerate() {
+        timings[k] = Timing {
+            execution: u64::from(e.execution),
+            period: u64::from(e.period),
+        };
     }
-    TaskTimes {
-        executions: executions,
-        periods: periods,
-    }
+    TaskTimes { table: t, timings }
 }
 
-// How long tasks above task i keep the processor in an interval of length r.
-pub fn interference_of(
-    executions: &[u64; TASKS],
-    periods: &[u64; TASKS],
-    tasks: u8,
-    i: Task,
-    r: u64,
-) -> u64
-    requires { BoundedTimes executions.now periods.now tasks × (i.0 < tasks) × (r < 2 ^ 32) }
-    ensures { (result < 2 ^ 36) × ((t : Table)
-        → TimesOf t executions.now periods.now tasks → result ≡ interference (tasks_above t i) r) }
+// How long tasks above the equation's task keep the processor in an interval of length r.
+pub fn interference_of(equation: &Equation, r: u64) -> u64
+    requires { r < 2 ^ 32 }
+    ensures { (result < 2 ^ 36)
+        × (result ≡ interference (tasks_above equation.now.times.now.table.now equation.now.task) r) }
 {
-    let mut total: u64 = 0;
-    let mut k = (i.0 as usize) + 1;
-    let end = tasks as usize;
-    while k < end {
-        total += rounded_up(r, periods[k]) * executions[k];
-        k += 1;
+    let times = equation.times;
+    let mut total = 0;
+    for k in equation.task.0 as usize + 1..times.table.tasks as usize {
+        let Timing { execution, period } = times.timings[k];
+        total += rounded_up(r, period) * execution;
     }
     total
 }
 
-// The demand of task i in an interval of length r: its own need and the interference of the tasks above.
-pub fn demand_of(
-    executions: &[u64; TASKS],
-    periods: &[u64; TASKS],
-    tasks: u8,
-    i: Task,
-    own: u64,
-    r: u64,
-) -> u64
-    requires { BoundedTimes executions.now periods.now tasks × (i.0 < tasks) × (own < 2 ^ 33) × (r < 2 ^ 32) }
-    ensures { (t : Table) → TimesOf t executions.now periods.now tasks
-        → own ≡ need t i → result ≡ demand t i r }
+// The demand in an interval of length r: the task's own need and the interference of the tasks above.
+pub fn demand_of(equation: &Equation, r: u64) -> u64
+    requires { r < 2 ^ 32 }
+    ensures { result ≡ demand equation.now.times.now.table.now equation.now.task r }
 {
-    own + interference_of(executions, periods, tasks, i, r)
+    equation.own + interference_of(equation, r)
 }

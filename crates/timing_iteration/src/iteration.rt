@@ -1,73 +1,47 @@
 // The iteration to the least solution of the response equation from a lower bound of every solution.
-ghost use Rattle.std.specs.Prelude.{◌≡◌, ◌<◌};
+ghost use Rattle.std.specs.Prelude.{◌≡◌};
 ghost use Rattle.timing.specs.Response.{response_of};
-ghost use Rattle.timing.specs.Code.ResponseParts.{TimesOf, NeedOf, bound_of, LowerBound};
+ghost use Rattle.timing.specs.Code.ResponseParts.{bound_of, LowerBound};
 
-use crate::quotients::kept_interference;
+use crate::quotients::{Quotient, kept_interference};
 use taskfile::limits::TASKS;
-use taskfile::{Table, Task};
-use timing::Bound;
-use timing_demands::demands::demand_of;
+use timing_demands::demands::{Equation, demand_of};
 
 // Iterates from a lower bound of every solution to the least solution, or past the period. Of each task above, the
 // periods that begin in the interval are kept from turn to turn, until the interval passes their end.
-pub fn iterate(
-    t: Table,
-    executions: &[u64; TASKS],
-    periods: &[u64; TASKS],
-    i: Task,
-    own: u64,
-    start: u64,
-) -> Bound
-    requires { TimesOf t executions.now periods.now t.tasks × (i.0 < t.tasks) × NeedOf t i own
-        × LowerBound t i start }
-    ensures { result ≡ bound_of (response_of t i) }
+pub fn iterate(equation: &Equation, start: u64) -> Option<u64>
+    requires { LowerBound equation.now.times.now.table.now equation.now.task start }
+    ensures { result ≡ bound_of (response_of equation.now.times.now.table.now equation.now.task) }
 {
-    let at = i.0 as usize;
-    let period = periods[at];
-    let tasks = t.tasks;
-    let mut ends = [0u64; TASKS];
-    let mut busy = [0u64; TASKS];
+    let period = equation.times.timings[equation.task.0 as usize].period;
+    let mut kept = [Quotient { end: 0, busy: 0 }; TASKS];
     let mut r = start;
     while r <= period {
-        let next = own + kept_interference(executions, periods, tasks, i, r, &mut ends, &mut busy);
+        let next = equation.own + kept_interference(equation, r, &mut kept);
         if next == r {
-            return Bound::Within(r);
+            return Some(r);
         }
         r = next;
     }
-    Bound::Overload
+    None
 }
 
 // At most `turns` turns of the iteration from a lower bound.
-pub fn iterate_some(
-    t: Table,
-    executions: &[u64; TASKS],
-    periods: &[u64; TASKS],
-    i: Task,
-    own: u64,
-    start: u64,
-    turns: u8,
-) -> u64
-    requires { TimesOf t executions.now periods.now t.tasks × (i.0 < t.tasks) × NeedOf t i own
-        × LowerBound t i start }
-    ensures { LowerBound t i result }
+pub fn iterate_some(equation: &Equation, start: u64, turns: u8) -> u64
+    requires { LowerBound equation.now.times.now.table.now equation.now.task start }
+    ensures { LowerBound equation.now.times.now.table.now equation.now.task result }
 {
-    let at = i.0 as usize;
-    let period = periods[at];
-    let tasks = t.tasks;
+    let period = equation.times.timings[equation.task.0 as usize].period;
     let mut r = start;
-    let mut left = turns;
-    while 0 < left {
+    for _ in 0..turns {
         if period < r {
             return r;
         }
-        let next = demand_of(executions, periods, tasks, i, own, r);
+        let next = demand_of(equation, r);
         if next == r {
             return r;
         }
         r = next;
-        left -= 1;
     }
     r
 }

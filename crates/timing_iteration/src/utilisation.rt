@@ -1,17 +1,12 @@
 // The utilisation that the tasks above a task need at least.
 ghost use Rattle.std.specs.Prelude.{◌^◌, ◌≤◌, ◌<◌};
 ghost use Rattle.std.specs.Int.{◌∣◌};
-ghost use Rattle.taskfile.specs.declared.Table.{Table};
 ghost use Rattle.timing.specs.Response.{tasks_above};
-ghost use Rattle.timing.specs.Code.ResponseParts.{BoundedTimes, TimesOf, SumFits, WithTask, UtilisationOf};
+ghost use Rattle.timing.specs.Code.ResponseParts.{SumFits, WithTask, UtilisationOf};
 
-use taskfile::Task;
-use taskfile::limits::TASKS;
-use timing::Utilisation;
+use timing::{Timing, Utilisation};
+use timing_demands::demands::Equation;
 use timing_rounding::wide_rounded_up;
-
-// The largest number of 64 bits.
-const LARGEST: u64 = 18446744073709551615;
 
 // The greatest common divisor, by Euclid's algorithm.
 pub fn common_divisor(a: u64, b: u64) -> u64
@@ -34,13 +29,13 @@ pub fn with_rounded(s: Utilisation, c: u64, p: u64, cap: u64) -> Utilisation
     requires { SumFits s c p cap }
     ensures { WithTask s c p cap result }
 {
-    let unit = wide_rounded_up(s.whole, LARGEST / c);
+    let unit = wide_rounded_up(s.whole, u64::MAX / c);
     let whole = wide_rounded_up(s.whole, unit);
     let kept = s.part / unit;
     let added = c * whole / p;
     Utilisation {
         part: kept + added,
-        whole: whole,
+        whole,
     }
 }
 
@@ -62,27 +57,19 @@ pub fn with_task(s: Utilisation, c: u64, p: u64, cap: u64) -> Utilisation
     }
 }
 
-// A utilisation that the tasks above task i need at least, in at most cap parts.
-pub fn utilisation_above(
-    executions: &[u64; TASKS],
-    periods: &[u64; TASKS],
-    tasks: u8,
-    i: Task,
-    cap: u64,
-) -> Utilisation
-    requires { BoundedTimes executions.now periods.now tasks × (i.0 < tasks) × (1 ≤ cap) × (cap < 2 ^ 63) }
-    ensures { (t : Table) → TimesOf t executions.now periods.now tasks
-        → UtilisationOf (tasks_above t i) cap result }
+// A utilisation that the tasks above the equation's task need at least, in at most cap parts.
+pub fn utilisation_above(equation: &Equation, cap: u64) -> Utilisation
+    requires { (1 ≤ cap) × (cap < 2 ^ 63) }
+    ensures { UtilisationOf (tasks_above equation.now.times.now.table.now equation.now.task) cap result }
 {
+    let times = equation.times;
     let mut s = Utilisation { part: 0, whole: 1 };
-    let mut k = (i.0 as usize) + 1;
-    let end = tasks as usize;
-    while k < end {
+    for k in equation.task.0 as usize + 1..times.table.tasks as usize {
         if s.whole <= s.part {
             return s;
         }
-        s = with_task(s, executions[k], periods[k], cap);
-        k += 1;
+        let Timing { execution, period } = times.timings[k];
+        s = with_task(s, execution, period, cap);
     }
     s
 }

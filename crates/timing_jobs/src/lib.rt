@@ -12,7 +12,6 @@ ghost use Rattle.timing.specs.Accepted.{most_jobs};
 use taskfile::limits::{JOBS, TASKS};
 use taskfile::{Table, Task, TaskEntry};
 use timing::{JobList, JobRecord};
-use timing_demands::demands::wide;
 use timing_rounding::rounded_up;
 
 // How many jobs of a task arrive before the window ends.
@@ -20,23 +19,20 @@ pub fn jobs_within(window: u32, e: TaskEntry) -> u64
     requires { 1 ≤ e.period }
     ensures { (result ≡ jobs_within window e) × (result < 2 ^ 32) }
 {
-    if window <= e.arrival {
-        return 0;
-    }
-    rounded_up(wide(window - e.arrival), wide(e.period))
+    rounded_up(
+        u64::from(window.saturating_sub(e.arrival)),
+        u64::from(e.period),
+    )
 }
 
 // How many jobs the table has.
-pub fn job_total(t: Table) -> u64
-    requires { Timeable t }
-    ensures { result ≡ job_count t }
+pub fn job_total(t: &Table) -> u64
+    requires { Timeable t.now }
+    ensures { result ≡ job_count t.now }
 {
-    let mut total: u64 = 0;
-    let mut i: usize = 0;
-    let end = t.tasks as usize;
-    while i < end {
-        total += jobs_within(t.window, t.entries[i]);
-        i += 1;
+    let mut total = 0;
+    for e in &t.entries[..t.tasks as usize] {
+        total += jobs_within(t.window, *e);
     }
     total
 }
@@ -56,44 +52,36 @@ pub fn no_jobs() -> JobList
     }
 }
 
-// The list with the first n jobs of task i at its end, whose response time is `response`. Each is stored in place: a
-// function for one job took the list and gave it back, which copied it for each.
-pub fn with_jobs(list: JobList, i: Task, e: TaskEntry, response: u64, n: u64) -> JobList
-    requires { (list.count + n ≤ most_jobs) × (response ≤ e.period) }
-    ensures counted { result.count ≡ list.count + n }
-    ensures added { (l : List JobRecord) → list ≡ job_list_of l
-        → result ≡ job_list_of (l ++ map (job_of i e response) (up_to n)) }
+// Adds the first n jobs of task i at the list's end, where `response` is the task's response time.
+pub fn add_jobs(list: &mut JobList, i: Task, e: &TaskEntry, response: u64, n: u64)
+    requires { (list.old.count + n ≤ most_jobs) × (response ≤ e.now.period) }
+    ensures counted { list.new.count ≡ list.old.count + n }
+    ensures added { (l : List JobRecord) → list.old ≡ job_list_of l
+        → list.new ≡ job_list_of (l ++ map (job_of i e.now response) (up_to n)) }
 {
-    let first = wide(e.arrival);
-    let period = wide(e.period);
-    let mut longer = list;
-    let mut k: u64 = 0;
-    while k < n {
+    let first = u64::from(e.arrival);
+    let period = u64::from(e.period);
+    for k in 0..n {
         let arrival = first + k * period;
-        let at = longer.count as usize;
-        longer.jobs[at] = JobRecord {
+        list.jobs[list.count as usize] = JobRecord {
             task: i,
-            arrival: arrival,
+            arrival,
             latest: arrival + response,
         };
-        longer.count += 1;
-        k += 1;
+        list.count += 1;
     }
-    longer
 }
 
 // All jobs of the table, where `times` are the response times.
-pub fn jobs_of(t: Table, times: [u64; TASKS]) -> JobList
-    requires { Timeable t × (job_count t ≤ most_jobs) × WithinPeriods t times }
-    ensures { result ≡ job_list_of (jobs_of t times) }
+pub fn jobs_of(t: &Table, times: &[u64; TASKS]) -> JobList
+    requires { Timeable t.now × (job_count t.now ≤ most_jobs) × WithinPeriods t.now times.now }
+    ensures { result ≡ job_list_of (jobs_of t.now times.now) }
 {
     let mut list = no_jobs();
-    let mut i: u8 = 0;
-    while i < t.tasks {
-        let at = i as usize;
-        let e = t.entries[at];
-        list = with_jobs(list, Task(i), e, times[at], jobs_within(t.window, e));
-        i += 1;
+    for i in 0..t.tasks {
+        let e = &t.entries[i as usize];
+        let n = jobs_within(t.window, *e);
+        add_jobs(&mut list, Task(i), e, times[i as usize], n);
     }
     list
 }

@@ -13,7 +13,7 @@ use Rattle.taskfile.specs.Records.{File}
 use Rattle.timing.specs.Accepted.{Accepted, accept}
 use Rattle.timing.specs.ResponseDemand.{ResponseDemand}
 use Rattle.machine.specs.Buffers.{order_room, filled}
-use Rattle.machine.specs.Ends.{End}
+use Rattle.machine.specs.declared.End.{End}
 use Rattle.order.specs.Orders.{OrderEnds}
 use Rattle.order.specs.States.{initial}
 use Rattle.walk.specs.declared.Verdict.TheVariants.{Holds, Fails}

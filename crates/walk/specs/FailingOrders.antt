@@ -3,7 +3,7 @@
 -- Assumes nothing.
 use Rattle.std.specs.Prelude.{◌≡◌, ◌⊎◌, ℕ, true, List}
 use Rattle.timing.specs.Accepted.{Accepted}
-use Rattle.machine.specs.Ends.{End}
+use Rattle.machine.specs.declared.End.{End}
 use Rattle.order.specs.Orders.{OrderEnds}
 use Rattle.walk.specs.declared.WalkAnswer.{WalkAnswer}
 use Rattle.walk.specs.Paths.{BranchesLower}

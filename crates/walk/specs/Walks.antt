@@ -7,7 +7,7 @@ use Rattle.std.proofs.Math.Option.{Option, none, some}
 use Rattle.std.specs.Prelude.{if◌then◌else◌}
 use Rattle.notation.specs.Lists.{any}
 use Rattle.timing.specs.Accepted.{Accepted}
-use Rattle.machine.specs.Ends.{End}
+use Rattle.machine.specs.declared.End.{End}
 use Rattle.order.specs.Orders.{order_end}
 use Rattle.order.specs.States.{State}
 use Rattle.walk.specs.Trees.{Tree, ended, tried, move, tree}

@@ -4,12 +4,12 @@
 
 use taskfile::limits::{JOBS, VARIABLES};
 
-// Whether some complete order fails. A walk that was refused has no verdict.
+// Whether some complete order fails, by the number that a caller in C reads. A walk that was refused has no verdict.
 #[derive(Clone, Copy)]
 pub enum Verdict {
-    None,
-    Holds,
-    Fails,
+    None = 0,
+    Holds = 1,
+    Fails = 2,
 }
 
 // What the walk's entry answers: number and place, the verdict and the count of moves; of a walk that fails

@@ -1,4 +1,4 @@
+pub mod ChainLaws
 pub mod CountedLaws
 pub mod LayingLaws
-pub mod RecordBytes
-pub mod WideLaws
+pub mod RoomLaws

@@ -1,11 +1,10 @@
 // The parts that a table in memory claims to hold, whatever its counts say: how many, each by its number, and how many
 // records they make.
-ghost use Rattle.std.specs.Prelude.{◌≡◌, ◌+◌, ◌≤◌, ◌<◌, min, length, get_or};
+ghost use Rattle.std.specs.Prelude.{◌≡◌, ◌+◌, ◌≤◌, min, length, get_or};
 ghost use Rattle.taskfile.specs.Tables.{end_instruction, no_task};
 ghost use Rattle.writer.specs.Claims.{claimed_tasks, claimed_body, lock_array, no_lock, claimed_locks};
 ghost use Rattle.writer.specs.Sites.{locks_at};
 ghost use Rattle.writer_layout.specs.Code.ClaimedParts.{link_at};
-ghost use Rattle.taskfile.specs.Chains.{most_instructions};
 
 use taskfile::limits::{MOST_INSTRUCTIONS, MOST_LOCKS, MOST_TASKS};
 use taskfile::{Instruction, Table, TaskEntry};
@@ -14,10 +13,9 @@ use writer::Lock;
 
 // As many as the count says, and never more than one too many.
 pub fn claimed_count(count: u8, most: u8) -> u8
-    requires { most ≤ most_instructions }
     ensures { result ≡ min count (most + 1) }
 {
-    if count <= most { count } else { most + 1 }
+    count.min(most.saturating_add(1))
 }
 
 // How many instructions a body claims.
@@ -45,22 +43,14 @@ pub fn lock_count(t: Table) -> u8
 pub fn instruction_of(e: TaskEntry, p: u8) -> Instruction
     ensures { result ≡ get_or e.body p end_instruction }
 {
-    if MOST_INSTRUCTIONS <= p {
-        return end_instruction();
-    }
-    let at = p as usize;
-    e.body[at]
+    e.body.get(p as usize).copied().unwrap_or(end_instruction())
 }
 
 // The entry of a task by its number, or an empty one past the array.
 pub fn entry_of(t: Table, i: u8) -> TaskEntry
     ensures { result ≡ get_or t.entries i no_task }
 {
-    if MOST_TASKS <= i {
-        return empty_task();
-    }
-    let at = i as usize;
-    t.entries[at]
+    t.entries.get(i as usize).copied().unwrap_or(empty_task())
 }
 
 // A lock by its number, or one of ceiling 0 and holding time 0 past the arrays.
@@ -73,12 +63,9 @@ pub fn lock_of(t: Table, l: u8) -> Lock
             holding: 0,
         };
     }
-    let at = l as usize;
-    let ceiling = t.ceilings[at];
-    let holding = t.holdings[at];
     Lock {
-        ceiling: ceiling,
-        holding: holding,
+        ceiling: t.ceilings[l as usize],
+        holding: t.holdings[l as usize],
     }
 }
 
@@ -93,12 +80,9 @@ pub fn link_at(r: u8, p: u8, count: u8) -> u8
 pub fn record_total(t: Table) -> u8
     ensures { (1 + result ≡ locks_at t) × (result ≤ 162) }
 {
-    let count = task_count(t);
     let mut total: u8 = 0;
-    let mut i: u8 = 0;
-    while i < count {
+    for i in 0..task_count(t) {
         total += 1 + body_count(entry_of(t, i));
-        i += 1;
     }
     total
 }

@@ -8,7 +8,8 @@ use Rattle.notation.specs.Laws.CheckedLaws.{bind_passed, then_passed}
 use Rattle.taskfile.specs.Records.{File}
 use Rattle.timing.specs.Accepted.{Accepted, accept}
 use Rattle.machine.specs.Buffers.{Written, run_answer, unwritten, order_room, plan_room}
-use Rattle.machine.specs.Ends.{End, Flags, no_store, no_flags}
+use Rattle.machine.specs.Ends.{Flags, no_store, no_flags}
+use Rattle.machine.specs.declared.End.{End}
 use Rattle.order.specs.Orders.{OrderEnds}
 use Rattle.plan.specs.Plans.{PlanEnds, check_plan, checked, plan_answer}
 use Rattle.plan.specs.Runs.{Plan}

@@ -1,23 +1,11 @@
--- What `adqurim_words::put_read` owes and the search does not find.
-use native.Mathlib.Omega.{arith}
+-- `adqurim_words::put_read` meets its contract: the words stand one after the other, the response times as a part stored
+-- at once.
+-- Assumes nothing.
 use borrow.Author.Rules.{rules}
-use Rattle.adqurim_words.specs.Laws.WordsLaws.{stored_none, stored_length, stored_more, stored_all}
-use Rattle.adqurim_words.specs.Laws.WordsLaws.{read_length}
+use Rattle.adqurim_words.specs.Laws.WordsLaws.{read_stored}
 use Rattle.adqurim_words.proofs.put_read.Goals as goal
 
-pub loop-k-init : goal.loop-k-init
-loop-k-init c = stored_none _ _ (omega (arith, read_length c.args.a (search rules), c.requires))
-
-pub bounds-answer-k : goal.bounds-answer-k
-bounds-answer-k c =
-    omega (arith, stored_length c.loop-k.invariant, c.requires)
-
-pub loop-k-preserved : goal.loop-k-preserved
-loop-k-preserved c =
-    stored_more c.loop-k.invariant (omega (arith, read_length c.args.a (search rules))) c.read_word.ensures
-
-pub shape_of-answer : goal.shape_of-answer
-shape_of-answer c = stored_length c.loop-k.invariant
-
 pub returns : goal.returns
-returns c = stored_all c.loop-k.invariant (omega (arith, read_length c.args.a (search rules)))
+returns c =
+    read_stored c.args.a (search rules) c.args.answer.now c.requires c.from.ensures c.from-2.ensures
+    c.copy_from_slice.ensures.after c.from-3.ensures

@@ -9,4 +9,4 @@ pub bounds-answer-1 : goal.bounds-answer-1
 bounds-answer-1 c = simp length-set (omega arith)
 
 pub returns : goal.returns
-returns c = three_stored _ _ _ _ c.requires
+returns c = rw (c.from.ensures, c.from-2.ensures, c.from-3.ensures) (three_stored _ _ _ _ c.requires)

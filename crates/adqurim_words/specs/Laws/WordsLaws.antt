@@ -1,16 +1,19 @@
--- Laws of the words: how many an answer has, which word stands where, and what a loop that stores them one by one
--- leaves.
+-- Laws of the words: how many an answer has, which word stands where, and what is left by storing them one by one, or a
+-- part of them at once.
 -- Assumes nothing.
-use Rattle.std.specs.Prelude.{◌≡◌, refl, false, set}
+use Rattle.std.specs.Prelude.{◌≡◌, refl, Bool, true, false, set}
+use Rattle.std.specs.Int.{from_bool}
 use Rattle.std.proofs.Math.Path.{sym, ap}
-use Rattle.std.proofs.Common.{◌∙◌, zero-add, add-one, arith, le-leb, take_all, take_at, get_or-append-add}
+use Rattle.std.proofs.Common.{◌∙◌, zero-add, add-one, arith, le-leb, take_all, take_at, get_or-append-add, append_assoc}
+use Rattle.std.proofs.Common.{length-take-le, take-add, drop-drop, get_or-take, get_or-drop}
+use borrow.Rule.Slice.PartMut.{put_mid}
+use Rattle.std.proofs.lemmas.Grind.{same_number_lists}
 use Prim.Native.Nat.{ℕ, suc, ◌+◌, ◌≤◌, ◌<◌}
 use mathlib.Core.List.{List, [], ◌∷◌, ◌++◌, map}
-use Rattle.std.proofs.Math.ListN.{length, get_or, drop, length-append, get_or-append}
+use Rattle.std.proofs.Math.ListN.{length, get_or, take, drop, length-append, length-drop, get_or-append}
 use Rattle.std.proofs.lemmas.Bool.{lt-leb}
 use Rattle.std.proofs.Math.Seq.{paste, paste-zero, paste-suc, get_or-append_seam}
-use Rattle.std.proofs.lemmas.List.Edits.{length-paste}
-use Rattle.std.specs.Prelude.{if◌then◌else◌}
+use Rattle.std.proofs.lemmas.List.Edits.{length-paste, take-paste, drop-paste}
 use Rattle.notation.specs.Laws.QuantifierLaws.{map_length, map_at}
 use Rattle.timing.specs.declared.ReadAnswer.{ReadAnswer}
 use Rattle.machine.specs.declared.RunAnswer.{RunAnswer}
@@ -20,7 +23,7 @@ use Rattle.adqurim_words.specs.Words.{run_part, run_words, walk_words, filled_wi
 
 -- ---- words stored one by one
 
--- what a loop has stored after k turns: the first k of the words
+-- what has been stored: the first k of the words
 pub record StoredTo (words lent stored : List ℕ) (k : ℕ) : Type 0 where
   pub are : stored ≡ paste lent 0 words k
   pub some : k ≤ length words
@@ -45,6 +48,36 @@ stored_more {words} {lent} {stored} {k} {w} h lt is =
           ∙ paste-suc lent 0 words k 0 (omega (arith, h.room)) lt
           ∙ ap (paste lent 0 words) (sym (add-one k));
       some = omega arith;
+      room = h.room;
+    }
+
+-- a part stored at once: n words from the k-th on
+pub stored_part : {words lent stored : List ℕ} {k : ℕ} (n : ℕ) (part : List ℕ) → StoredTo words lent stored k
+    → length part ≡ n → k + n ≤ length words → ((i : ℕ) → i < n → get_or part i 0 ≡ get_or words (k + i) 0)
+    → StoredTo words lent (put_mid k n stored part) (k + n)
+stored_part {words} {lent} {stored} {k} n part h long le same =
+    let was : List ℕ = paste lent 0 words k in
+    let few : k ≤ length words = h.some in
+    let there : length (take n (drop k words)) ≡ n =
+    length-take-le n (drop k words) (omega (arith, length-drop k words)) in
+    let is : part ≡ take n (drop k words) =
+    same_number_lists part (take n (drop k words)) (long ∙ sym there) (λ i lt.
+    same i (omega arith)
+    ∙ sym (get_or-take n (drop k words) i 0 (omega arith) ∙ get_or-drop k words i 0)) in
+    let front : take k was ≡ take k words =
+    ap (λ (j : ℕ). take j was) (sym (zero-add k)) ∙ take-paste lent 0 words k (omega arith) few in
+    let back : drop n (drop k was) ≡ drop (k + n) lent =
+    ap (drop n) (ap (λ (j : ℕ). drop j was) (sym (zero-add k)) ∙ drop-paste lent 0 words k (omega arith) few
+    ∙ ap (λ (j : ℕ). drop j lent) (zero-add k)) ∙ drop-drop n k lent in
+    let joined : put_mid k n was part ≡ take k words ++ (take n (drop k words) ++ drop (k + n) lent) =
+    λ t. front t ++ (is t ++ back t) in
+    record {
+      are =
+          ap (λ (l : List ℕ). put_mid k n l part) h.are ∙ joined
+          ∙ sym (append_assoc (take k words) (take n (drop k words)) (drop (k + n) lent))
+          ∙ ap (λ (l : List ℕ). l ++ drop (k + n) lent) (sym (take-add k n words))
+          ∙ ap (λ (j : ℕ). take (k + n) words ++ drop j lent) (sym (zero-add (k + n)));
+      some = le;
       room = h.room;
     }
 
@@ -85,7 +118,27 @@ module _ (a : ReadAnswer) (times : length a.responses ≡ 8) where
       let place : suc (suc (length a.responses)) ≡ k = omega (arith, times) in
       sym (get_or-append_seam a.responses a.jobs [] 0) ∙ ap (λ (n : ℕ). get_or (read_words a) n 0) place
 
+  -- number and place, the response times, the number of jobs
+  pub read_stored : (lent : List ℕ) {n p last : ℕ} {part : List ℕ} → words_of_read ≤ length lent → n ≡ a.number
+      → p ≡ a.place → part ≡ a.responses → last ≡ a.jobs
+      → set (put_mid 2 8 (set (set lent 0 n) 1 p) part) 10 last ≡ filled_with (read_words a) lent
+  unfolding read_words
+  read_stored lent {part = part} room number place is last =
+      let none = stored_none (read_words a) lent (omega (arith, read_length)) in
+      let one = stored_more none (omega (arith, read_length)) number in
+      let two = stored_more one (omega (arith, read_length)) place in
+      let put = stored_part 8 part two (ap length is ∙ times) (omega (arith, read_length)) (λ i lt.
+      ap (λ (l : List ℕ). get_or l i 0) is ∙ response_word_lem (2 + i) i (omega arith) lt) in
+      stored_all (stored_more put (omega (arith, read_length)) (last ∙ jobs_word_lem 10 refl))
+      (omega (arith, read_length))
+
 -- ---- a run's words
+
+-- a flag's number is its word
+pub flag_number : (b : Bool) → from_bool b ≡ flag b
+unfolding flag
+flag_number true = refl
+flag_number false = refl
 
 module _ (a : RunAnswer) (variables : length a.store ≡ 8) (jobs : length a.failed ≡ 32) where
   -- the store and the flags
@@ -123,6 +176,24 @@ module _ (a : RunAnswer) (variables : length a.store ≡ 8) (jobs : length a.fai
       let place : suc (suc (length (a.store ++ map flag a.failed))) ≡ k = omega (arith, both_length) in
       sym (get_or-append_seam (a.store ++ map flag a.failed) a.length [] 0)
       ∙ ap (λ (n : ℕ). get_or (run_words a) n 0) place
+
+  -- number and place, the store, the flags, the length
+  pub run_stored : (lent : List ℕ) {n p last : ℕ} (store flags : List ℕ) → words_of_run ≤ length lent → n ≡ a.number
+      → p ≡ a.place → last ≡ a.length → length store ≡ 8 → length flags ≡ 32
+      → ((i : ℕ) → i < 8 → get_or store i 0 ≡ get_or a.store i 0)
+      → ((i : ℕ) → i < 32 → get_or flags i 0 ≡ from_bool (get_or a.failed i false))
+      → set (put_mid 10 32 (put_mid 2 8 (set (set lent 0 n) 1 p) store) flags) 42 last ≡ filled_with (run_words a) lent
+  unfolding run_words
+  run_stored lent store flags room number place last eight all stored flagged =
+      let none = stored_none (run_words a) lent (omega (arith, words_run_length)) in
+      let one = stored_more none (omega (arith, words_run_length)) number in
+      let two = stored_more one (omega (arith, words_run_length)) place in
+      let store-put = stored_part 8 store two eight (omega (arith, words_run_length)) (λ i lt.
+      stored i lt ∙ store_word_lem (2 + i) i (omega arith) lt) in
+      let flags-put = stored_part 32 flags store-put all (omega (arith, words_run_length)) (λ i lt.
+      flagged i lt ∙ flag_number (get_or a.failed i false) ∙ failed_word_lem (10 + i) i refl lt) in
+      stored_all (stored_more flags-put (omega (arith, words_run_length)) (last ∙ length_word 42 refl))
+      (omega (arith, words_run_length))
 
 -- ---- a walk's words
 

@@ -7,7 +7,6 @@ use Rattle.machine.specs.declared.Local.{Local}
 use Rattle.machine.specs.declared.Effect.{Effect}
 use Rattle.machine.specs.Instructions.{Operation, goes_on}
 use Rattle.order_states.specs.Code.StateBytes.{frame_at, frame_in}
-use Rattle.order_states.specs.Code.Sizes.{state_bytes}
 
 -- performing an instruction makes the store and the active job at position k what the effect says, and changes no
 -- other byte
@@ -38,6 +37,6 @@ pub record Done (operation : Operation) (before after : List ℕ) (k : ℕ) (o :
   pub failed : b ≡ (operation o v (frame_in before k).local (bytes_at before 0 8)).failed
   pub made : Performed before after k (operation o v (frame_in before k).local (bytes_at before 0 8))
 
--- the array is whole, and the job at position k has an instruction to perform
+-- the job at position k has an instruction to perform
 abbrev pub Running : List ℕ → ℕ → Type 0
-Running bytes k = (length bytes ≡ state_bytes) × (k < 8) × ((frame_in bytes k).local.next < 16)
+Running bytes k = (k < 8) × ((frame_in bytes k).local.next < 16)

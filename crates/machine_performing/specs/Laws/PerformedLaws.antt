@@ -59,7 +59,7 @@ module _ {before after : List ℕ} {k : ℕ} {effect : Effect} (first : Performe
   pub running_on : Running before k → effect.local.next ≡ (frame_in before k).local.next → Running after k
   running_on running kept =
       let next = ap (λ (l : Local). l.next) local_is ∙ kept in
-      (first.same ∙ running.0, running.1, omega (arith, next, running.2))
+      (running.0, omega (arith, next, running.1))
 
 -- ---- parts of the job's own state by what was read of them
 

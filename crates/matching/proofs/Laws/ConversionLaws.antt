@@ -9,7 +9,7 @@ use Rattle.notation.specs.Checked.{passed, ◌>>=◌}
 use Rattle.notation.specs.Laws.CheckedLaws.{passed_same, bind_passed}
 use Rattle.timing.specs.Accepted.{Accepted}
 use Rattle.timing.specs.Code.IsAccepted.{IsAccepted}
-use Rattle.machine.specs.Ends.{End}
+use Rattle.machine.specs.declared.End.{End}
 use Rattle.order.proofs.Laws.CompleteLaws.{complete_ends, replay_complete}
 use Rattle.order.specs.Orders.{OrderEnds}
 use Rattle.order.specs.Replay.{replay}

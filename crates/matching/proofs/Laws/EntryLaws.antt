@@ -10,7 +10,7 @@ use Rattle.taskfile.specs.Records.{File}
 use Rattle.timing.specs.Accepted.{Accepted, accept}
 use Rattle.timing.proofs.Laws.AcceptedLaws.{file_accepted}
 use Rattle.machine.specs.Buffers.{Written, run_answer, unwritten, order_room, plan_room}
-use Rattle.machine.specs.Ends.{End}
+use Rattle.machine.specs.declared.End.{End}
 use Rattle.order.proofs.Laws.CompleteLaws.{complete_ends, replay_complete}
 use Rattle.order.specs.Orders.{OrderEnds}
 use Rattle.order.specs.Replay.{replay, replayed, replay_answer}

@@ -8,7 +8,7 @@ use Rattle.notation.specs.Checked.{Checked, passed}
 use Rattle.notation.specs.Laws.CheckedLaws.{bind_goes, require_holds}
 use Rattle.taskfile.specs.Records.{File}
 use Rattle.timing.specs.Accepted.{Accepted, accept}
-use Rattle.machine.specs.Ends.{End}
+use Rattle.machine.specs.declared.End.{End}
 use Rattle.plan.specs.Runs.{Plan}
 use Rattle.matching.specs.ConversionEntries.{planned_order, order_to_plan_answer, order_to_plan_after, ordered_plan, plan_to_order_answer, plan_to_order_after}
 use Rattle.matching.specs.Conversions.{order_to_plan, plan_to_order}

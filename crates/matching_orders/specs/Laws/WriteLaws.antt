@@ -5,8 +5,8 @@ use Rattle.std.specs.Prelude.{◌≡◌, refl, ℕ, ◌+◌, ◌*◌, ◌≤◌,
 use Rattle.std.proofs.Math.Path.{sym, ap, subst}
 use Rattle.std.proofs.Common.{◌∙◌, arith}
 use Rattle.std.proofs.Math.Bool.{Bool}
-use mathlib.Core.List.{List, [], ◌∷◌, map}
-use Rattle.std.proofs.Math.ListN.{length, get_or}
+use mathlib.Core.List.{List, [], ◌∷◌, ◌++◌, map}
+use Rattle.std.proofs.Math.ListN.{length, get_or, take, drop}
 use Rattle.std.proofs.Math.Dec.{eqb}
 use Rattle.notation.specs.Lists.{up_to, only, each}
 use Rattle.notation.specs.Laws.ElementLaws.{each_same, member_only}
@@ -33,9 +33,10 @@ use Rattle.plan.specs.Plans.{Legal, plan_end}
 use Rattle.plan.specs.Runs.{Plan, Step, JobRuns, job_total}
 use Rattle.matching.specs.Conversions.{step_bytes_in, order_of}
 use Rattle.matching.proofs.Laws.ConversionLaws.{plan_complete}
+use Rattle.plan_marks.specs.declared.Marks.{Marks}
 use Rattle.plan_marks.specs.Code.Marks.{steps_marked, steps_in}
-use Rattle.notation_buffers.specs.Code.Writing.{Appends, cleared_from}
-use Rattle.notation_buffers.specs.Laws.WritingLaws.{appends_within, appends_count, appends_filled}
+use Rattle.notation_buffers.specs.Code.Pages.{Fills}
+use Rattle.notation_buffers.specs.Laws.FrontLaws.{front_within, front_whole, front_fills}
 use Rattle.matching_orders.specs.Code.Rows.{written_byte, job_row, round_row, rows_in}
 use Rattle.matching_orders.specs.Code.OrderWritten.{OrderWritten}
 use Rattle.matching_orders.specs.Laws.RowLaws.{byte_small}
@@ -66,7 +67,7 @@ owner_base {list = list} owners {a} ok listed x isJob =
 -- ---- the rows
 
 module _ {a : Accepted} (ok : IsAccepted a) (program : Program)
-    (owner : (x : Job) → IsJob a x → owner_in program x.0 ≡ base a x) (marks : List ℕ) (plan : Plan) {runs : JobRuns}
+    (owner : (x : Job) → IsJob a x → owner_in program x.0 ≡ base a x) (marks : Marks) (plan : Plan) {runs : JobRuns}
     (legal : Legal a plan runs) (marked : runs.steps ≡ steps_in marks (job_total a)) where
   -- a job's steps are its marks
   marks_are : (x : ℕ) → x < job_total a → get_or runs.steps x [] ≡ steps_marked marks x
@@ -115,20 +116,20 @@ module _ {a : Accepted} (ok : IsAccepted a) (program : Program)
   written_short = (plan_complete ok plan {e = plan_end a runs} (record { runs = runs; legal = legal; ends = refl })).complete.short
 
 -- what is written of a table's marks, with zeros after it
-pub order_written : {t : Table} {list : JobList} {program marks before mid after : List ℕ} {n : ℕ}
-    → OwnersTo t list list.count program → 512 ≤ length before
-    → Appends 512 before 0 (rows_in program marks list.count) mid n → after ≡ cleared_from 512 n mid
-    → OrderWritten t list marks before after n
+pub order_written : {t : Table} {list : JobList} {program : List ℕ} {marks : Marks} (before : List ℕ) {after : List ℕ} {n : ℕ}
+    → OwnersTo t list list.count program → order_room ≤ length before
+    → Fills (take order_room before) (rows_in program marks list.count) after n
+    → OrderWritten t list marks before (after ++ drop order_room before) n
 unfolding filled job_total job_list_of
-order_written {t} {list} {program} {marks} {before} {mid} {after} {n} owners room does cleared =
+order_written {t} {list} {program} {marks} before {after} {n} owners room does =
     record {
-      fits = appends_within does (omega arith);
+      fits = front_within before room does;
       written = λ a ok table listed plan runs legal marked.
           let counted : list.count ≡ length a.jobs = ap (λ (l : JobList). l.count) listed in
           let rows : rows_in program marks list.count ≡ order_of a runs =
           ap (rows_in program marks) counted ∙ rows_are ok program (owner_base owners ok listed) marks plan legal marked in
-          let made : Appends 512 before 0 (order_of a runs) mid n =
-          subst (λ (bytes : List ℕ). Appends 512 before 0 bytes mid n) rows does in
+          let made : Fills (take order_room before) (order_of a runs) after n =
+          subst (λ (bytes : List ℕ). Fills (take order_room before) bytes after n) rows does in
           let short = written_short ok program (owner_base owners ok listed) marks plan legal marked in
-          (appends_count made short, cleared ∙ appends_filled room made);
+          (front_whole before room made short, front_fills before room made);
     }

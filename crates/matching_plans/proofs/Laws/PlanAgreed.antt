@@ -37,22 +37,23 @@ use Rattle.matching.proofs.Laws.History.Parts.{Part, beginning}
 use Rattle.matching.proofs.Laws.History.PlanReading.{Whole, marks_bytes, written, mark_of}
 use Rattle.matching.proofs.Laws.FromOrder.TraceStepLaws.{first_guess_lem, guesses_whole, marks_whole}
 use Rattle.matching.proofs.Laws.FromOrder.TraceSteps.{Trace, start_trace, trace_of}
-use Rattle.plan_marks.specs.Code.Marks.{store_at, stores_in, with_store, steps_marked}
-use Rattle.plan_marks.specs.Laws.MarkLaws.{no_marks_lem, no_marks_of}
+use Rattle.plan_marks.specs.declared.Marks as plan_marks
+use Rattle.plan_marks.specs.Code.Marks.{store_at, stores_in, with_store, steps_marked, no_marks}
+use Rattle.plan_marks.specs.Laws.MarkLaws.{no_marks_of}
 use Rattle.plan_marks.specs.Laws.StoreLaws.{put_length, put_here, stores_joined}
 use Rattle.matching_plans.specs.Code.Columns.{job_column, columns_in, plan_in}
-use Rattle.matching_plans.specs.Code.Tracing.{TraceState, order_noted, noted_of, NotedOrder}
+use Rattle.matching_plans.specs.Code.Tracing.{TraceState, order_noted}
 use Rattle.matching_plans.proofs.Laws.TraceAgreed.{order_held}
 use Rattle.matching_plans.proofs.Laws.TraceHeld.{marks_read, HeldTrace}
 
 -- ---- from arrays to bytes
 
 -- a job's bytes are those of its marks
-column_read : (marks : List ℕ) (x : ℕ) → job_column marks x ≡ marks_bytes (marks_read marks x)
+column_read : (marks : plan_marks.Marks) (x : ℕ) → job_column marks x ≡ marks_bytes (marks_read marks x)
 unfolding job_column marks_bytes marks_read mark_of
 column_read marks x = sym (each_map mark_of (steps_marked marks x) (λ m. m.round ∷ m.value ∷ []))
 
-module _ (guesses marks : List ℕ) (k : ℕ) (t : Trace) where
+module _ (guesses : List ℕ) (marks : plan_marks.Marks) (k : ℕ) (t : Trace) where
   columns_read : length t.marks ≡ k → ((x : ℕ) → x < k → marks_read marks x ≡ get_or t.marks x [])
       → columns_in marks k ≡ each t.marks marks_bytes
   unfolding columns_in
@@ -74,16 +75,13 @@ module _ (guesses marks : List ℕ) (k : ℕ) (t : Trace) where
 -- ---- where an order starts
 
 -- the arrays before the first step
-abbrev pub no_marks : List ℕ
-no_marks = replicate 1568 0
-
 abbrev pub first_guesses : Store → List ℕ
 first_guesses store = with_store (replicate 256 0) 0 store
 
 module _ {a : Accepted} (ok : IsAccepted a) {program waits : List ℕ} {locks : Ceilings} (lends : Lends a program waits locks)
     (start : List ℕ) (shows : Shows a (snapshot_in start) (initial a)) where
   abbrev first : TraceState
-  first = noted_of start (record { 0 = 0 }) no_marks (first_guesses a.table.store)
+  first = record { state = snapshot_in start; round = 0; marks = no_marks; guesses = first_guesses a.table.store }
 
   held_start : HeldTrace a (initial a) 0 (start_trace a) first
   unfolding start_trace marks_read job_total
@@ -93,7 +91,6 @@ module _ {a : Accepted} (ok : IsAccepted a) {program waits : List ℕ} {locks : 
       record {
         shows = shows;
         round = λ lt. refl;
-        is_marks = no_marks_lem;
         room = put_length (replicate 256 0) zeros 0 (omega arith) a.table.store ok.is_made.store ∙ zeros;
         marks = λ x lt. ap (map mark_of) (no_marks_of x (omega arith)) ∙ sym (replicate_any (job_total a) x []);
         guesses = λ q lt le.
@@ -126,18 +123,18 @@ module _ {a : Accepted} (ok : IsAccepted a) {program waits : List ℕ} {locks : 
         (order_held ok lends order (initial_invariant a) (kept_initial ok) held_start complete.allowed short)
 
     -- they are written as the order's plan
-    pub plan_noted : {marks guesses : List ℕ} → NotedOrder program waits locks first order marks guesses
-        → plan_in guesses marks (job_total a) ≡ plan_of a order
+    pub plan_noted : (n : TraceState) → n ≡ order_noted program waits locks first order
+        → plan_in n.guesses n.marks (job_total a) ≡ plan_of a order
     unfolding plan_in written job_total
-    plan_noted {marks} {guesses} noted =
+    plan_noted n noted =
         let few = jobs_few ok.is_timed in
         let k : ℕ = job_total a in
         let t : Trace = trace_of a order in
-        let stepped = columns_read guesses marks k t (marks_whole a order)
-        (λ x lt. ap (λ (l : List ℕ). marks_read l x) noted.marks_are ∙ held_end.marks x lt) in
-        let begun = guesses_read guesses marks k t noted.room few (guesses_whole a order)
-        (λ q lt. ap (λ (l : List ℕ). store_at l q) noted.guesses_are ∙ held_end.guesses q lt (omega arith)) in
-        ap (λ (l : List ℕ). k ∷ l ++ columns_in marks k) begun
+        let stepped = columns_read n.guesses n.marks k t (marks_whole a order)
+        (λ x lt. ap (λ (m : TraceState). marks_read m.marks x) noted ∙ held_end.marks x lt) in
+        let begun = guesses_read n.guesses n.marks k t (ap (λ (m : TraceState). length m.guesses) noted ∙ held_end.room) few (guesses_whole a order)
+        (λ q lt. ap (λ (m : TraceState). store_at m.guesses q) noted ∙ held_end.guesses q lt (omega arith)) in
+        ap (λ (l : List ℕ). k ∷ l ++ columns_in n.marks k) begun
         ∙ ap (λ (l : List ℕ). k ∷ each t.guesses (λ store. store) ++ l) stepped
         ∙ sym (order_planned ok complete).is_written
 

@@ -1,16 +1,15 @@
 -- A traced order on arrays is the order's trace: the step that a byte asks for is the one of `Orders`, and it ends a
 -- round exactly if it is its job's End.
 -- Assumes nothing.
-use Rattle.std.specs.Prelude.{◌≡◌, refl, ℕ, suc, ◌+◌, ◌≤◌, ◌<◌, Bool, true, false, get_or, take, eqb}
+use Rattle.std.specs.Prelude.{◌≡◌, refl, ℕ, suc, ◌+◌, ◌≤◌, ◌<◌, Bool, true, false, get_or, take, eqb, Option, Some, None}
 use Rattle.std.proofs.Math.Path.{sym, ap, subst}
-use Rattle.std.proofs.Common.{◌∙◌, inl, inr, get_or-set_same}
+use Rattle.std.proofs.Common.{◌∙◌, get_or-set_same}
 use native.Mathlib.Omega.{arith}
 use mathlib.Core.List.{List, [], ◌∷◌, ◌++◌, reverse}
 use Rattle.std.proofs.Math.Option.{none, some}
 use Rattle.std.proofs.Math.ListN.{length, length-append}
 use borrow.Author.Tests.{lt-ltb, eq-eqb, ne_eqb}
 use Rattle.std.specs.Prelude.{if◌then◌else◌}
-use Rattle.notation.specs.Laws.TestLaws.{test_decided}
 use Rattle.taskfile.specs.declared.Ceilings.{Ceilings}
 use Rattle.taskfile.specs.declared.Instruction.{Instruction}
 use Rattle.timing.specs.Accepted.{Accepted}
@@ -31,7 +30,7 @@ use Rattle.order_states.specs.Code.Shows.{Lends, Shows}
 use Rattle.order_states.specs.Code.Snapshots.{Snapshot}
 use Rattle.order_states.specs.Code.SnapshotSteps.{instruction_in, turn_in, after_in, made_in}
 use Rattle.order_states.proofs.Laws.SnapshotLaws.{instruction_lent, after_shown}
-use Rattle.order_states.proofs.Laws.TurnAgreed.{Shown, turn_turned}
+use Rattle.order_states.proofs.Laws.TurnAgreed.{Shown, Turned, turn_turned}
 use Rattle.matching.proofs.Laws.History.Histories.{marked}
 use Rattle.matching.proofs.Laws.FromOrder.MovedLaws.{round_open}
 use Rattle.matching.proofs.Laws.FromOrder.OrderKept.{OrderKept}
@@ -66,9 +65,6 @@ module _ {a : Accepted} (ok : IsAccepted a) {program waits : List ℕ} {locks : 
     abbrev x : Job
     x = said.turn.frame.job
 
-    abbrev d : Due
-    d = turn_in program waits locks n.state i
-
     abbrev effect : Effect
     effect = perform (next_of a turn.frame) v turn.frame.local s.store
 
@@ -76,15 +72,19 @@ module _ {a : Accepted} (ok : IsAccepted a) {program waits : List ℕ} {locks : 
     good = good_turn ok inv i said.due
 
     -- it is due on the arrays
-    due_is : d.due ≡ true
-    due_is = elim (test_decided d.due) [
-      | inl e ↦ e
-      | inr e ↦ absurd (let nothing : none ≡ some turn = sym ((turn_turned ok lends inv held.shows i).1 e) ∙ said.due in
-          let z : ◌≡◌ {A = ℕ} 0 1 = cc in omega arith)
-    ]
+    due_found : (d : Due) × (turn_in program waits locks n.state i ≡ Some d) × Shown ok lends inv held.shows i d
+    due_found = found (turn_in program waits locks n.state i) refl (turn_turned ok lends inv held.shows i)
+      where
+        found : (o : Option Due) → turn_in program waits locks n.state i ≡ o → Turned ok lends inv held.shows i o
+            → (d : Due) × (turn_in program waits locks n.state i ≡ Some d) × Shown ok lends inv held.shows i d
+        found None e nobody = absurd (let nothing : none ≡ some turn = sym nobody ∙ said.due in cc)
+        found (Some d) e shown = (d, e, shown)
+
+    abbrev d : Due
+    d = due_found.0
 
     shown : Shown ok lends inv held.shows i d
-    shown = (turn_turned ok lends inv held.shows i).0 due_is
+    shown = due_found.2
 
     turn_is : shown.turn ≡ turn
     turn_is = some_same (sym shown.due ∙ said.due)
@@ -120,7 +120,7 @@ module _ {a : Accepted} (ok : IsAccepted a) {program waits : List ℕ} {locks : 
     step_is : step_noted program waits locks n byte ≡ after_step p x.0 v (has_ended next x) n
     unfolding step_noted due_noted
     step_is =
-        rw (due_is, frame_is, lt-ltb turn.frame.local.next 16 lent.0, made_is) noted_is
+        rw (due_found.1, frame_is, lt-ltb turn.frame.local.next 16 lent.0, made_is) noted_is
 
     shows_next : Shows a p next
     shows_next =

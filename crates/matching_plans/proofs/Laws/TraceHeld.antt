@@ -21,21 +21,21 @@ use Rattle.order_states.specs.Code.Snapshots.{Snapshot}
 use Rattle.matching.proofs.Laws.History.Histories.{Mark, marked}
 use Rattle.matching.proofs.Laws.History.PlanReading.{mark_of}
 use Rattle.matching.proofs.Laws.FromOrder.TraceSteps.{Trace, traced}
-use Rattle.plan_marks.specs.Code.Marks.{store_at, with_store, step_count, steps_marked, IsMarks}
+use Rattle.plan_marks.specs.declared.Marks.{Marks}
+use Rattle.plan_marks.specs.Code.Marks.{store_at, with_store, step_count, steps_marked}
 use Rattle.plan_marks.specs.Laws.MarkLaws.{mark_added, mark_others}
 use Rattle.plan_marks.specs.Laws.StoreLaws.{put_here, put_other}
 use Rattle.matching_plans.specs.Code.Tracing.{TraceState, note_in, guess_in, round_in}
-use Rattle.matching_plans.proofs.Laws.NotingLaws.{note_whole, guess_room}
+use Rattle.matching_plans.proofs.Laws.NotingLaws.{guess_room}
 
 -- the marks of job x as a trace has them
-unfoldable pub marks_read : List ℕ → ℕ → List Mark
+unfoldable pub marks_read : Marks → ℕ → List Mark
 marks_read marks x = map mark_of (steps_marked marks x)
 
 -- at a state, in round r
 pub record HeldTrace (a : Accepted) (s : State) (r : ℕ) (t : Trace) (n : TraceState) : Type 0 where
   pub shows : Shows a n.state s
   pub round : r < 32 → n.round ≡ r
-  pub is_marks : IsMarks n.marks
   pub room : length n.guesses ≡ 256
   pub marks : (x : ℕ) → x < job_total a → marks_read n.marks x ≡ get_or t.marks x []
   pub guesses : (q : ℕ) → q < job_total a → q ≤ r → store_at n.guesses q ≡ get_or t.guesses q []
@@ -43,24 +43,24 @@ pub record HeldTrace (a : Accepted) (s : State) (r : ℕ) (t : Trace) (n : Trace
 -- ---- the marks
 
 -- as many as are counted
-marks_counted : (marks : List ℕ) (x : ℕ) → length (marks_read marks x) ≡ step_count marks x
+marks_counted : (marks : Marks) (x : ℕ) → length (marks_read marks x) ≡ step_count marks x
 unfolding marks_read steps_marked
 marks_counted marks x = map_length mark_of (steps_marked marks x) ∙ values_length _ (step_count marks x)
 
-module _ {marks : List ℕ} (is_marks : IsMarks marks) (x : ℕ) (is_x : x < 32) (room : step_count marks x < 16) (r v : ℕ) where
+module _ (marks : Marks) (x : ℕ) (is_x : x < 32) (room : step_count marks x < 16) (r v : ℕ) where
   -- one more of job x, and those of another
   note_here : marks_read (note_in marks x (record { 0 = r }) v) x
       ≡ marks_read marks x ++ (record { round = r; value = v } ∷ [])
   unfolding marks_read note_in steps_marked mark_of
   note_here =
       rw (lt-ltb (step_count marks x) 16 room)
-      (ap (map mark_of) (mark_added marks is_marks.whole x (step_count marks x) is_x room _) ∙ map_snoc mark_of (steps_marked marks x) _)
+      (ap (map mark_of) (mark_added marks x (step_count marks x) is_x room _) ∙ map_snoc mark_of (steps_marked marks x) _)
 
-  note_other : (y : ℕ) → y < 32 → (y ≡ x → ⊥) → marks_read (note_in marks x (record { 0 = r }) v) y ≡ marks_read marks y
+  note_other : (y : ℕ) → (y ≡ x → ⊥) → marks_read (note_in marks x (record { 0 = r }) v) y ≡ marks_read marks y
   unfolding marks_read note_in
-  note_other y isY apart =
+  note_other y apart =
       rw (lt-ltb (step_count marks x) 16 room)
-      (ap (map mark_of) (mark_others marks is_marks.whole x (step_count marks x) is_x room _ y isY apart (is_marks.few y isY)))
+      (ap (map mark_of) (mark_others marks x (step_count marks x) is_x room _ y apart))
 
 -- ---- the guesses
 
@@ -104,7 +104,7 @@ module _ {a : Accepted} (few : job_total a ≤ 32) {s : State} {r : ℕ} {t : Tr
   counted : step_count n.marks x < 16
   counted = omega (arith, marks_counted n.marks x, ap length (held.marks x is_x))
 
-  abbrev noted : List ℕ
+  abbrev noted : Marks
   noted = note_in n.marks x (record { 0 = n.round }) v
 
   noted_is : noted ≡ note_in n.marks x (record { 0 = r }) v
@@ -117,14 +117,14 @@ module _ {a : Accepted} (few : job_total a ≤ 32) {s : State} {r : ℕ} {t : Tr
       elim (ℕ_discrete y x) [
         | yes same ↦
             ap (λ (k : ℕ). marks_read noted k) same
-            ∙ ap (λ (l : List ℕ). marks_read l x) noted_is
-            ∙ note_here held.is_marks x (omega arith) counted r v
+            ∙ ap (λ (l : Marks). marks_read l x) noted_is
+            ∙ note_here n.marks x (omega arith) counted r v
             ∙ ap (λ (l : List Mark). l ++ (record { round = r; value = v } ∷ [])) (held.marks x is_x)
             ∙ sym (get_or-set_same t.marks x _ [] (omega arith))
             ∙ ap (λ (k : ℕ). get_or (marked t.marks x (record { round = r; value = v })) k []) (sym same)
         | no apart ↦
-            ap (λ (l : List ℕ). marks_read l y) noted_is
-            ∙ note_other held.is_marks x (omega arith) counted r v y (omega arith) apart
+            ap (λ (l : Marks). marks_read l y) noted_is
+            ∙ note_other n.marks x (omega arith) counted r v y apart
             ∙ held.marks y isY
             ∙ sym (get_or-set_other t.marks x y _ [] apart)
       ]
@@ -159,7 +159,6 @@ module _ {a : Accepted} (few : job_total a ≤ 32) {s : State} {r : ℕ} {t : Tr
   step_held true = record {
     shows = shows;
     round = round_after_lem;
-    is_marks = note_whole held.is_marks x _ v (omega arith);
     room = ap length guessed_is ∙ guess_room n.guesses held.room r next.store eight;
     marks = marks_after;
     guesses = λ q isQ le. ap (λ (l : List ℕ). store_at l q) guessed_is ∙ guesses_after q isQ le;
@@ -167,7 +166,6 @@ module _ {a : Accepted} (few : job_total a ≤ 32) {s : State} {r : ℕ} {t : Tr
   step_held false = record {
     shows = shows;
     round = λ lt. round_is;
-    is_marks = note_whole held.is_marks x _ v (omega arith);
     room = held.room;
     marks = marks_after;
     guesses = held.guesses;

@@ -1,7 +1,7 @@
 -- The run of a complete order, as its functions note it: each step in its round, and each round's first store.
 -- Assumes nothing.
 use Rattle.order.specs.OrderBytes.{task_of_byte, value_of_byte}
-use Rattle.std.specs.Prelude.{◌≡◌, ℕ, ◌+◌, Bool, ◌&&◌, List, [], ◌∷◌, length, ltb, eqb}
+use Rattle.std.specs.Prelude.{ℕ, ◌+◌, Bool, List, [], ◌∷◌, ltb, eqb, Option, Some, None}
 use Rattle.std.specs.Prelude.{if◌then◌else◌}
 use Rattle.taskfile.specs.declared.Ceilings.{Ceilings}
 use Rattle.timing.specs.declared.Job.{Job}
@@ -10,18 +10,20 @@ use Rattle.plan.specs.declared.Round.{Round}
 use Rattle.order_states.specs.declared.Due.{Due}
 use Rattle.order_states.specs.Code.Snapshots.{Snapshot}
 use Rattle.order_states.specs.Code.SnapshotSteps.{Program, LentTimes, turn_in, made_in}
-use Rattle.order_states.specs.Code.StateBytes.{snapshot_in, IsState}
-use Rattle.plan_marks.specs.Code.Marks.{step_count, with_mark, with_store, IsMarks, stores_bytes}
+use Rattle.order_states.specs.Code.StateBytes.{snapshot_in}
+use Rattle.plan_marks.specs.declared.Marks.{Marks}
+use Rattle.plan_marks.specs.Code.Marks.{step_count, with_mark, with_store}
+use Rattle.matching_plans.specs.declared.Trace.{Trace}
 
 -- where a traced order stands: its state, its round, the marks of its steps and the guesses so far
 pub record TraceState : Type 0 where
   pub state : Snapshot
   pub round : ℕ
-  pub marks : List ℕ
+  pub marks : Marks
   pub guesses : List ℕ
 
 -- the marks with one step more of job x, if it has room for one
-unfoldable pub note_in : List ℕ → ℕ → Round → ℕ → List ℕ
+unfoldable pub note_in : Marks → ℕ → Round → ℕ → Marks
 note_in marks x r value =
     if ltb (step_count marks x) 16
     then with_mark marks x (step_count marks x) (record { round = r; value = value; priority_after = 0 })
@@ -45,10 +47,11 @@ noted_in after under x value n =
       guesses = if ends then guess_in n.guesses n.round after.store else n.guesses;
     }
 
--- after the step that is due
-unfoldable pub due_noted : Program → ℕ → ℕ → Due → TraceState → TraceState
-due_noted program i value d n =
-    if d.due && ltb d.frame.local.next 16
+-- after the step that is due, if one is
+unfoldable pub due_noted : Program → ℕ → ℕ → Option Due → TraceState → TraceState
+due_noted program i value None n = n
+due_noted program i value (Some d) n =
+    if ltb d.frame.local.next 16
     then noted_in (made_in program n.state d.frame d.under i value) d.under d.frame.job value n
     else n
 
@@ -63,27 +66,28 @@ order_noted program waits locks n [] = n
 order_noted program waits locks n (byte ∷ bytes) =
     order_noted program waits locks (step_noted program waits locks n byte) bytes
 
--- ---- in arrays
+-- ---- what the functions leave
 
-abbrev pub noted_of : List ℕ → Round → List ℕ → List ℕ → TraceState
-noted_of s r marks guesses = record { state = snapshot_in s; round = r.0; marks = marks; guesses = guesses }
+-- where a trace stands
+abbrev pub noted_of : Trace → TraceState
+noted_of t = record { state = snapshot_in t.state.bytes; round = t.round.0; marks = t.marks; guesses = t.guesses }
 
--- the arrays are whole
-pub record AreNoted (s marks guesses : List ℕ) : Type 0 where
-  pub is_state : IsState s
-  pub is_marks : IsMarks marks
-  pub room : length guesses ≡ stores_bytes
+-- with one step more of job x in the round
+abbrev pub with_step : TraceState → ℕ → ℕ → TraceState
+with_step n x value =
+    record {
+      state = n.state;
+      round = n.round;
+      marks = note_in n.marks x (record { 0 = n.round }) value;
+      guesses = n.guesses;
+    }
 
--- what a byte's step leaves
-pub record NotedStep (program waits : List ℕ) (locks : Ceilings) (n : TraceState) (byte : ℕ) (s marks guesses : List ℕ)
-    (r : Round) : Type 0 where
-  pub whole : AreNoted s marks guesses
-  pub is : noted_of s r marks guesses ≡ step_noted program waits locks n byte
-
--- what an order leaves
-pub record NotedOrder (program waits : List ℕ) (locks : Ceilings) (n : TraceState) (order marks guesses : List ℕ)
-    : Type 0 where
-  pub is_marks : IsMarks marks
-  pub room : length guesses ≡ stores_bytes
-  pub marks_are : marks ≡ (order_noted program waits locks n order).marks
-  pub guesses_are : guesses ≡ (order_noted program waits locks n order).guesses
+-- where the next round begins, with its store noted
+abbrev pub in_next_round : TraceState → TraceState
+in_next_round n =
+    record {
+      state = n.state;
+      round = round_in n.round;
+      marks = n.marks;
+      guesses = guess_in n.guesses n.round n.state.store;
+    }

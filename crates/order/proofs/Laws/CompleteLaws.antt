@@ -13,7 +13,7 @@ use Rattle.notation.specs.Laws.TestLaws.{test_holds}
 use Rattle.timing.specs.Accepted.{Accepted}
 use Rattle.timing.specs.Code.IsAccepted.{IsAccepted}
 use Rattle.timing.proofs.Laws.JobFacts.{jobs_few}
-use Rattle.machine.specs.Ends.{End}
+use Rattle.machine.specs.declared.End.{End}
 use Rattle.order.specs.Code.Invariant.{Invariant}
 use Rattle.order.proofs.Laws.LengthLaws.{order_short}
 use Rattle.order.specs.Orders.{step, run, order_end, Complete, most_steps}

@@ -4,15 +4,15 @@ use Rattle.std.specs.Prelude.{◌≡◌, ℕ, ◌≤◌, List}
 use Rattle.std.proofs.Common.{sym, ◌∙◌, arith}
 use Rattle.std.proofs.Math.Path.{ap, subst}
 use Rattle.std.proofs.Math.ListN.{length}
-use Rattle.taskfile.specs.declared.Check.TheVariants.{Passed}
+use Rattle.notation.specs.Checked.{passed, mapped}
 use Rattle.taskfile.specs.declared.Ceilings.{Ceilings}
 use Rattle.taskfile.specs.declared.Table.{Table}
 use Rattle.taskfile.specs.Code.JudgingParts.{Shaped}
 use Rattle.taskfile.specs.Records.{File}
-use Rattle.timing.specs.declared.AcceptAnswer.{AcceptAnswer}
+use Rattle.timing.specs.declared.AcceptedFile.{AcceptedFile}
 use Rattle.timing.specs.declared.JobList.{JobList}
 use Rattle.timing.specs.Accepted.{Accepted, accept}
-use Rattle.timing.specs.Code.AcceptParts.{AcceptedAs}
+use Rattle.timing.specs.Code.AcceptParts.{accepted_file}
 use Rattle.timing.specs.Code.IsAccepted.{IsAccepted}
 use Rattle.timing.specs.Code.JobParts.{job_list_of}
 use Rattle.timing.proofs.Laws.AcceptedLaws.{file_accepted}
@@ -26,24 +26,24 @@ use Rattle.order_states.specs.Code.SnapshotSteps.{first_snapshot}
 use Rattle.order_states.proofs.Laws.LentLaws.{times_lent}
 use Rattle.order_states.proofs.Laws.WaitLaws.{waits_lent}
 use Rattle.order_states.proofs.Laws.ReplayLaws.{first_shown}
-use Rattle.order_states.specs.Code.StateBytes.{snapshot_in, IsState}
+use Rattle.order_states.specs.declared.Lent.{Lent}
+use Rattle.order_states.specs.declared.LentTimes.{LentTimes}
+use Rattle.order_states.specs.Code.StateBytes.{snapshot_in}
 use Rattle.order_lending.specs.Code.Lending.{LentOf, TimesOf, locks_of}
 
-module _ {t : Table} {list : JobList} {program times : List ℕ} {locks : Ceilings} (shaped : Shaped t)
-    (owners : OwnersTo t list list.count program) (held : TimesTo list list.count times) (is : locks ≡ locks_of t) where
-  few : locks.count ≤ 8
-  unfolding locks_of
-  few = rw is shaped.locks_within
+-- a table has no more locks than the array of their ceilings has places
+pub locks_few : {t : Table} {locks : Ceilings} → Shaped t → locks ≡ locks_of t → locks.count ≤ 8
+unfolding locks_of
+locks_few shaped is = rw is shaped.locks_within
 
+module _ {t : Table} {list : JobList} {program times : List ℕ} {locks : Ceilings}
+    (owners : OwnersTo t list list.count program) (held : TimesTo list list.count times) (is : locks ≡ locks_of t) where
   holds : (a : Accepted) → IsAccepted a → t ≡ a.table → list ≡ job_list_of a.jobs
       → LendsTimes a program times locks
   unfolding locks_of
   holds a ok table listed =
       subst (LendsTimes a program times) (sym (is ∙ ap locks_of table))
       (times_lent ok listed (subst (λ (u : Table). OwnersTo u list list.count program) table owners) held)
-
-  pub times_of : TimesOf t list (record { program = program; times = times; locks = locks })
-  times_of = record { few = few; lends = holds }
 
   module _ {waits : List ℕ} (start : List ℕ) (made : WaitsTo program times list.count list.count waits)
       (first : snapshot_in start ≡ first_snapshot program t.store) where
@@ -60,15 +60,29 @@ module _ {t : Table} {list : JobList} {program times : List ℕ} {locks : Ceilin
         subst (λ (p : Snapshot). Shows a p (initial a)) (sym (first ∙ ap (λ (u : Table). first_snapshot program u.store) table))
         (first_shown ok (steps_lent a ok table listed))
 
-    pub lent_of : IsState start → LentOf t list (record { program = program; waits = waits; locks = locks; start = start })
-    lent_of whole = record { few = few; whole = whole; lends = steps_lent; shows = begins }
+-- what is lent for the runs of a plan
+pub times_of : {t : Table} {list : JobList} (l : LentTimes) → OwnersTo t list list.count l.program
+    → TimesTo list list.count l.times → l.locks ≡ locks_of t → TimesOf t list l
+times_of l owners held is = record { few = l.few; lends = holds owners held is }
 
--- the table and the jobs of a file that passed can be lent
-pub parts_lent : (f : File) (x : AcceptAnswer) → AcceptedAs x (accept f) → x.check ≡ Passed
+-- what is lent to steps
+pub lent_of : {t : Table} {list : JobList} (l : Lent) {times : List ℕ} → OwnersTo t list list.count l.program
+    → TimesTo list list.count times → l.locks ≡ locks_of t → WaitsTo l.program times list.count list.count l.waits
+    → snapshot_in l.start.bytes ≡ first_snapshot l.program t.store → LentOf t list l
+lent_of l owners held is made first =
+    record {
+      few = l.few;
+      whole = l.start.whole;
+      lends = steps_lent owners held is l.start.bytes made first;
+      shows = begins owners held is l.start.bytes made first;
+    }
+
+-- the table and the jobs of an accepted file can be lent
+pub parts_lent : (f : File) {x : AcceptedFile} → passed x ≡ mapped accepted_file (accept f)
     → Shaped x.table × (x.list.count ≤ 32)
 unfolding job_list_of
-parts_lent f x says passes =
-    let found = accepted_passed x (accept f) says passes in
+parts_lent f says =
+    let found = accepted_passed (accept f) says in
     let ok = file_accepted f found.1 in (
       subst Shaped (sym found.2.table) ok.is_made.shaped,
       omega (arith, jobs_few ok.is_timed, ap (λ (l : JobList). l.count) found.2.list),

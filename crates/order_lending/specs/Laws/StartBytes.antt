@@ -27,6 +27,12 @@ zero_bytes : (bytes : List ℕ) (a n : ℕ) → ((k : ℕ) → k < n → get_or 
 unfolding bytes_at
 zero_bytes bytes a n h = same_values (λ k. get_or bytes (a + k) 0) n 0 h
 
+-- the first job of each task, one by one
+pub firsts_listed : (program : List ℕ) {unended : List ℕ} → length unended ≡ 8
+    → ((k : ℕ) → k < 8 → get_or unended k 0 ≡ first_from program k 0 32)
+    → unended ≡ map (λ k. first_from program k 0 32) (up_to 8)
+firsts_listed program {unended} eight known = values_are (λ k. first_from program k 0 32) 8 unended 0 eight known
+
 module _ (program store : List ℕ) {unended filled bytes : List ℕ} (size : length store ≡ 8)
     (first : Replaced (replicate 192 0) filled 0 store) (second : Replaced filled bytes 8 unended)
     (listed : unended ≡ map (λ k. first_from program k 0 32) (up_to 8)) where

@@ -4,55 +4,56 @@
 use Rattle.std.proofs.Math.Path.{◌≡◌, refl, sym, ap}
 use Rattle.std.proofs.Common.{◌∙◌, lt-ltb, le-ltb}
 use Rattle.std.proofs.Math.Logic.{inl, inr}
-use Rattle.std.specs.Prelude.{ℕ, zero, suc, ◌+◌, ◌≤◌, ◌<◌, true, false, List, [], ◌∷◌, get_or}
+use Rattle.std.specs.Prelude.{ℕ, zero, suc, ◌+◌, ◌≤◌, ◌<◌, true, false, List, [], ◌∷◌, get_or, None, Some}
+use Rattle.std.specs.Prelude.{Option as Perhaps}
 use Rattle.std.proofs.Math.Decide.{ℕ_discrete, dec_lt}
 use native.Mathlib.Omega.{arith}
 use Rattle.std.proofs.Math.Option.{Option, none, some}
 use Rattle.taskfile.specs.declared.Ceilings.{Ceilings}
 use Rattle.taskfile.proofs.Laws.JudgingLaws.{tasks_length}
-use Rattle.notation.specs.Checked.{Checked, refused, passed}
+use Rattle.notation.specs.Checked.{Checked, refused, passed, mapped, ◌>>=◌}
 use Rattle.notation.specs.Laws.CheckedLaws.{require_holds, require_fails}
 use Rattle.notation.specs.Laws.ListLaws.{up_to_length, get_or_up_to}
-use Rattle.std.specs.Prelude.{if◌then◌else◌}
 use Rattle.notation.specs.Lists.{from, up_to}
 use Rattle.notation.specs.Laws.TestLaws.{test_decided}
 use Rattle.timing.specs.declared.Job.{Job}
 use Rattle.timing.specs.Accepted.{Accepted}
 use Rattle.timing.specs.Relations.{IsJob, base}
 use Rattle.machine.specs.Ends.{no_flags}
-use Rattle.order_states.specs.Code.Snapshots.{Snapshot, ReplayEnd}
+use Rattle.order_states.specs.declared.Due.{Due}
+use Rattle.order_states.specs.Code.Snapshots.{Snapshot}
 use Rattle.order.specs.OrderBytes.{task_of_byte}
 use Rattle.order.specs.Code.Invariant.{Invariant}
 use Rattle.timing.proofs.Laws.JobFacts.{jobs_few}
 use Rattle.order.proofs.Laws.LengthLaws.{left, step_left}
-use Rattle.order.specs.Orders.{step}
+use Rattle.order.specs.Orders.{step, order_end}
 use Rattle.notation.specs.Laws.QuantifierLaws.{map_length, map_at}
-use Rattle.order.specs.Replay.{is_task, replay_from}
+use Rattle.order.specs.Replay.{is_task, replay_from, replay}
 use Rattle.order.specs.Slips.{slip_of}
 use Rattle.order.proofs.Laws.SlipLaws.{slip_positive, byte_extra, byte_slips, byte_steps}
 use Rattle.timing.proofs.Laws.BaseLaws.{base_rises, base_small}
 use Rattle.order_states.specs.Code.Shows.{Lends, Shows}
 use Rattle.order_states.proofs.Laws.SnapshotLaws.{step_agreed, finished_agreed}
-use Rattle.order_states.proofs.Laws.TurnAgreed.{turn_turned}
+use Rattle.order_states.proofs.Laws.TurnAgreed.{Turned, turn_turned}
 use Rattle.order_states.specs.Code.SnapshotSteps.{owner_in, stack_of, turn_in, step_in, finished_in, slip_in, replay_in, first_from, first_snapshot}
 use Rattle.timing.specs.Code.IsAccepted.{IsAccepted}
 use Rattle.order.specs.States.{State, initial, has_ended, all_ended}
 use Rattle.order.proofs.Laws.StepLaws.{step_keeps, no_flag}
-use Rattle.order_states.specs.Code.ReplayParts.{ReplayEndsAs, replayed_of, ReplayedAs}
+use Rattle.order_states.specs.Code.ReplayParts.{ReplayEndsAs, end_in}
 
 -- ---- one byte
 
 module _ (program waits : List ℕ) (locks : Ceilings) (tasks : ℕ) (p : Snapshot) (index byte : ℕ) (bytes : List ℕ) where
   -- a byte after the end
   pub replay_extra : finished_in program p ≡ true
-      → replay_in program waits locks tasks p index (byte ∷ bytes) ≡ record { number = 32; place = index; state = p }
+      → replay_in program waits locks tasks p index (byte ∷ bytes) ≡ refused 32 index
   unfolding replay_in
   replay_extra e = rw (e, replay_in) refl
 
   -- a byte that is no step
   pub replay_illegal : finished_in program p ≡ false → (step_in program waits locks p byte).allowed ≡ false
       → replay_in program waits locks tasks p index (byte ∷ bytes)
-      ≡ record { number = slip_in program waits locks tasks p byte; place = index; state = p }
+      ≡ refused (slip_in program waits locks tasks p byte) index
   unfolding replay_in
   replay_illegal e illegal = rw (e, illegal, replay_in) refl
 
@@ -151,7 +152,7 @@ module _ {a : Accepted} (ok : IsAccepted a) {program waits : List ℕ} {locks : 
   replay_end {p} {s} inv shows index =
       let same = finished_agreed ok lends inv shows in
       elim (test_decided (all_ended a s)) [
-        | inl e ↦ rw (require_holds (all_ended a s) 31 index (passed s) e, same ∙ e) (refl, refl, shows)
+        | inl e ↦ rw (require_holds (all_ended a s) 31 index (passed s) e, same ∙ e) shows
         | inr e ↦ rw (require_fails (all_ended a s) 31 index (passed s) e, same ∙ e) (refl, refl)
       ]
 
@@ -160,12 +161,13 @@ module _ {a : Accepted} (ok : IsAccepted a) {program waits : List ℕ} {locks : 
       → slip_in program waits locks a.table.tasks p byte ≡ slip_of a s byte
   unfolding slip_in slip_of is_task
   slip_agreed {p} {s} inv shows byte =
-      let turned = turn_turned ok lends inv shows (task_of_byte byte) in
-      let tasks = tasks_length _ ok.is_made.shaped in
-      elim (test_decided (turn_in program waits locks p (task_of_byte byte)).due) [
-        | inl e ↦ rw (tasks, e, (turned.0 e).due) refl
-        | inr e ↦ rw (tasks, e, turned.1 e) refl
-      ]
+      slipped (turn_in program waits locks p (task_of_byte byte)) refl (turn_turned ok lends inv shows (task_of_byte byte))
+    where
+      slipped : (o : Perhaps Due) → turn_in program waits locks p (task_of_byte byte) ≡ o
+          → Turned ok lends inv shows (task_of_byte byte) o
+          → slip_in program waits locks a.table.tasks p byte ≡ slip_of a s byte
+      slipped None e turned = rw (tasks_length _ ok.is_made.shaped, e, turned) refl
+      slipped (Some d) e shown = rw (tasks_length _ ok.is_made.shaped, e, shown.due) refl
 
   -- one byte keeps the two together
   replay_step : {p : Snapshot} {s : State} → Invariant a s → Shows a p s → (index byte : ℕ) (bytes : List ℕ)
@@ -197,12 +199,19 @@ module _ {a : Accepted} (ok : IsAccepted a) {program waits : List ℕ} {locks : 
   replay_agreed (byte ∷ bytes) inv shows index =
       replay_step inv shows index byte bytes (λ after kept shown. replay_agreed bytes kept shown (suc index))
 
--- what is kept of an outcome
-pub replay_kept : (a : Accepted) (e : ReplayEnd) (c : Checked ℕ State) → ReplayEndsAs a e c
-    → ReplayedAs (replayed_of e) c
-unfolding replayed_of
-replay_kept a e (refused number place) ends = ends
-replay_kept a e (passed s) ends = (ends.0, ends.1, ends.2.store, ends.2.failed)
+-- how the order ends is kept of an outcome
+end_kept : (a : Accepted) (c : Checked ℕ Snapshot) (d : Checked ℕ State) → ReplayEndsAs a c d
+    → mapped end_in c ≡ ◌>>=◌ d (λ s. passed (order_end s))
+unfolding mapped ◌>>=◌ order_end
+end_kept a (refused n k) (refused number place) ends = λ t. refused (ends.0 t) (ends.1 t)
+end_kept a (passed p) (passed s) shows = λ t. passed (record { store = shows.store t; failed = shows.failed t })
+end_kept a (refused n k) (passed s) ends = absurd ends
+end_kept a (passed p) (refused number place) ends = absurd ends
+
+pub replay_kept : (a : Accepted) (order : List ℕ) (c : Checked ℕ Snapshot)
+    → ReplayEndsAs a c (replay_from a (initial a) 0 order) → mapped end_in c ≡ replay a order
+unfolding replay
+replay_kept a order c ends = end_kept a c (replay_from a (initial a) 0 order) ends
 
 -- ---- what a replay refuses
 

@@ -8,6 +8,7 @@ use Rattle.std.proofs.Math.Bool.{true, false, not}
 use Rattle.std.proofs.lemmas.Bool.{not-true, not-false}
 use Rattle.taskfile.specs.declared.Ceilings.{Ceilings}
 use Rattle.std.specs.Prelude.{if◌then◌else◌}
+use Rattle.notation.specs.Checked.{refused, passed}
 use Rattle.notation.specs.Lists.{any, up_to}
 use Rattle.notation.specs.Laws.TestLaws.{and_first, and_second}
 use Rattle.order_states.specs.Code.Snapshots.{Snapshot, Stepped}
@@ -64,12 +65,12 @@ module _ (program waits : List ℕ) (locks : Ceilings) (tasks : ℕ) (start : Sn
   next lt = reached ∙ ap (replay_in program waits locks tasks p index) (drop-cons order index 0 lt)
 
   pub replay_past : index < length order → b ≡ true
-      → record { number = 32; place = index; state = p } ≡ replay_in program waits locks tasks start 0 order
+      → refused 32 index ≡ replay_in program waits locks tasks start 0 order
   replay_past lt h = sym (next lt ∙ replay_extra program waits locks tasks p index (get_or order index 0) (drop (suc index) order) (sym finished ∙ h))
 
   module _ (lt : index < length order) (h : b ≡ false) {r : Stepped} (made : r ≡ step_in program waits locks p (get_or order index 0)) where
     pub replay_refused : not r.allowed ≡ true
-        → record { number = slip_in program waits locks tasks p (get_or order index 0); place = index; state = p }
+        → refused (slip_in program waits locks tasks p (get_or order index 0)) index
         ≡ replay_in program waits locks tasks start 0 order
     replay_refused refusal =
         sym (next lt ∙ replay_illegal program waits locks tasks p index (get_or order index 0) (drop (suc index) order) (sym finished ∙ h)
@@ -87,15 +88,14 @@ module _ (program waits : List ℕ) (locks : Ceilings) (tasks : ℕ) (start : Sn
   last le = reached ∙ ap (replay_in program waits locks tasks p index) (drop_of_length-le order le)
 
   ended : (c : Bool) → finished_in program p ≡ c
-      → replay_in program waits locks tasks p index [] ≡ record
-      { number = if c then 0 else 31; place = if c then 0 else index; state = p }
+      → replay_in program waits locks tasks p index [] ≡ (if c then passed p else refused 31 index)
   unfolding replay_in
   ended c e = rw e refl
 
   pub replay_whole : length order ≤ index → b ≡ true
-      → record { number = 0; place = 0; state = p } ≡ replay_in program waits locks tasks start 0 order
+      → passed p ≡ replay_in program waits locks tasks start 0 order
   replay_whole le h = sym (last le ∙ ended true (sym finished ∙ h))
 
   pub replay_short : length order ≤ index → b ≡ false
-      → record { number = 31; place = index; state = p } ≡ replay_in program waits locks tasks start 0 order
+      → refused 31 index ≡ replay_in program waits locks tasks start 0 order
   replay_short le h = sym (last le ∙ ended false (sym finished ∙ h))

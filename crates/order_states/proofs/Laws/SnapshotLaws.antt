@@ -1,7 +1,7 @@
 -- The step on a snapshot is the step of `Orders`: a byte leads from it to a snapshot that shows the state after that
 -- step, or is no step of either; and a snapshot is at the end exactly if the state is.
 -- Assumes nothing.
-use Rattle.std.specs.Prelude.{◌≡◌, ℕ, ◌+◌, ◌≤◌, ◌<◌, Bool, length, set, take, eqb}
+use Rattle.std.specs.Prelude.{◌≡◌, ℕ, ◌+◌, ◌≤◌, ◌<◌, Bool, length, set, take, eqb, Option, Some, None}
 use Rattle.std.proofs.Math.Path.{refl, sym, ap, subst}
 use Rattle.std.proofs.Common.{◌∙◌, add-one, true≢false, get_or-set_other, take-suc-set}
 use Rattle.std.proofs.Math.Logic.{inl, inr}
@@ -232,21 +232,15 @@ module _ {a : Accepted} (ok : IsAccepted a) {program waits : List ℕ} {locks : 
               subst (Agreed byte) (sym is) (λ h. absurd (true≢false (sym h)), λ h. step_of ∙ rw e refl)
         ]
 
-  due_agreed : (byte : ℕ) (d : Due) → Turned ok lends inv shows (task_of_byte byte) d
-      → Agreed byte (due_step program p (task_of_byte byte) (value_of_byte byte) d)
+  due_agreed : (byte : ℕ) (o : Option Due) → Turned ok lends inv shows (task_of_byte byte) o
+      → Agreed byte (due_step program p (task_of_byte byte) (value_of_byte byte) o)
   unfolding due_step step bind
-  due_agreed byte d turned =
-      elim (test_decided d.due) [
-        | inl e ↦
-            let shown = turned.0 e in
-            let is : step_with_in program p shown.turn.frame d.under (task_of_byte byte) (value_of_byte byte) ≡
-            due_step program p (task_of_byte byte) (value_of_byte byte) d =
-            rw (e, shown.frame) refl in
-            subst (Agreed byte) is (with_agreed byte shown.turn shown.due d.under shown.under shown.room)
-        | inr e ↦
-            let is : due_step program p (task_of_byte byte) (value_of_byte byte) d ≡ record { allowed = false; state = p } = rw e refl in
-            subst (Agreed byte) (sym is) (λ h. absurd (true≢false (sym h)), λ h. rw (turned.1 e) refl)
-      ]
+  due_agreed byte None turned = (λ h. absurd (true≢false (sym h)), λ h. rw turned refl)
+  due_agreed byte (Some d) shown =
+      let is : step_with_in program p shown.turn.frame d.under (task_of_byte byte) (value_of_byte byte) ≡
+      due_step program p (task_of_byte byte) (value_of_byte byte) (Some d) =
+      rw shown.frame refl in
+      subst (Agreed byte) is (with_agreed byte shown.turn shown.due d.under shown.under shown.room)
 
   -- a byte is an allowed step of the snapshot exactly if it is one of the state, and then leads to what shows the
   -- state after it

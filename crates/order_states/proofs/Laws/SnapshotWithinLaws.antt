@@ -1,13 +1,12 @@
 -- No job of a snapshot ever holds more than it can by its position: none does where an order starts, and each step
 -- keeps it so.
 -- Assumes nothing.
-use Rattle.std.specs.Prelude.{◌≡◌, ℕ, ◌-◌, List, replicate}
+use Rattle.std.specs.Prelude.{◌≡◌, ℕ, ◌-◌, List, replicate, Option, Some, IfSome}
 use Rattle.std.proofs.Common.{sym, subst, arith}
 use Rattle.std.proofs.Math.Logic.{inl, inr}
 use Rattle.std.proofs.Math.Decide.{dec_le}
 use Rattle.std.proofs.lemmas.List.{get_or-replicate}
 use Rattle.std.proofs.Math.ListN.{get_or-eq_default}
-use Rattle.std.specs.Prelude.{if◌then◌else◌}
 use Rattle.notation.specs.Laws.SetLaws.{set_each}
 use Rattle.notation.specs.Laws.TestLaws.{test_decided}
 use Rattle.taskfile.specs.declared.Ceilings.{Ceilings}
@@ -20,7 +19,7 @@ use Rattle.machine.proofs.Laws.WithinLaws.{fresh_within}
 use Rattle.order.specs.declared.Frame.{Frame}
 use Rattle.order_states.specs.declared.Due.{Due}
 use Rattle.order_states.specs.Code.Snapshots.{Snapshot}
-use Rattle.order_states.specs.Code.SnapshotSteps.{Program, no_frame, nobody, beyond, starts_in, start_turn}
+use Rattle.order_states.specs.Code.SnapshotSteps.{Program, no_frame, beyond, starts_in, start_turn}
 use Rattle.order_states.specs.Code.SnapshotSteps.{start_in, top_of, runs_in, top_turn, turn_in, after_in}
 use Rattle.order_states.specs.Code.SnapshotSteps.{first_snapshot}
 use Rattle.order_states.specs.Code.SnapshotWithin.{AllWithin}
@@ -50,22 +49,25 @@ first_snapshot_within program store = record {
 -- ---- whose turn it is
 
 module _ (program waits : List ℕ) (locks : Ceilings) (p : Snapshot) (i : ℕ) where
-  start_within : LocksWithin (start_in program waits locks p i).frame.local
-  unfolding start_in start_turn nobody
+  abbrev DueWithin : Option Due → Type 0
+  DueWithin o = IfSome o (λ d. LocksWithin d.frame.local)
+
+  start_within : DueWithin (start_in program waits locks p i)
+  unfolding start_in start_turn
   start_within = elim (test_decided (starts_in program waits locks p i)) [
     | inl starts ↦ rw starts fresh_within
-    | inr stays ↦ rw stays no_frame_within
+    | inr stays ↦ rw stays tt
   ]
 
-  turn_within : AllWithin p → LocksWithin (turn_in program waits locks p i).frame.local
+  turn_within : AllWithin p → DueWithin (turn_in program waits locks p i)
   unfolding turn_in top_turn top_of
   turn_within all = elim (test_decided (runs_in program p i)) [
     | inl runs ↦ rw runs (all.each (p.depth - 1))
     | inr other ↦ rw other start_within
   ]
 
-  pub due_within : AllWithin p → {d : Due} → d ≡ turn_in program waits locks p i → LocksWithin d.frame.local
-  due_within all is = subst (λ (d : Due). LocksWithin d.frame.local) (sym is) (turn_within all)
+  pub due_within : AllWithin p → {d : Due} → Some d ≡ turn_in program waits locks p i → LocksWithin d.frame.local
+  due_within all is = subst DueWithin (sym is) (turn_within all)
 
 -- ---- what it does
 

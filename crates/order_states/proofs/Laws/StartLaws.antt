@@ -1,19 +1,18 @@
 -- Laws of the tests that decide a start: each test's answer from one of its parts, and what a start says.
 -- Assumes nothing.
 use Prim.Native.Nat.{ℕ, suc, ◌+◌, ◌-◌, ◌≤◌, ◌<◌}
-use Rattle.std.specs.Prelude.{◌≡◌, Bool, true, false, not, ◌&&◌, ◌||◌, eqb, get_or, List}
+use Rattle.std.specs.Prelude.{◌≡◌, Bool, true, false, not, ◌&&◌, ◌||◌, eqb, get_or, List, Some, None}
 use Rattle.std.proofs.Math.Path.{refl, sym, ap}
 use Rattle.std.proofs.Common.{subst, ◌∙◌, inl, inr, add-one, true≢false}
 use native.Mathlib.Omega.{arith}
 use borrow.Author.Tests.{ltb-true, leb-true, lt-ltb, le-ltb, le-leb, lt-leb, eq-eqb, ne_eqb, not-true}
 use Rattle.std.proofs.Math.Dec.{leb, ltb}
 use Rattle.taskfile.specs.declared.Ceilings.{Ceilings}
-use Rattle.std.specs.Prelude.{if◌then◌else◌}
 use Rattle.notation.specs.Lists.{any, from, up_to}
 use Rattle.notation.specs.Laws.TestLaws.{and_both, and_holds, and_first, and_second, and_last, or_right, test_decided}
 use Rattle.order_states.specs.Code.Snapshots.{Snapshot}
 use Rattle.order_states.specs.Code.SnapshotSteps.{Program, WaitTable, owner_in, owned_by, waits_for, must_wait}
-use Rattle.order_states.specs.Code.SnapshotSteps.{bar_in, level_in, top_of, nobody, starts_above, starts_in}
+use Rattle.order_states.specs.Code.SnapshotSteps.{bar_in, level_in, top_of, starts_above, starts_in}
 use Rattle.order_states.specs.Code.SnapshotSteps.{start_turn, start_in}
 
 -- ---- what a job waits for
@@ -173,10 +172,10 @@ module _ (program : Program) (waits : WaitTable) (low : ℕ) (p : Snapshot) (i :
   starts_hold s = starts_free s.task s.above s.room s.owned ∙ ap not s.free
 
 module _ (program : Program) (waits : WaitTable) (locks : Ceilings) (p : Snapshot) (i : ℕ) where
-  pub start_none : starts_in program waits locks p i ≡ false → start_in program waits locks p i ≡ nobody
+  pub start_none : starts_in program waits locks p i ≡ false → start_in program waits locks p i ≡ None
   unfolding start_in
   start_none h = rw h refl
 
-  pub start_due : starts_in program waits locks p i ≡ true → start_in program waits locks p i ≡ start_turn p i
+  pub start_due : starts_in program waits locks p i ≡ true → start_in program waits locks p i ≡ Some (start_turn p i)
   unfolding start_in
   start_due h = rw h refl

@@ -1,7 +1,7 @@
 -- Laws of reading a state's bytes: what each part of the snapshot that they hold is, and what the tests that decide a
 -- turn come to when they are made on the bytes.
 -- Assumes nothing.
-use Rattle.std.specs.Prelude.{◌≡◌, ℕ, ◌+◌, ◌-◌, ◌*◌, ◌≤◌, ◌<◌, Bool, true, false, not, List, length, take}
+use Rattle.std.specs.Prelude.{◌≡◌, ℕ, ◌+◌, ◌-◌, ◌*◌, ◌≤◌, ◌<◌, Bool, true, false, not, List, length, take, Option, Some, None, IfSome}
 use Rattle.std.proofs.Math.Path.{refl, sym, ap}
 use Rattle.std.proofs.Common.{◌∙◌, arith, lt-ltb, le-ltb}
 use Rattle.std.proofs.Math.ListN.{get_or}
@@ -17,7 +17,7 @@ use Rattle.machine.specs.Instructions.{fresh, values}
 use Rattle.order_states.specs.declared.Due.{Due}
 use Rattle.order.specs.declared.Frame.{Frame}
 use Rattle.order_states.specs.Code.SnapshotSteps.{owner_in, instruction_in, owned_by, wait_in, waits_for, must_wait}
-use Rattle.order_states.specs.Code.SnapshotSteps.{bar_in, level_in, nobody, beyond, starts_above, starts_in}
+use Rattle.order_states.specs.Code.SnapshotSteps.{bar_in, level_in, beyond, starts_above, starts_in}
 use Rattle.order_states.specs.Code.SnapshotSteps.{start_turn, start_in, top_of, runs_in, top_turn, turn_in, offered_in}
 use Rattle.order_states.proofs.Laws.StartLaws as start
 use Rattle.order_states.proofs.Laws.TurnLaws as turn
@@ -57,11 +57,6 @@ module _ (bytes : List ℕ) where
     pub top_job_is : 0 < get_or bytes 48 0
         → (top_of (snapshot_in bytes)).job.0 ≡ get_or bytes (64 + 16 * (get_or bytes 48 0 - 1)) 0
     top_job_is deep = ap (λ (f : Frame). f.job.0) (top_is deep) ∙ frame_job (get_or bytes 48 0 - 1)
-
--- whether a task's first job not yet ended is one of the task
-pub unended_owned : (program bytes : List ℕ) (i : ℕ) → i < 8 → {b : Bool}
-    → b ≡ owned_by program i (get_or bytes (8 + i) 0) → b ≡ owned_by program i (get_or (snapshot_in bytes).unended i 0)
-unended_owned program bytes i lt e = e ∙ ap (owned_by program i) (sym (unended_at bytes i 0 lt))
 
 -- ---- what a job waits for
 
@@ -160,7 +155,7 @@ module _ (program waits : List ℕ) (low : ℕ) (bytes : List ℕ) (i : ℕ) whe
 
 -- the turn of the job that starts
 pub start_turn_read : (bytes : List ℕ) (i : ℕ) → i < 8 → {own : Local} → own ≡ fresh
-    → record { due = true; frame = record { job = record { 0 = get_or bytes (8 + i) 0 }; local = own }; under = get_or bytes 48 0 }
+    → record { frame = record { job = record { 0 = get_or bytes (8 + i) 0 }; local = own }; under = get_or bytes 48 0 }
     ≡ start_turn (snapshot_in bytes) i
 unfolding start_turn
 start_turn_read bytes i small new = rw (new, unended_at bytes i 0 small, depth_is bytes) refl
@@ -171,10 +166,10 @@ module _ (program waits : List ℕ) (locks : Ceilings) (bytes : List ℕ) (i : �
   starts_at = ap (λ (m : ℕ). starts_above program waits m (snapshot_in bytes) i) (sym low) ∙ sym starts
 
   -- the start of a job that may start, and of one that may not
-  pub start_due_read : not b ≡ false → start_turn (snapshot_in bytes) i ≡ start_in program waits locks (snapshot_in bytes) i
+  pub start_due_read : not b ≡ false → Some (start_turn (snapshot_in bytes) i) ≡ start_in program waits locks (snapshot_in bytes) i
   start_due_read h = sym (start.start_due program waits locks (snapshot_in bytes) i (starts_at ∙ not-false b h))
 
-  pub start_none_read : not b ≡ true → start_in program waits locks (snapshot_in bytes) i ≡ nobody
+  pub start_none_read : not b ≡ true → start_in program waits locks (snapshot_in bytes) i ≡ None
   start_none_read h = start.start_none program waits locks (snapshot_in bytes) i (starts_at ∙ not-true b h)
 
 -- ---- whose turn it is
@@ -195,27 +190,28 @@ module _ (program bytes : List ℕ) (i : ℕ) where
 -- the turn of the active job started last
 pub top_turn_read : (bytes : List ℕ) → IsState bytes → 1 ≤ get_or bytes 48 0 → {f : Frame}
     → f ≡ frame_in bytes (get_or bytes 48 0 - 1)
-    → record { due = true; frame = f; under = get_or bytes 48 0 - 1 } ≡ top_turn (snapshot_in bytes)
+    → record { frame = f; under = get_or bytes 48 0 - 1 } ≡ top_turn (snapshot_in bytes)
 unfolding top_turn
 top_turn_read bytes state deep frame = rw (frame, top_is bytes state.few (omega arith), depth_is bytes) refl
 
 module _ (program waits : List ℕ) (locks : Ceilings) (bytes : List ℕ) (i : ℕ) (state : IsState bytes) {b : Bool}
     (runs : b ≡ runs_in program (snapshot_in bytes) i) where
-  abbrev Made : Due → Type 0
-  Made d = (d ≡ turn_in program waits locks (snapshot_in bytes) i) × (d.due ≡ true → (d.under < 8) × (d.frame.job.0 < 32))
+  abbrev Made : Option Due → Type 0
+  Made o = (o ≡ turn_in program waits locks (snapshot_in bytes) i) × IfSome o (λ d. (d.under < 8) × (d.frame.job.0 < 32))
 
   few : (snapshot_in bytes).depth ≤ 8
   few = rw (depth_is bytes) state.few
 
   -- who runs has the turn
-  pub turn_runs_read : b ≡ true → {d : Due} → d ≡ top_turn (snapshot_in bytes) → Made d
+  pub turn_runs_read : b ≡ true → {d : Due} → d ≡ top_turn (snapshot_in bytes) → Made (Some d)
   turn_runs_read h is =
-      turn.turn_made program waits locks (snapshot_in bytes) i (is ∙ turn.turn_runs program waits locks (snapshot_in bytes) i runs h) few
+      turn.turn_made program waits locks (snapshot_in bytes) i _
+      (ap Some is ∙ turn.turn_runs program waits locks (snapshot_in bytes) i runs h) few
 
   -- else it is for a start
-  pub turn_starts_read : b ≡ false → {d : Due} → d ≡ start_in program waits locks (snapshot_in bytes) i → Made d
+  pub turn_starts_read : b ≡ false → {o : Option Due} → o ≡ start_in program waits locks (snapshot_in bytes) i → Made o
   turn_starts_read h starts =
-      turn.turn_made program waits locks (snapshot_in bytes) i
+      turn.turn_made program waits locks (snapshot_in bytes) i _
       (turn.turn_starts program waits locks (snapshot_in bytes) i runs h starts) few
 
 -- ---- what a job is offered

@@ -1,9 +1,9 @@
 -- The turn on a snapshot is the turn of `Orders`: that of the active job started last if it is of the task, and else
 -- that of a job that may start, if there is one.
 -- Assumes nothing.
-use Rattle.std.specs.Prelude.{◌≡◌, ℕ, ◌-◌, ◌<◌, ◌&&◌, List, reverse, take}
+use Rattle.std.specs.Prelude.{◌≡◌, ℕ, ◌-◌, ◌<◌, ◌&&◌, List, reverse, take, Option, Some, None, MatchOption}
 use Rattle.std.proofs.Math.Path.{refl, sym, ap, subst}
-use Rattle.std.proofs.Common.{◌∙◌, arith, true≢false}
+use Rattle.std.proofs.Common.{◌∙◌, arith}
 use Rattle.std.proofs.Math.Logic.{inl, inr}
 use Rattle.std.proofs.Math.Decide.{dec_lt}
 use Rattle.std.proofs.Math.Bool.{true, false}
@@ -13,7 +13,7 @@ use borrow.Author.Tests.{ltb-true, ne_eqb, lt-ltb}
 use Rattle.taskfile.specs.declared.Ceilings.{Ceilings}
 use Rattle.std.specs.Prelude.{if◌then◌else◌}
 use Rattle.notation.specs.Ordered.{Every}
-use Rattle.notation.specs.Laws.TestLaws.{and_both, and_holds, test_decided, not_both, other_fails}
+use Rattle.notation.specs.Laws.TestLaws.{and_both, and_holds, test_decided, other_fails}
 use Rattle.timing.specs.Accepted.{Accepted}
 use Rattle.timing.specs.Relations.{IsJob, base}
 use Rattle.order_states.specs.declared.Due.{Due}
@@ -23,7 +23,7 @@ use Rattle.timing.proofs.Laws.JobFacts.{jobs_few}
 use Rattle.order.specs.Orders.{Turn, start_of, turn_among, turn_of}
 use Rattle.timing.proofs.Laws.BaseLaws.{base_small}
 use Rattle.order_states.specs.Code.Shows.{Lends, Shows}
-use Rattle.order_states.specs.Code.SnapshotSteps.{owned_by, stack_of, nobody, level_in, starts_in, start_turn, start_in, top_of, runs_in, top_turn, turn_in}
+use Rattle.order_states.specs.Code.SnapshotSteps.{owned_by, stack_of, level_in, starts_in, start_turn, start_in, top_of, runs_in, top_turn, turn_in}
 use Rattle.timing.specs.Code.IsAccepted.{IsAccepted}
 use Rattle.order_states.proofs.Laws.ShowLaws.{active_top, no_active}
 use Rattle.order_states.proofs.Laws.StartLaws.{starts_says}
@@ -41,20 +41,16 @@ module _ {a : Accepted} (ok : IsAccepted a) {program waits : List ℕ} {locks : 
     pub room : d.under < 8
 
   -- what is due is the turn, and if nobody is, there is none
-  abbrev pub Turned : ℕ → Due → Type 0
-  Turned i d = (d.due ≡ true → Shown i d) × (d.due ≡ false → turn_of a s i ≡ none)
-
-  shown_turned : (i : ℕ) (d : Due) → d.due ≡ true → Shown i d → Turned i d
-  shown_turned i d e shown = (λ h. shown, λ h. absurd (not_both _ e h))
+  abbrev pub Turned : ℕ → Option Due → Type 0
+  Turned i o = MatchOption o (turn_of a s i ≡ none) (Shown i)
 
   start_turned : (i : ℕ) → turn_of a s i ≡ start_of a s i → Turned i (start_in program waits locks p i)
-  unfolding start_in start_turn nobody stack_of
+  unfolding start_in start_turn stack_of
   start_turned i through =
       elim (test_decided (starts_in program waits locks p i)) [
         | inl e ↦
-            let is : start_in program waits locks p i ≡ start_turn p i = rw e refl in
+            let is : start_in program waits locks p i ≡ Some (start_turn p i) = rw e refl in
             subst (Turned i) (sym is)
-            (shown_turned i (start_turn p i) refl
             (record {
               turn = _;
               due = through ∙ start_is ok lends inv shows i e;
@@ -62,10 +58,10 @@ module _ {a : Accepted} (ok : IsAccepted a) {program waits : List ℕ} {locks : 
               under =
                   shows.active;
               room = (starts_says program waits (level_in program locks p) p i e).room;
-            }))
+            })
         | inr e ↦
-            let is : start_in program waits locks p i ≡ nobody = rw e refl in
-            subst (Turned i) (sym is) (λ h. absurd (true≢false (sym h)), λ h. through ∙ start_agreed_none ok lends inv shows i e)
+            let is : start_in program waits locks p i ≡ None = rw e refl in
+            subst (Turned i) (sym is) (through ∙ start_agreed_none ok lends inv shows i e)
       ]
 
   -- the active job started last is one of the table's
@@ -93,14 +89,13 @@ module _ {a : Accepted} (ok : IsAccepted a) {program waits : List ℕ} {locks : 
   turn_none_active i none-there = ap (turn_among a s i) (no_active shows none-there)
 
   runs_turned : (i : ℕ) → runs_in program p i ≡ true
-      → Turned i (top_turn p)
+      → Turned i (Some (top_turn p))
   unfolding runs_in top_turn own_turn
   runs_turned i h =
       let tests = and_both (ltb i 8 && ltb 0 p.depth) _ h in
       let lt = ltb-true 0 p.depth (and_both (ltb i 8) _ tests.0).1 in
       let own : eqb (base a (top_of p).job) i ≡ true = sym (top_owned i lt) ∙ tests.1 in
-      shown_turned i _ refl
-      (record { turn = own_turn; due = turn_top i lt ∙ rw own refl; frame = refl; under = refl; room = omega (arith, shows.depth) })
+      record { turn = own_turn; due = turn_top i lt ∙ rw own refl; frame = refl; under = refl; room = omega (arith, shows.depth) }
 
   -- who does not run has no turn but a start
   other_turn : (i : ℕ) → runs_in program p i ≡ false → turn_of a s i ≡ start_of a s i
@@ -125,7 +120,7 @@ module _ {a : Accepted} (ok : IsAccepted a) {program waits : List ℕ} {locks : 
   turn_turned i =
       elim (test_decided (runs_in program p i)) [
         | inl e ↦
-            let is : turn_in program waits locks p i ≡ top_turn p = rw e refl in
+            let is : turn_in program waits locks p i ≡ Some (top_turn p) = rw e refl in
             subst (Turned i) (sym is) (runs_turned i e)
         | inr e ↦
             let is : turn_in program waits locks p i ≡ start_in program waits locks p i = rw e refl in

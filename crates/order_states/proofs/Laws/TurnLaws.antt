@@ -2,20 +2,19 @@
 -- made come to, and what a turn that is due says of its numbers.
 -- Assumes nothing.
 use Rattle.order.specs.OrderBytes.{task_of_byte, value_of_byte}
-use Rattle.std.specs.Prelude.{◌≡◌, ℕ, ◌≤◌, ◌<◌, Bool, true, false, not, ◌&&◌, List, get_or}
+use Rattle.std.specs.Prelude.{◌≡◌, ℕ, ◌≤◌, ◌<◌, Bool, true, false, ◌&&◌, List, get_or, Option, Some, None, IfSome}
 use Rattle.std.proofs.Math.Path.{refl, sym, ap, subst}
-use Rattle.std.proofs.Common.{◌∙◌, true≢false}
+use Rattle.std.proofs.Common.{◌∙◌}
 use Rattle.std.proofs.Math.Logic.{inl, inr}
 use native.Mathlib.Omega.{arith}
 use Rattle.std.proofs.Math.Dec.{ltb}
-use borrow.Author.Tests.{ltb-true, lt-ltb, le-ltb, not-true, not-false}
+use borrow.Author.Tests.{ltb-true, lt-ltb, le-ltb}
 use Rattle.taskfile.specs.declared.Ceilings.{Ceilings}
-use Rattle.std.specs.Prelude.{if◌then◌else◌}
 use Rattle.notation.specs.Laws.TestLaws.{and_both, and_holds, and_first, and_second, and_last, test_decided}
 use Rattle.order_states.specs.declared.Due.{Due}
 use Rattle.order_states.specs.Code.Snapshots.{Snapshot, Stepped}
 use Rattle.order_states.proofs.Laws.StartLaws.{owned_job, starts_says}
-use Rattle.order_states.specs.Code.SnapshotSteps.{owned_by, nobody, level_in, starts_in, start_turn, start_in, top_of}
+use Rattle.order_states.specs.Code.SnapshotSteps.{owned_by, level_in, starts_in, start_turn, start_in, top_of}
 use Rattle.order_states.specs.Code.SnapshotSteps.{runs_in, top_turn, turn_in, step_with_in, due_step, step_in}
 
 -- ---- who runs
@@ -56,76 +55,76 @@ module _ (program waits : List ℕ) (locks : Ceilings) (p : Snapshot) (i : ℕ) 
       (start.task, start.room, owned_job program i _ start.owned)
 
   abbrev Bounded : Due → Type 0
-  Bounded d = d.due ≡ true → (i < 8) × (d.under < 8) × (d.frame.job.0 < 32)
+  Bounded d = (i < 8) × (d.under < 8) × (d.frame.job.0 < 32)
 
-  start_bounded : Bounded (start_in program waits locks p i)
-  unfolding start_in start_turn nobody
+  start_bounded : IfSome (start_in program waits locks p i) Bounded
+  unfolding start_in start_turn
   start_bounded =
       elim (test_decided (starts_in program waits locks p i)) [
         | inl e ↦
-            let is : start_in program waits locks p i ≡ start_turn p i = rw e refl in
-            subst Bounded (sym is) (λ h. starts_bounds e)
+            let is : start_in program waits locks p i ≡ Some (start_turn p i) = rw e refl in
+            subst (λ o. IfSome o Bounded) (sym is) (starts_bounds e)
         | inr e ↦
-            let is : start_in program waits locks p i ≡ nobody = rw e refl in
-            subst Bounded (sym is) (λ h. absurd (true≢false (sym h)))
+            let is : start_in program waits locks p i ≡ None = rw e refl in
+            subst (λ o. IfSome o Bounded) (sym is) tt
       ]
 
-  turn_bounded : p.depth ≤ 8 → Bounded (turn_in program waits locks p i)
+  turn_bounded : p.depth ≤ 8 → IfSome (turn_in program waits locks p i) Bounded
   unfolding turn_in top_turn
   turn_bounded le =
       elim (test_decided (runs_in program p i)) [
         | inl e ↦
             let says = runs_says program p i e in
-            let is : turn_in program waits locks p i ≡ top_turn p = rw e refl in
-            subst Bounded (sym is) (λ h. (says.0, omega arith, says.2))
+            let is : turn_in program waits locks p i ≡ Some (top_turn p) = rw e refl in
+            subst (λ o. IfSome o Bounded) (sym is) (says.0, omega arith, says.2)
         | inr e ↦
             let is : turn_in program waits locks p i ≡ start_in program waits locks p i = rw e refl in
-            subst Bounded (sym is) start_bounded
+            subst (λ o. IfSome o Bounded) (sym is) start_bounded
       ]
 
-  module _ {d : Due} (is : d ≡ turn_in program waits locks p i) (le : p.depth ≤ 8) where
+  module _ {d : Due} (is : Some d ≡ turn_in program waits locks p i) (le : p.depth ≤ 8) where
     -- a turn that is due is one of the eight tasks, and its numbers have a place in the arrays
-    pub due_task : d.due ≡ true → i < 8
-    due_task h = (subst Bounded (sym is) (turn_bounded le) h).0
+    pub due_task : i < 8
+    due_task = (subst (λ o. IfSome o Bounded) (sym is) (turn_bounded le)).0
 
-    pub due_bounds : d.due ≡ true → (d.under < 8) × (d.frame.job.0 < 32)
-    due_bounds h = let says = subst Bounded (sym is) (turn_bounded le) h in (says.1, says.2)
+    pub due_bounds : (d.under < 8) × (d.frame.job.0 < 32)
+    due_bounds = let says = subst (λ o. IfSome o Bounded) (sym is) (turn_bounded le) in (says.1, says.2)
 
-    -- so a turn meets what its maker says of it
-    pub turn_made : (d ≡ turn_in program waits locks p i) × (d.due ≡ true → (d.under < 8) × (d.frame.job.0 < 32))
-    turn_made = (is, due_bounds)
+  abbrev pub Placed : Option Due → Type 0
+  Placed o = IfSome o (λ d. (d.under < 8) × (d.frame.job.0 < 32))
+
+  -- so a turn meets what its maker says of it
+  pub turn_made : (o : Option Due) → o ≡ turn_in program waits locks p i → p.depth ≤ 8
+      → (o ≡ turn_in program waits locks p i) × Placed o
+  turn_made None is le = (is, tt)
+  turn_made (Some d) is le = (is, due_bounds is le)
 
   pub turn_runs : {b : Bool} → b ≡ runs_in program p i → b ≡ true
-      → top_turn p ≡ turn_in program waits locks p i
+      → Some (top_turn p) ≡ turn_in program waits locks p i
   unfolding turn_in
   turn_runs e h = rw (sym e ∙ h) refl
 
-  pub turn_starts : {b : Bool} → b ≡ runs_in program p i → b ≡ false → {d : Due} → d ≡ start_in program waits locks p i
-      → d ≡ turn_in program waits locks p i
+  pub turn_starts : {b : Bool} → b ≡ runs_in program p i → b ≡ false → {o : Option Due} → o ≡ start_in program waits locks p i
+      → o ≡ turn_in program waits locks p i
   unfolding turn_in
   turn_starts e h is = rw (sym e ∙ h) is
 
 -- ---- the step
 
-module _ (program waits : List ℕ) (locks : Ceilings) (p : Snapshot) (byte : ℕ) {d : Due}
-    (is : d ≡ turn_in program waits locks p (task_of_byte byte)) where
-  step_of : due_step program p (task_of_byte byte) (value_of_byte byte) d ≡ step_in program waits locks p byte
+module _ (program waits : List ℕ) (locks : Ceilings) (p : Snapshot) (byte : ℕ) where
+  step_of : {o : Option Due} → o ≡ turn_in program waits locks p (task_of_byte byte)
+      → due_step program p (task_of_byte byte) (value_of_byte byte) o ≡ step_in program waits locks p byte
   unfolding step_in
-  step_of = ap (due_step program p (task_of_byte byte) (value_of_byte byte)) is
+  step_of is = ap (due_step program p (task_of_byte byte) (value_of_byte byte)) is
 
   -- where nobody is due, there is no step
-  pub step_none : not d.due ≡ true → record { allowed = false; state = p } ≡ step_in program waits locks p byte
+  pub step_none : None ≡ turn_in program waits locks p (task_of_byte byte)
+      → record { allowed = false; state = p } ≡ step_in program waits locks p byte
   unfolding due_step
-  step_none h =
-      let stays : due_step program p (task_of_byte byte) (value_of_byte byte) d ≡ record { allowed = false; state = p } = rw (not-true d.due h) refl in
-      sym stays ∙ step_of
+  step_none is = step_of is
 
   -- else the job that is due steps
-  pub step_due : not d.due ≡ false → {r : Stepped}
+  pub step_due : {d : Due} → Some d ≡ turn_in program waits locks p (task_of_byte byte) → {r : Stepped}
       → r ≡ step_with_in program p d.frame d.under (task_of_byte byte) (value_of_byte byte) → r ≡ step_in program waits locks p byte
   unfolding due_step
-  step_due h made =
-      let goes : due_step program p (task_of_byte byte) (value_of_byte byte) d
-      ≡ step_with_in program p d.frame d.under (task_of_byte byte) (value_of_byte byte) =
-      rw (not-false d.due h) refl in
-      made ∙ sym goes ∙ step_of
+  step_due is made = made ∙ step_of is

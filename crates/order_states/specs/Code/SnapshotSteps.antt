@@ -5,9 +5,11 @@
 -- jobs, and from 32 on each one's latest finish. `SnapshotLaws` says that this is the step of `Orders`.
 -- Assumes nothing.
 use Rattle.std.specs.Prelude.{ℕ, zero, suc, ◌+◌, ◌-◌, ◌*◌, Bool, true, false, not, ◌&&◌, ◌||◌, List, [], ◌∷◌, map, get_or, set, take, replicate, leb, ltb, eqb}
+use Rattle.std.specs.Prelude.{Option, Some, None}
 use Rattle.taskfile.specs.declared.Ceilings.{Ceilings}
 use Rattle.taskfile.specs.declared.Instruction.{Instruction}
 use Rattle.std.specs.Prelude.{if◌then◌else◌}
+use Rattle.notation.specs.Checked.{Checked, refused, passed}
 use Rattle.notation.specs.Lists.{any, up_to, member}
 use Rattle.timing.specs.declared.Job.{Job}
 use Rattle.machine.specs.declared.Effect.{Effect}
@@ -17,7 +19,7 @@ use Rattle.machine.specs.Instructions.{Store, fresh, values, perform}
 use Rattle.order_states.specs.declared.Due.{Due}
 use Rattle.order.specs.OrderBytes.{task_of_byte, value_of_byte}
 use Rattle.order.specs.declared.Frame.{Frame}
-use Rattle.order_states.specs.Code.Snapshots.{Snapshot, Stepped, ReplayEnd}
+use Rattle.order_states.specs.Code.Snapshots.{Snapshot, Stepped}
 
 -- ---- what the lent arrays say
 
@@ -107,10 +109,6 @@ level_in program locks p =
     let bar = bar_in program locks p in
     if eqb p.depth 0 then 0 else if ltb (top_of p).job.0 32 && ltb bar 8 then bar + 1 else 8
 
--- it is nobody's turn
-unfoldable pub nobody : Due
-nobody = record { due = false; frame = no_frame; under = 0 }
-
 -- may task i's first job not yet ended start, if its base is not below the level `low`?
 unfoldable pub starts_above : Program → WaitTable → ℕ → Snapshot → ℕ → Bool
 starts_above program waits low p i =
@@ -128,14 +126,13 @@ starts_in program waits locks p i = starts_above program waits (level_in program
 unfoldable pub start_turn : Snapshot → ℕ → Due
 start_turn p i =
     record {
-      due = true;
       frame = record { job = record { 0 = get_or p.unended i 0 }; local = fresh };
       under = p.depth;
     }
 
-unfoldable pub start_in : Program → WaitTable → Ceilings → Snapshot → ℕ → Due
+unfoldable pub start_in : Program → WaitTable → Ceilings → Snapshot → ℕ → Option Due
 start_in program waits locks p i =
-    if starts_in program waits locks p i then start_turn p i else nobody
+    if starts_in program waits locks p i then Some (start_turn p i) else None
 
 -- ---- the turn and the step
 
@@ -145,10 +142,10 @@ runs_in program p i = ltb i 8 && ltb 0 p.depth && owned_by program i (top_of p).
 
 -- the turn of the active job started last
 unfoldable pub top_turn : Snapshot → Due
-top_turn p = record { due = true; frame = top_of p; under = p.depth - 1 }
+top_turn p = record { frame = top_of p; under = p.depth - 1 }
 
-unfoldable pub turn_in : Program → WaitTable → Ceilings → Snapshot → ℕ → Due
-turn_in program waits locks p i = if runs_in program p i then top_turn p else start_in program waits locks p i
+unfoldable pub turn_in : Program → WaitTable → Ceilings → Snapshot → ℕ → Option Due
+turn_in program waits locks p i = if runs_in program p i then Some (top_turn p) else start_in program waits locks p i
 
 -- the snapshot after job x of task i has had an effect, with so many active jobs under it
 unfoldable pub after_in : Snapshot → Job → ℕ → ℕ → Effect → Snapshot
@@ -177,9 +174,10 @@ step_with_in program p f under i v =
     then record { allowed = true; state = made_in program p f under i v }
     else record { allowed = false; state = p }
 
-unfoldable pub due_step : Program → Snapshot → ℕ → ℕ → Due → Stepped
-due_step program p i v d =
-    if d.due then step_with_in program p d.frame d.under i v else record { allowed = false; state = p }
+-- the step of the job whose turn it is, if it is anyone's
+unfoldable pub due_step : Program → Snapshot → ℕ → ℕ → Option Due → Stepped
+due_step program p i v None = record { allowed = false; state = p }
+due_step program p i v (Some d) = step_with_in program p d.frame d.under i v
 
 unfoldable pub step_in : Program → WaitTable → Ceilings → Snapshot → ℕ → Stepped
 step_in program waits locks p byte = due_step program p (task_of_byte byte) (value_of_byte byte) (turn_in program waits locks p (task_of_byte byte))
@@ -198,25 +196,20 @@ finished_in program p = eqb p.depth 0 && not (any (has_unended program p.unended
 unfoldable pub slip_in : Program → WaitTable → Ceilings → ℕ → Snapshot → ℕ → ℕ
 slip_in program waits locks tasks p byte =
     if ltb (task_of_byte byte) tasks
-    then if (turn_in program waits locks p (task_of_byte byte)).due then 34 else 30
+    then elim (turn_in program waits locks p (task_of_byte byte)) [ None ↦ 30 | Some d ↦ 34 ]
     else 33
 
 -- the bytes from `index` on
-unfoldable pub replay_in : Program → WaitTable → Ceilings → ℕ → Snapshot → ℕ → List ℕ → ReplayEnd
-replay_in program waits locks tasks p index [] =
-    record {
-      number = if finished_in program p then 0 else 31;
-      place = if finished_in program p then 0 else index;
-      state = p;
-    }
+unfoldable pub replay_in : Program → WaitTable → Ceilings → ℕ → Snapshot → ℕ → List ℕ → Checked ℕ Snapshot
+replay_in program waits locks tasks p index [] = if finished_in program p then passed p else refused 31 index
 replay_in program waits locks tasks p index (byte ∷ bytes) =
     let stepped = step_in program waits locks p byte in
     elim (finished_in program p) [
-      | true ↦ record { number = 32; place = index; state = p }
+      | true ↦ refused 32 index
       | false ↦
           elim stepped.allowed [
             | true ↦ replay_in program waits locks tasks stepped.state (suc index) bytes
-            | false ↦ record { number = slip_in program waits locks tasks p byte; place = index; state = p }
+            | false ↦ refused (slip_in program waits locks tasks p byte) index
           ]
     ]
 

@@ -1,4 +1,4 @@
--- A state of an order, as its functions see it in lists of fixed length, and what a byte and a replay come to there.
+-- A state of an order, as its functions see it in lists of fixed length, and what a byte comes to there.
 -- Assumes nothing.
 use Rattle.std.specs.Prelude.{ℕ, Bool, List}
 use Rattle.order.specs.declared.Frame.{Frame}
@@ -16,10 +16,4 @@ pub record Snapshot : Type 0 where
 -- whether a byte is an allowed step, and the snapshot after it, or else the one before
 pub record Stepped : Type 0 where
   pub allowed : Bool
-  pub state : Snapshot
-
--- 0 or the number of the fault, its step's index, and the snapshot reached
-pub record ReplayEnd : Type 0 where
-  pub number : ℕ
-  pub place : ℕ
   pub state : Snapshot

@@ -11,7 +11,7 @@ returns-then-i-top c = top_placed _ _ _ c.requires.0 c.requires.2 c.if-i-top.tru
 
 pub put_frame-requires : goal.put_frame-requires
 put_frame-requires c =
-    (c.requires.0.whole, start_room _ _ _ c.if-i-top.false c.requires.3)
+    start_room _ _ _ c.if-i-top.false c.requires.3
 
 pub returns : goal.returns
 returns c =

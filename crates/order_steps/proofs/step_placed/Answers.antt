@@ -1,31 +1,18 @@
 -- `order_steps::step_placed` meets its contract: the job's number and its instruction are read where it stands, and what it
 -- performs there is the definition's instruction on the store of the state before it was placed.
 -- Assumes nothing.
-use mathlib.Core.Path.{sym, subst, ◌∙◌}
+use mathlib.Core.Path.{sym, subst}
 use Prim.Native.Nat.{ℕ, ◌<◌}
 use Rattle.order_states.proofs.Laws.StateReads.{frame_job}
 use Rattle.order_steps.specs.Laws.EffectWrites.{step_made_lem}
 use Rattle.order_steps.proofs.step_placed.Goals as goal
 
-pub instruction_at-instruction-requires : goal.instruction_at-instruction-requires
-instruction_at-instruction-requires c =
-    (c.requires.bounds.2, subst (λ (n : ℕ). n < 16) (sym c.next_in.ensures) c.requires.placed.1)
-
-pub perform_in-failed-requires : goal.perform_in-failed-requires
-perform_in-failed-requires c =
-    (c.requires.bounds.0, c.requires.bounds.1, c.requires.placed.1, c.requires.placed.2)
-
-pub note-requires : goal.note-requires
-note-requires c = (
-  c.perform_in-failed.ensures.made.same ∙ c.requires.bounds.0,
-  subst (λ (n : ℕ). n < 32) (frame_job _ _) c.requires.placed.0,
-  c.requires.bounds.1,
-  c.requires.bounds.2,
-)
+pub invariant_of-x : goal.invariant_of-x
+invariant_of-x c = record { below = subst (λ (n : ℕ). n < 32) (frame_job _ _) c.requires.placed.0 }
 
 pub returns : goal.returns
 returns c = λ before f state put.
     let done = c.perform_in-failed.ensures in
-    step_made_lem c.requires.bounds.1 put _ _ _ (sym (frame_job _ _)) c.next_in.ensures
+    step_made_lem c.requires.bounds.0 put _ _ _ (sym (frame_job _ _)) c.next_in.ensures
     c.instruction_at-instruction.ensures state c.requires.placed.2 done.failed done.made
     (c.ends.ensures _ _ _) c.note.ensures

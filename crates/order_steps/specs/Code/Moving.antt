@@ -9,7 +9,7 @@ use Rattle.order.specs.declared.Frame.{Frame}
 use Rattle.order_states.specs.declared.Due.{Due}
 use Rattle.order_states.specs.Code.Snapshots.{Snapshot}
 use Rattle.order_states.specs.Code.SnapshotSteps.{Program, start_turn, top_turn, made_in}
-use Rattle.order_states.specs.Code.StateBytes.{snapshot_in, IsState}
+use Rattle.order_states.specs.Code.StateBytes.{snapshot_in}
 
 -- a job that can step: its number and its position are in range, and it holds no more than it can by then
 abbrev pub Steppable : Frame → Type 0
@@ -19,10 +19,10 @@ Steppable f = (f.job.0 < 32) × (f.local.next < 16) × LocksWithin f.local
 unfoldable pub mover_in : Snapshot → ℕ → ℕ → Due
 mover_in p top i = if eqb i top then top_turn p else start_turn p i
 
--- what a move asks of the state that the bytes hold: whose turn it is has a place among the active jobs, and can step
+-- what a move asks of the state that the bytes hold: who has the turn has a place among the active jobs, and can step
 abbrev pub Movable : List ℕ → ℕ → ℕ → Type 0
 Movable bytes top byte =
-    IsState bytes × (byte < 128) × (task_of_byte byte ≡ top → 1 ≤ (snapshot_in bytes).depth)
+    (byte < 128) × (task_of_byte byte ≡ top → 1 ≤ (snapshot_in bytes).depth)
     × ((mover_in (snapshot_in bytes) top (task_of_byte byte)).under < 8)
     × Steppable (mover_in (snapshot_in bytes) top (task_of_byte byte)).frame
 

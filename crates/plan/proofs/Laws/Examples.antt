@@ -3,7 +3,8 @@
 use Rattle.std.specs.Prelude.{◌≡◌, refl, ℕ, List, [], ◌∷◌, ◌++◌, take}
 use Rattle.notation.specs.Checked.{Checked, refused, passed}
 use Rattle.notation.specs.Lists.{each}
-use Rattle.machine.specs.Ends.{Flags, End, no_flags, no_store}
+use Rattle.machine.specs.Ends.{Flags, no_flags, no_store}
+use Rattle.machine.specs.declared.End.{End}
 use Rattle.machine.specs.Instructions.{Store}
 use Rattle.examples.specs.Laws.Opened.{opened}
 use Rattle.examples.specs.Laws.Samples.{nest, pair, idle, twice, sensor, samples_opened, two_set, first_failed}

@@ -1,37 +1,24 @@
--- Laws of the guesses: how one is read, what a round must start from, and the search for the first that is wrong.
+-- Laws of the guesses: what a round must start from, and the search for the first that is wrong.
 -- Assumes nothing.
-use Rattle.std.specs.Prelude.{◌≡◌, Bool, not, List, [], ◌∷◌, length, get_or}
+use Rattle.std.specs.Prelude.{◌≡◌, Bool, not, List, ◌∷◌}
 use Rattle.std.proofs.Math.Path.{refl, sym, ap}
 use Rattle.std.proofs.Common.{◌∙◌}
-use Prim.Native.Nat.{ℕ, zero, suc, ◌+◌, ◌*◌, ◌-◌, ◌≤◌, ◌<◌}
+use Prim.Native.Nat.{ℕ, zero, suc, ◌+◌, ◌-◌, ◌≤◌, ◌<◌}
 use native.Mathlib.Omega.{arith}
 use Rattle.std.proofs.Math.Bool.{true, false}
-use Rattle.notation.specs.Checked.{refused, none_of}
-use Rattle.notation.specs.Laws.ElementLaws.{last_at, last_none}
+use Rattle.notation.specs.Checked.{refused, passed, none_of}
+use Rattle.notation.specs.Laws.ElementLaws.{last_at, last_none, same_refl, same_equal}
 use Rattle.notation.specs.Laws.SearchLaws.{from_first, from_none}
-use Rattle.notation.specs.Laws.TabulateLaws.{eight_values}
+use Rattle.notation.specs.Laws.TestLaws.{test_decided}
+use Rattle.std.proofs.Math.Logic.{inl, inr}
 use Rattle.std.specs.Prelude.{if◌then◌else◌}
-use Rattle.notation.specs.Lists.{from, up_to, same, last_or, bytes_at}
+use Rattle.notation.specs.Lists.{from, up_to, same, last_or}
 use Rattle.machine.specs.Ends.{no_store}
 use Rattle.machine.specs.Instructions.{Store}
-use Rattle.plan.specs.declared.Round.{Round}
 use Rattle.plan.specs.Runs.{Plan, guess}
-use Rattle.plan_marks.specs.declared.Fault.TheVariants.{Nothing, At}
-use Rattle.plan_marks.specs.Code.Marks.{fault_of, store_at, stores_in}
+use Rattle.plan_marks.specs.Code.Marks.{store_at, stores_in}
 use Rattle.plan_marks.specs.Code.PairParts.{due_store_in, guess_fault_from, guess_fault_in}
-use Rattle.plan_marks.specs.Laws.StoreLaws.{bytes_at_part, stores_at, stores_length}
-
--- the eight bytes of a guess
-pub guess_read : (plan : Plan) (r : Round) → 9 + 8 * r.0 ≤ length plan
-    → (let at = 1 + 8 * r.0 in
-    get_or plan at 0 ∷ get_or plan (at + 1) 0 ∷ get_or plan (at + 2) 0 ∷ get_or plan (at + 3) 0 ∷ get_or plan (at + 4) 0
-    ∷ get_or plan (at + 5) 0 ∷ get_or plan (at + 6) 0 ∷ get_or plan (at + 7) 0 ∷ [])
-    ≡ guess plan r
-unfolding guess bytes_at
-guess_read plan r fits =
-    eight_values (λ k. get_or plan (1 + 8 * r.0 + k) 0) (ap (λ (at : ℕ). get_or plan at 0) (omega arith))
-    refl refl refl refl refl refl refl
-    ∙ bytes_at_part plan (1 + 8 * r.0) 8 (omega arith)
+use Rattle.plan_marks.specs.Laws.StoreLaws.{stores_at, stores_length}
 
 -- ---- the store that a round must start from
 
@@ -84,25 +71,27 @@ module _ (plan : Plan) (store : Store) (stores : List ℕ) (k : ℕ) where
       record { within = omega arith; on = ap (λ (n : ℕ). guess_fault_from plan store stores k (from 0 n)) all }
 
   module _ (r : ℕ) (so_far : GuessesFrom plan store stores k r) where
-    pub guess_missing : k ≤ r → Nothing ≡ fault_of (guess_fault_in plan store stores k)
-    unfolding guess_fault_from none_of fault_of
-    guess_missing past =
-        sym (ap fault_of (so_far.on ∙ ap (guess_fault_from plan store stores k) (from_none r k past)))
+    pub guess_missing : k ≤ r → passed tt ≡ guess_fault_in plan store stores k
+    unfolding guess_fault_from none_of
+    guess_missing past = sym (so_far.on ∙ ap (guess_fault_from plan store stores k) (from_none r k past))
 
-    module _ (lt : r < k) {g s : Store} {same-one : Bool} (guessed : g ≡ guess plan (record { 0 = r }))
-        (due : s ≡ due_store_in store stores k r) (told : same-one ≡ same g s) where
+    module _ (lt : r < k) {g s : Store} (guessed : g ≡ guess plan (record { 0 = r }))
+        (due : s ≡ due_store_in store stores k r) where
       -- what is left, by whether this guess is wrong
-      decided : (b : Bool) → not same-one ≡ b
+      decided : (b : Bool) → not (same g s) ≡ b
           → guess_fault_in plan store stores k
           ≡ (if b then refused 45 r else guess_fault_from plan store stores k (from (r + 1) (k - (r + 1))))
       decided b e =
           so_far.on ∙ ap (guess_fault_from plan store stores k) (from_first r k lt)
-          ∙ guess_here plan store stores k r _ b (ap not ((λ i. same (sym guessed i) (sym due i)) ∙ sym told) ∙ e)
+          ∙ guess_here plan store stores k r _ b (ap not (λ i. same (sym guessed i) (sym due i)) ∙ e)
 
-      pub guess_found : not same-one ≡ true
-          → At 45 r ≡ fault_of (guess_fault_in plan store stores k)
-      unfolding fault_of
-      guess_found e = sym (ap fault_of (decided true e))
+      pub guess_found : (g ≡ s → ⊥) → refused 45 r ≡ guess_fault_in plan store stores k
+      guess_found other =
+          sym (decided true (elim (test_decided (same g s)) [
+            | inl equal ↦ absurd (other (same_equal g s equal))
+            | inr differs ↦ ap not differs
+          ]))
 
-      pub guess_later : not same-one ≡ false → GuessesFrom plan store stores k (r + 1)
-      guess_later e = record { within = omega arith; on = decided false e }
+      pub guess_later : g ≡ s → GuessesFrom plan store stores k (r + 1)
+      guess_later equal =
+          record { within = omega arith; on = decided false (ap not (ap (same g) (sym equal) ∙ same_refl g)) }

@@ -1,7 +1,7 @@
 -- The faults 43 to 45 over marks, stores and the lent table are those of the definition.
 -- Assumes nothing.
-use Rattle.std.specs.Prelude.{◌≡◌, ℕ, Bool, true, false, not, List, [], ◌∷◌, map, length, get_or}
-use Rattle.std.proofs.Math.Path.{refl, ap}
+use Rattle.std.specs.Prelude.{◌≡◌, ℕ, Bool, true, false, not, List, [], ◌∷◌, map, length, get_or, Result, Ok, Err}
+use Rattle.std.proofs.Math.Path.{refl}
 use Rattle.std.proofs.Common.{sym, ◌∙◌}
 use Rattle.notation.specs.Checked.{Checked, refused, none_of, placed_by, ◌>>◌}
 use Rattle.std.specs.Prelude.{if◌then◌else◌}
@@ -13,10 +13,11 @@ use Rattle.machine.specs.Instructions.{Store}
 use Rattle.plan.specs.declared.Round.{Round}
 use Rattle.plan.specs.Legality.{due_store, guess_fault, legality}
 use Rattle.plan.specs.Runs.{Plan, JobRuns, job_total, round_numbers, guess}
-use Rattle.plan_marks.specs.declared.Fault.{Fault}
-use Rattle.plan_marks.specs.declared.Fault.TheVariants.{Nothing, At}
-use Rattle.plan_marks.specs.Code.Marks.{fault_of, fault_then, stores_in, steps_in}
-use Rattle.plan_marks.specs.Code.PairParts.{due_store_in, pair_fault_in, guess_fault_from, guess_fault_in}
+use Rattle.taskfile.specs.Code.Refusals.{outcome}
+use Rattle.taskfile.specs.declared.refusals.Refused.{Refused}
+use Rattle.plan_marks.specs.declared.Marks.{Marks}
+use Rattle.plan_marks.specs.Code.Marks.{stores_in, steps_in}
+use Rattle.plan_marks.specs.Code.PairParts.{order_faulty, lock_faulty, due_store_in, pair_fault_in, guess_fault_from, guess_fault_in}
 use Rattle.plan_marks.specs.Code.PairParts.{legality_in}
 use Rattle.plan_marks.specs.Code.RunParts.{Holds}
 use Rattle.plan_pairs.specs.Laws.PairAgreed.{pairs_agreed}
@@ -52,7 +53,7 @@ guesses_agreed a plan runs stores k total left =
     ∙ sym (placed_rounds 45 (guess_fault a plan runs) (up_to (job_total a)))
 
 pub legality_agreed : {a : Accepted} {program times : List ℕ} {locks : Ceilings} {k : ℕ} → Holds a program times locks k
-    → (plan : Plan) (stores marks : List ℕ) (runs : JobRuns) → runs.steps ≡ steps_in marks k
+    → (plan : Plan) (stores : List ℕ) (marks : Marks) (runs : JobRuns) → runs.steps ≡ steps_in marks k
     → runs.running.stores ≡ stores_in stores k
     → legality_in program times plan a.table.store stores marks k ≡ legality a plan runs
 unfolding legality_in legality
@@ -61,35 +62,25 @@ legality_agreed {a} {k = k} holds plan stores marks runs stepped left =
     let guessed = guesses_agreed a plan runs stores k holds.total left in
     λ i. ◌>>◌ (paired.0 i) (◌>>◌ (paired.1 i) (guessed i))
 
--- ---- the first fault of the three
+-- ---- the first refusal of the three
 
-module _ (program times : List ℕ) (plan : Plan) (store : Store) (stores marks : List ℕ) (k : ℕ) where
+module _ (program times : List ℕ) (plan : Plan) (store : Store) (stores : List ℕ) (marks : Marks) (k : ℕ) where
   abbrev rules : Checked ℕ (Unit {0})
   rules = legality_in program times plan store stores marks k
 
-  -- the run met a fault
-  pub ran_first : {ran : Fault} {number place : ℕ} → ran ≡ At number place → ran ≡ fault_then ran rules
-  unfolding fault_then
-  ran_first there = rw there refl
+  pub order_first_lem : (e : Refused ℕ)
+      → outcome (Err e) ≡ pair_fault_in 43 (order_faulty program times marks) k → outcome (Err e) ≡ rules
+  unfolding legality_in
+  order_first_lem e is = fault_decides _ _ e is
 
-  -- without one the rules decide
-  module _ {ran : Fault} (clear : ran ≡ Nothing) where
-    rules_left : {fault : Fault} → fault ≡ fault_of rules → fault ≡ fault_then ran rules
-    unfolding fault_then
-    rules_left is = is ∙ ap (λ (f : Fault). fault_then f rules) (sym clear)
+  -- without one the rest decides
+  module _ (ordered : outcome {P = ℕ} (Ok tt) ≡ pair_fault_in 43 (order_faulty program times marks) k) where
+    pub lock_next : (e : Refused ℕ)
+        → outcome (Err e) ≡ pair_fault_in 44 (lock_faulty program times marks) k → outcome (Err e) ≡ rules
+    unfolding legality_in
+    lock_next e is = rest_decides _ _ tt (Err e) ordered (fault_decides _ _ e is)
 
-    module _ {order : Fault} (is43 : order ≡ fault_of (pair_fault_in 43 program times marks k)) where
-      pub order_first_lem : {number place : ℕ} → order ≡ At number place → order ≡ fault_then ran rules
-      unfolding legality_in
-      order_first_lem there = rules_left (fault_decides _ _ is43 there)
-
-      module _ (ordered : order ≡ Nothing) {lock : Fault} (is44 : lock ≡ fault_of (pair_fault_in 44 program times marks k))
-        where
-          pub lock_next : {number place : ℕ} → lock ≡ At number place → lock ≡ fault_then ran rules
-          unfolding legality_in
-          lock_next there = rules_left (rest_decides _ _ is43 ordered (fault_decides _ _ is44 there))
-
-          pub guess_last_lem : lock ≡ Nothing → {fault : Fault} → fault ≡ fault_of (guess_fault_in plan store stores k)
-              → fault ≡ fault_then ran rules
-          unfolding legality_in
-          guess_last_lem locked is45 = rules_left (rest_decides _ _ is43 ordered (rest_decides _ _ is44 locked is45))
+    pub guess_last_lem : outcome {P = ℕ} (Ok tt) ≡ pair_fault_in 44 (lock_faulty program times marks) k
+        → (r : Result (Unit {0}) (Refused ℕ)) → outcome r ≡ guess_fault_in plan store stores k → outcome r ≡ rules
+    unfolding legality_in
+    guess_last_lem locked r is = rest_decides _ _ tt r ordered (rest_decides _ _ tt r locked is)

@@ -1,38 +1,35 @@
 -- The plan check's entry: what it answers, by what the file and the plan's bytes come to.
 -- Assumes nothing.
-use Rattle.std.specs.Prelude.{◌≡◌, refl}
+use Rattle.std.specs.Prelude.{◌≡◌, Result, Ok, Err}
 use Rattle.std.proofs.Math.Path.{sym, ap}
 use Rattle.std.proofs.Common.{◌∙◌}
 use Prim.Native.Nat.{ℕ}
-use Rattle.notation.specs.Checked.{Checked, refused, passed}
+use Rattle.notation.specs.Checked.{Checked, refused, passed, mapped}
 use Rattle.notation.specs.Laws.CheckedLaws.{bind_refused, bind_goes}
-use Rattle.taskfile.specs.declared.Check.TheVariants.{Passed, Refused}
+use Rattle.taskfile.specs.Code.Refusals.{number_of}
+use Rattle.taskfile.specs.declared.refusals.Refused.{Refused}
 use Rattle.taskfile.specs.Records.{File}
-use Rattle.timing.specs.declared.AcceptAnswer.{AcceptAnswer}
+use Rattle.timing.specs.declared.AcceptedFile.{AcceptedFile}
 use Rattle.timing.specs.Accepted.{Accepted, accept}
-use Rattle.timing.specs.Code.AcceptParts.{AcceptedParts, AcceptedAs}
+use Rattle.timing.specs.Code.AcceptParts.{AcceptedParts, accepted_file}
 use Rattle.timing.specs.Code.IsAccepted.{IsAccepted}
 use Rattle.timing.proofs.Laws.AcceptedLaws.{file_accepted}
 use Rattle.timing.proofs.Laws.AcceptLaws.{accepted_refused, accepted_passed}
-use Rattle.machine.specs.Ends.{End}
-use Rattle.machine.specs.Buffers.{run_answer, unwritten}
-use Rattle.plan.specs.Plans.{legal_run, check_plan, checked, plan_answer}
-use Rattle.plan.specs.Runs.{Plan, JobRuns}
-use Rattle.plan_marks.specs.declared.Fault.TheVariants.{Nothing, At}
+use Rattle.machine.specs.declared.End.{End}
+use Rattle.plan.specs.Plans.{check_plan, checked}
+use Rattle.plan.specs.Runs.{Plan}
 use Rattle.plan_marks.specs.declared.PlanChecked.{PlanChecked}
 use Rattle.plan_marks.specs.Code.TableParts.{PlanCheckedAs, PlanCheckedOf}
-use Rattle.plan_marks.specs.Laws.FaultLaws.{some_fault, fault_same}
 
-module _ (f : File) (x : AcceptAnswer) (says : AcceptedAs x (accept f)) where
+module _ (f : File) where
   -- a file that is refused
-  pub entry_refused : (plan : Plan) {n p : ℕ} → x.check ≡ Refused n p → run_answer (refused n p) ≡ plan_answer f plan
-  unfolding plan_answer checked unwritten
-  entry_refused plan e =
-      sym (ap (λ (c : Checked ℕ End). run_answer (unwritten c)) (bind_refused _ (accepted_refused x (accept f) says e)))
+  pub entry_refused : (plan : Plan) {n p : ℕ} → refused n p ≡ mapped accepted_file (accept f) → refused n p ≡ checked f plan
+  unfolding checked
+  entry_refused plan e = sym (bind_refused _ (accepted_refused (accept f) e))
 
-  module _ (passes : x.check ≡ Passed) where
+  module _ {x : AcceptedFile} (says : passed x ≡ mapped accepted_file (accept f)) where
     abbrev found : (a : Accepted) × (accept f ≡ passed a) × AcceptedParts x a
-    found = accepted_passed x (accept f) says passes
+    found = accepted_passed (accept f) says
 
     abbrev a : Accepted
     a = found.0
@@ -40,36 +37,26 @@ module _ (f : File) (x : AcceptAnswer) (says : AcceptedAs x (accept f)) where
     ok : IsAccepted a
     ok = file_accepted f found.1
 
-    module _ (plan : Plan) (r : PlanChecked) (made : PlanCheckedOf x.table x.list plan r) where
+    module _ (plan : Plan) where
+      -- what the file's plan comes to is what its check comes to
+      checks_plan : {c : Checked ℕ End} → check_plan a plan ≡ c → c ≡ checked f plan
+      unfolding checked
+      checks_plan e = sym (bind_goes _ found.1 ∙ e)
+
       -- the check of the file's table is that of the plan
-      pub checked_same : PlanCheckedAs a r (legal_run a plan)
-      checked_same = made.checks a ok found.2.table found.2.list
+      pub checked_same : (r : Result PlanChecked (Refused ℕ)) → PlanCheckedOf x.table x.list plan r → PlanCheckedAs a plan r
+      checked_same r made = made.checks a ok found.2.table found.2.list
 
-      -- the answer is that of the plan's check
-      check_answer : {c : Checked ℕ End} → check_plan a plan ≡ c → run_answer (unwritten c) ≡ plan_answer f plan
-      unfolding plan_answer checked
-      check_answer e = sym (ap (λ (c : Checked ℕ End). run_answer (unwritten c)) (bind_goes _ found.1 ∙ e))
-
-      -- what a fault of the plan comes to
-      module _ {number place : ℕ} (there : r.fault ≡ At number place) where
-        outcome_fault : (c : Checked ℕ JobRuns) → legal_run a plan ≡ c → PlanCheckedAs a r c
-            → run_answer (refused number place) ≡ plan_answer f plan
-        unfolding check_plan unwritten
-        outcome_fault (refused n p) e h =
-            check_answer (bind_refused _ (e ∙ fault_same (sym h ∙ there)))
-        outcome_fault (passed runs) e h = absurd (some_fault (sym there ∙ h.0))
-
-        pub answers_fault : run_answer (refused number place) ≡ plan_answer f plan
-        answers_fault = outcome_fault (legal_run a plan) refl checked_same
+      -- what a refused plan comes to
+      pub answers_fault : {e : Refused ℕ} → PlanCheckedOf x.table x.list plan (Err e)
+          → refused (number_of e.why) e.place ≡ checked f plan
+      unfolding check_plan
+      answers_fault {e} made = checks_plan (bind_refused _ (checked_same (Err e) made))
 
       -- what a legal plan comes to
-      outcome_ended : (c : Checked ℕ JobRuns) → legal_run a plan ≡ c → PlanCheckedAs a r c → r.fault ≡ Nothing
-          → run_answer (unwritten (passed (record { store = r.store; failed = r.failed }))) ≡ plan_answer f plan
+      pub answers_ended : {legal : PlanChecked} → PlanCheckedOf x.table x.list plan (Ok legal)
+          → passed legal.end ≡ checked f plan
       unfolding check_plan
-      outcome_ended (refused n p) e h clean = absurd (some_fault (sym h ∙ clean))
-      outcome_ended (passed runs) e h clean =
-          ap (λ (end : End). run_answer (unwritten (passed end))) (sym h.1) ∙ check_answer (bind_goes _ e)
-
-      pub answers_ended : r.fault ≡ Nothing
-          → run_answer (unwritten (passed (record { store = r.store; failed = r.failed }))) ≡ plan_answer f plan
-      answers_ended clean = outcome_ended (legal_run a plan) refl checked_same clean
+      answers_ended {legal} made =
+          let same = checked_same (Ok legal) made in
+          ap (λ (end : End). passed end) (sym same.ends) ∙ checks_plan (bind_goes _ same.legal)

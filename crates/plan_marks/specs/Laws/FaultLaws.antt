@@ -1,41 +1,35 @@
--- Laws of checks that are kept as faults: none says that the check passed, and a number at a place is its refusal.
+-- Laws of what a function that may refuse answers: a value says that the check passed, and a refusal is the check's.
 -- Assumes nothing.
-use Rattle.std.specs.Prelude.{◌≡◌, refl, ℕ}
-use Rattle.std.proofs.Common.{arith}
+use Rattle.std.specs.Prelude.{◌≡◌, refl, ℕ, Result, Ok, Err}
 use Rattle.notation.specs.Checked.{Checked, refused, passed, ◌>>◌}
-use Rattle.plan_marks.specs.declared.Fault.{Fault}
-use Rattle.plan_marks.specs.declared.Fault.TheVariants.{Nothing, At}
-use Rattle.plan_marks.specs.Code.Marks.{fault_of}
+use Rattle.taskfile.specs.Code.Refusals.{outcome, number_of}
+use Rattle.taskfile.specs.declared.refusals.Refused.{Refused}
 
--- a fault is not none
-pub some_fault : {number place : ℕ} → At number place ≡ Nothing → ⊥
-some_fault clash = let z : ◌≡◌ {A = ℕ} 0 1 = cc in omega arith
+-- a refusal is not a value
+pub some_fault : {A : Type 0} {e : Refused ℕ} {value : A} → ◌≡◌ {A = Result A (Refused ℕ)} (Err e) (Ok value) → ⊥
+some_fault clash = cc
 
--- one fault is one refusal
-pub fault_same : {A : Type 0} {n p m q : ℕ} → At n p ≡ At m q → ◌≡◌ {A = Checked ℕ A} (refused n p) (refused m q)
+-- one refusal is one number at one place
+pub fault_same : {A B : Type 0} {e f : Refused ℕ} → ◌≡◌ {A = Result B (Refused ℕ)} (Err e) (Err f)
+    → ◌≡◌ {A = Checked ℕ A} (outcome (Err e)) (outcome (Err f))
 fault_same same = cc
 
-pub fault_refused : {A : Type 0} (c : Checked ℕ A) {number place : ℕ} → fault_of c ≡ At number place
-    → c ≡ refused number place
-unfolding fault_of
-fault_refused (refused number place) same = fault_same same
-fault_refused (passed value) clash = absurd (let z : ◌≡◌ {A = ℕ} 0 1 = cc in omega arith)
+pub fault_refused : {A : Type 0} (c : Checked ℕ A) {r : Result A (Refused ℕ)} {e : Refused ℕ} → outcome r ≡ c
+    → r ≡ Err e → c ≡ refused (number_of e.why) e.place
+fault_refused c is there = rw (← is, there) refl
 
-pub fault_passed : (c : Checked ℕ (Unit {0})) → fault_of c ≡ Nothing → c ≡ passed tt
-unfolding fault_of
-fault_passed (refused number place) clash = absurd (some_fault clash)
-fault_passed (passed value) same = refl
+pub fault_passed : (c : Checked ℕ (Unit {0})) {r : Result (Unit {0}) (Refused ℕ)} → outcome r ≡ c → r ≡ Ok tt
+    → c ≡ passed tt
+fault_passed c is clear = rw (← is, clear) refl
 
--- a fault decides what follows
-pub fault_decides : {A B : Type 0} (c : Checked ℕ A) (d : Checked ℕ B) {r : Fault} {number place : ℕ} → r ≡ fault_of c
-    → r ≡ At number place → r ≡ fault_of (◌>>◌ c d)
-unfolding fault_of ◌>>◌
-fault_decides (refused number place) d is there = is
-fault_decides (passed value) d is there = absurd (let z : ◌≡◌ {A = ℕ} 0 1 = cc in omega arith)
+-- a refusal decides what follows
+pub fault_decides : {A B : Type 0} (c : Checked ℕ A) (d : Checked ℕ B) (e : Refused ℕ)
+    → outcome {A = A} (Err e) ≡ c → outcome {A = B} (Err e) ≡ ◌>>◌ c d
+unfolding ◌>>◌
+fault_decides c d e is = rw (← is) refl
 
 -- and without one what follows decides
-pub rest_decides : {A B : Type 0} (c : Checked ℕ A) (d : Checked ℕ B) {r q : Fault} → r ≡ fault_of c → r ≡ Nothing
-    → q ≡ fault_of d → q ≡ fault_of (◌>>◌ c d)
-unfolding fault_of ◌>>◌
-rest_decides (refused number place) d is clear rest = absurd (let z : ◌≡◌ {A = ℕ} 0 1 = cc in omega arith)
-rest_decides (passed value) d is clear rest = rest
+pub rest_decides : {A B : Type 0} (c : Checked ℕ A) (d : Checked ℕ B) (value : A) (r : Result B (Refused ℕ))
+    → outcome {P = ℕ} (Ok value) ≡ c → outcome r ≡ d → outcome r ≡ ◌>>◌ c d
+unfolding ◌>>◌
+rest_decides c d value r is rest = rw (← is) rest

@@ -1,96 +1,74 @@
 -- Laws of the marks of jobs' steps: what one mark more changes.
 -- Assumes nothing.
-use Rattle.std.specs.Prelude.{◌≡◌, ℕ, ◌+◌, ◌*◌, ◌≤◌, ◌<◌, List, [], ◌∷◌, ◌++◌, map, length, get_or, set, replicate}
+use Rattle.std.specs.Prelude.{◌≡◌, ℕ, ◌+◌, ◌*◌, ◌<◌, [], ◌∷◌, ◌++◌, map, set}
 use Rattle.std.proofs.Math.Path.{refl}
-use Rattle.std.proofs.Common.{◌∙◌, arith, length-set}
-use Rattle.std.proofs.Math.Decide.{ℕ_discrete}
-use Rattle.std.proofs.lemmas.List.{length-replicate, get_or-replicate}
+use Rattle.std.proofs.Common.{◌∙◌, ap, arith}
+use Rattle.std.proofs.Math.Decide.{dec_lt}
+use Rattle.std.proofs.lemmas.List.{get_or-replicate}
 use Rattle.std.proofs.Math.Seq.{get_or-set_same, get_or-set_other}
+use mathlib.Core.HLevel.{is_prop→PathP}
 use Rattle.notation.specs.Lists.{from, up_to}
 use Rattle.notation.specs.Laws.TabulateLaws.{same_values, values_snoc}
 use Rattle.plan.specs.Runs.{Step}
-use Rattle.plan_marks.specs.Code.Marks.{step_marked, step_count, steps_marked, with_mark, IsMarks}
+use Rattle.plan_marks.specs.declared.Marks.{Marks}
+use Rattle.plan_marks.specs.Code.IsMarks.{IsMarks, IsMarks-prop}
+use Rattle.plan_marks.specs.Code.Marks.{step_of, mark_for, no_mark, no_marks, step_marked, step_count, steps_marked, with_mark, marked_if}
 
-pub mark_length : (marks : List ℕ) (x n : ℕ) (step : Step) → length (with_mark marks x n step) ≡ length marks
-unfolding with_mark
-mark_length marks x n step = simp length-set
+-- marks are the same where their counts and their steps are
+pub marks_same : (p q : Marks) → p.counts ≡ q.counts → p.steps ≡ q.steps → p ≡ q
+marks_same p q counts steps = λ i. record {
+  counts = counts i;
+  steps = steps i;
+  is_marks = is_prop→PathP (λ j. IsMarks (counts j) (steps j)) (λ j. IsMarks-prop (counts j) (steps j)) p.is_marks q.is_marks i;
+}
 
-module _ (marks : List ℕ) (whole : length marks ≡ 1568) (x n : ℕ) (is_x : x < 32) (isN : n < 16) (step : Step) where
-  abbrev after₁ : List ℕ
-  after₁ = set marks (16 * x + n) step.round.0
+module _ (marks : Marks) (x n : ℕ) (room : n < 16) (step : Step) where
+  -- a number of steps and a step are written
+  counts_if : (d : Dec (n < 16)) → (marked_if marks x n step d).counts ≡ set marks.counts x (n + 1)
+  unfolding marked_if
+  counts_if (yes is) = refl
+  counts_if (no full) = absurd (full room)
 
-  abbrev after₂ : List ℕ
-  after₂ = set after₁ (512 + (16 * x + n)) step.value
+  steps_if : (d : Dec (n < 16)) → (marked_if marks x n step d).steps ≡ set marks.steps (16 * x + n) (mark_for step)
+  unfolding marked_if
+  steps_if (yes is) = refl
+  steps_if (no full) = absurd (full room)
 
-  abbrev after₃ : List ℕ
-  after₃ = set after₂ (1024 + (16 * x + n)) step.priority_after
-
-  long₁ : length after₁ ≡ 1568
-  long₁ = length-set marks _ _ ∙ whole
-
-  long₂ : length after₂ ≡ 1568
-  long₂ = length-set after₁ _ _ ∙ long₁
-
-  long₃ : length after₃ ≡ 1568
-  long₃ = length-set after₂ _ _ ∙ long₂
-
-  -- a place that is none of the four is kept
-  place_kept : (j : ℕ) → (j ≡ 16 * x + n → ⊥) → (j ≡ 512 + (16 * x + n) → ⊥) → (j ≡ 1024 + (16 * x + n) → ⊥)
-      → (j ≡ 1536 + x → ⊥) → get_or (with_mark marks x n step) j 0 ≡ get_or marks j 0
+  pub mark_counts : (with_mark marks x n step).counts ≡ set marks.counts x (n + 1)
   unfolding with_mark
-  place_kept j a b c d =
-      get_or-set_other after₃ (1536 + x) j (n + 1) 0 d
-      ∙ get_or-set_other after₂ (1024 + (16 * x + n)) j step.priority_after 0 c
-      ∙ get_or-set_other after₁ (512 + (16 * x + n)) j step.value 0 b
-      ∙ get_or-set_other marks (16 * x + n) j step.round.0 0 a
+  mark_counts = counts_if (dec_lt n 16)
 
-  round_here : get_or (with_mark marks x n step) (16 * x + n) 0 ≡ step.round.0
+  pub mark_steps : (with_mark marks x n step).steps ≡ set marks.steps (16 * x + n) (mark_for step)
   unfolding with_mark
-  round_here =
-      get_or-set_other after₃ (1536 + x) (16 * x + n) (n + 1) 0 (λ e. omega arith)
-      ∙ get_or-set_other after₂ (1024 + (16 * x + n)) (16 * x + n) step.priority_after 0 (λ e. omega arith)
-      ∙ get_or-set_other after₁ (512 + (16 * x + n)) (16 * x + n) step.value 0 (λ e. omega arith)
-      ∙ get_or-set_same marks (16 * x + n) step.round.0 0 (omega arith)
+  mark_steps = steps_if (dec_lt n 16)
 
-  value_here : get_or (with_mark marks x n step) (512 + (16 * x + n)) 0 ≡ step.value
-  unfolding with_mark
-  value_here =
-      get_or-set_other after₃ (1536 + x) (512 + (16 * x + n)) (n + 1) 0 (λ e. omega arith)
-      ∙ get_or-set_other after₂ (1024 + (16 * x + n)) (512 + (16 * x + n)) step.priority_after 0 (λ e. omega arith)
-      ∙ get_or-set_same after₁ (512 + (16 * x + n)) step.value 0 (omega (arith, long₁))
-
-  priority_here : get_or (with_mark marks x n step) (1024 + (16 * x + n)) 0 ≡ step.priority_after
-  unfolding with_mark
-  priority_here =
-      get_or-set_other after₃ (1536 + x) (1024 + (16 * x + n)) (n + 1) 0 (λ e. omega arith)
-      ∙ get_or-set_same after₂ (1024 + (16 * x + n)) step.priority_after 0 (omega (arith, long₂))
-
+module _ (marks : Marks) (x n : ℕ) (is_x : x < 32) (is_n : n < 16) (step : Step) where
   -- the job has n + 1 steps
   pub count_here : step_count (with_mark marks x n step) x ≡ n + 1
-  unfolding step_count with_mark
-  count_here = get_or-set_same after₃ (1536 + x) (n + 1) 0 (omega (arith, long₃))
+  unfolding step_count
+  count_here =
+      rw (mark_counts marks x n is_n step) (get_or-set_same marks.counts x (n + 1) 0 (omega (arith, marks.is_marks.counted)))
 
   -- another job has as many as it had
-  pub count_other : (y : ℕ) → y < 32 → (y ≡ x → ⊥) → step_count (with_mark marks x n step) y ≡ step_count marks y
+  pub count_other : (y : ℕ) → (y ≡ x → ⊥) → step_count (with_mark marks x n step) y ≡ step_count marks y
   unfolding step_count
-  count_other y isY apart =
-      place_kept (1536 + y) (λ e. omega arith) (λ e. omega arith) (λ e. omega arith) (λ e. apart (omega arith))
+  count_other y apart =
+      rw (mark_counts marks x n is_n step) (get_or-set_other marks.counts x y (n + 1) 0 apart)
 
   -- the step stands in its place
   pub mark_here : step_marked (with_mark marks x n step) x n ≡ step
   unfolding step_marked
-  mark_here = rw (round_here, value_here, priority_here) refl
+  mark_here =
+      ap step_of (rw (mark_steps marks x n is_n step)
+      (get_or-set_same marks.steps (16 * x + n) (mark_for step) no_mark (omega (arith, marks.is_marks.placed))))
 
   -- a step in another place is kept
-  pub mark_kept : (y m : ℕ) → y < 32 → m < 16 → (16 * y + m ≡ 16 * x + n → ⊥)
+  pub mark_kept : (y m : ℕ) → (16 * y + m ≡ 16 * x + n → ⊥)
       → step_marked (with_mark marks x n step) y m ≡ step_marked marks y m
   unfolding step_marked
-  mark_kept y m isY isM apart =
-      rw (
-        place_kept (16 * y + m) apart (λ e. omega arith) (λ e. omega arith) (λ e. omega arith),
-        place_kept (512 + (16 * y + m)) (λ e. omega arith) (λ e. apart (omega arith)) (λ e. omega arith) (λ e. omega arith),
-        place_kept (1024 + (16 * y + m)) (λ e. omega arith) (λ e. omega arith) (λ e. apart (omega arith)) (λ e. omega arith),
-      ) refl
+  mark_kept y m apart =
+      ap step_of (rw (mark_steps marks x n is_n step)
+      (get_or-set_other marks.steps (16 * x + n) (16 * y + m) (mark_for step) no_mark apart))
 
   -- the job has its first n steps and then this one
   pub mark_added : steps_marked (with_mark marks x n step) x ≡ map (step_marked marks x) (up_to n) ++ (step ∷ [])
@@ -100,39 +78,17 @@ module _ (marks : List ℕ) (whole : length marks ≡ 1568) (x n : ℕ) (is_x : 
       ∙ rw (
         mark_here,
         same_values (step_marked (with_mark marks x n step) x) (step_marked marks x) n
-            (λ m lt. mark_kept x m is_x (omega arith) (λ e. omega arith)),
+            (λ m lt. mark_kept x m (λ e. omega arith)),
       ) refl)
 
   -- the other jobs have the steps that they had
-  pub mark_others : (y : ℕ) → y < 32 → (y ≡ x → ⊥) → step_count marks y ≤ 16
-      → steps_marked (with_mark marks x n step) y ≡ steps_marked marks y
-  unfolding steps_marked
-  mark_others y isY apart few =
-      rw (count_other y isY apart) (same_values (step_marked (with_mark marks x n step) y) (step_marked marks y) (step_count marks y)
-      (λ m lt. mark_kept y m isY (omega arith) (λ e. apart (omega arith))))
+  pub mark_others : (y : ℕ) → (y ≡ x → ⊥) → steps_marked (with_mark marks x n step) y ≡ steps_marked marks y
+  unfolding steps_marked step_count
+  mark_others y apart =
+      rw (count_other y apart) (same_values (step_marked (with_mark marks x n step) y) (step_marked marks y) (step_count marks y)
+      (λ m lt. mark_kept y m (λ e. apart (omega (arith, marks.is_marks.few y)))))
 
--- the array stays whole
-pub mark_whole : {marks : List ℕ} → IsMarks marks → (x n : ℕ) → x < 32 → n < 16 → (step : Step)
-    → IsMarks (with_mark marks x n step)
-mark_whole {marks} is_marks x n is_x isN step = record {
-  whole = mark_length marks x n step ∙ is_marks.whole;
-  few = λ y isY. elim (ℕ_discrete y x) [
-    | yes same ↦ rw (same, count_here marks is_marks.whole x n is_x isN step) (omega arith)
-    | no apart ↦ rw (count_other marks is_marks.whole x n is_x isN step y isY apart) (is_marks.few y isY)
-  ];
-}
-
--- an array of zeros has no marks
-none_counted : (x : ℕ) → x < 32 → step_count (replicate 1568 0) x ≡ 0
-unfolding step_count
-none_counted x is_x = get_or-replicate 1568 (1536 + x) 0 0 (omega arith)
-
-pub no_marks_lem : IsMarks (replicate 1568 0)
-no_marks_lem = record {
-  whole = length-replicate {A = ℕ} 1568 0;
-  few = λ x is_x. rw (none_counted x is_x) (omega arith);
-}
-
-pub no_marks_of : (x : ℕ) → x < 32 → steps_marked (replicate 1568 0) x ≡ []
-unfolding steps_marked up_to from
-no_marks_of x is_x = rw (none_counted x is_x) refl
+-- where there are no marks, no job has a step
+pub no_marks_of : (x : ℕ) → x < 32 → steps_marked no_marks x ≡ []
+unfolding steps_marked step_count up_to from
+no_marks_of x is_x = rw (get_or-replicate {A = ℕ} 32 x 0 0 is_x) refl

@@ -25,9 +25,10 @@ use Rattle.plan.specs.Legality.{Pair, pairs, steps_of, rounds_of, start, end, be
 use Rattle.plan.specs.Legality.{preempt_rule, priority_at, lock_rule, order_fault, lock_fault}
 use Rattle.order_states.specs.Code.SnapshotSteps.{owner_in}
 use Rattle.order_states.proofs.Laws.ShowLaws.{before_lent, preempts_lent}
+use Rattle.plan_marks.specs.declared.Marks.{Marks}
 use Rattle.plan_marks.specs.Code.Marks.{steps_marked, rounds_in, steps_in}
 use Rattle.plan_marks.specs.Code.PairParts.{round_of_start, round_of_end, before_kept, rounds_apart, rounds_nested, none_within}
-use Rattle.plan_marks.specs.Code.PairParts.{preempt_kept, priority_reached, lock_kept, order_faulty, lock_faulty, pair_faulty}
+use Rattle.plan_marks.specs.Code.PairParts.{preempt_kept, priority_reached, lock_kept, order_faulty, lock_faulty}
 use Rattle.plan_marks.specs.Code.PairParts.{pairs_with, pair_fault_among, pair_fault_in}
 use Rattle.plan_marks.specs.Code.RunParts.{Holds}
 
@@ -117,7 +118,7 @@ every_pair P k h =
 -- ---- the rules
 
 module _ {a : Accepted} {program times : List ℕ} {locks : Ceilings} {k : ℕ} (holds : Holds a program times locks k)
-    (marks : List ℕ) (runs : JobRuns) (same : runs.steps ≡ steps_in marks k) where
+    (marks : Marks) (runs : JobRuns) (same : runs.steps ≡ steps_in marks k) where
   steps_agreed : (x : ℕ) → x < k → steps_marked marks x ≡ steps_of runs (job x)
   unfolding steps_of steps_in
   steps_agreed x lt =
@@ -204,8 +205,8 @@ module _ {a : Accepted} {program times : List ℕ} {locks : Ceilings} {k : ℕ} 
       λ j. not (may j && inside j) || ltb (held j) (owner j)
 
   order_agreed : (x y : ℕ) → x < y → y < k
-      → pair_faulty 43 program times marks x y ≡ order_fault a runs (pair_of x y)
-  unfolding pair_faulty order_faulty order_fault
+      → order_faulty program times marks x y ≡ order_fault a runs (pair_of x y)
+  unfolding order_faulty order_fault
   order_agreed x y lt isY =
       let is_x : x < k = omega arith in
       let first = before_agreed x y is_x isY (λ e. omega arith) in
@@ -215,34 +216,33 @@ module _ {a : Accepted} {program times : List ℕ} {locks : Ceilings} {k : ℕ} 
       λ j. not (first j && second j && third j && fourth j)
 
   locks_agreed : (x y : ℕ) → x < y → y < k
-      → pair_faulty 44 program times marks x y ≡ lock_fault a runs (pair_of x y)
-  unfolding pair_faulty lock_faulty lock_fault
+      → lock_faulty program times marks x y ≡ lock_fault a runs (pair_of x y)
+  unfolding lock_faulty lock_fault
   locks_agreed x y lt isY =
       let is_x : x < k = omega arith in
       let first = lock_agreed y x isY is_x in
       let second = lock_agreed x y is_x isY in
       λ j. not (first j && second j)
 
-  -- a fault that agrees on each pair
-  fault_agreed : (number : ℕ) (fault : Pair → Bool)
-      → ((x y : ℕ) → x < y → y < k → pair_faulty number program times marks x y ≡ fault (pair_of x y))
-      → pair_fault_in number program times marks k ≡ placed_by (λ p. p.lower.0) (none_of number fault (pairs a))
+  -- a test that agrees on each pair
+  fault_agreed : (number : ℕ) (test : ℕ → ℕ → Bool) (fault : Pair → Bool)
+      → ((x y : ℕ) → x < y → y < k → test x y ≡ fault (pair_of x y))
+      → pair_fault_in number test k ≡ placed_by (λ p. p.lower.0) (none_of number fault (pairs a))
   unfolding pair_fault_in pair_fault_among
-  fault_agreed number fault agree =
+  fault_agreed number test fault agree =
       ap (placed_by (λ p. p.lower.0))
-      (none_agreed number (λ p. pair_faulty number program times marks p.lower.0 p.higher.0) fault
-      (each (up_to k) (pairs_with k))
-      (every_pair (λ p. pair_faulty number program times marks p.lower.0 p.higher.0 ≡ fault p) k agree)
+      (none_agreed number (λ p. test p.lower.0 p.higher.0) fault (each (up_to k) (pairs_with k))
+      (every_pair (λ p. test p.lower.0 p.higher.0 ≡ fault p) k agree)
       ∙ ap (none_of number fault) (sym (pairs_listed a k holds.total)))
 
 -- ---- the faults
 
 pub pairs_agreed : {a : Accepted} {program times : List ℕ} {locks : Ceilings} {k : ℕ}
-    → Holds a program times locks k → (marks : List ℕ) (runs : JobRuns) → runs.steps ≡ steps_in marks k
-    → (pair_fault_in 43 program times marks k
+    → Holds a program times locks k → (marks : Marks) (runs : JobRuns) → runs.steps ≡ steps_in marks k
+    → (pair_fault_in 43 (order_faulty program times marks) k
     ≡ placed_by (λ p. p.lower.0) (none_of 43 (order_fault a runs) (pairs a)))
-    × (pair_fault_in 44 program times marks k ≡ placed_by (λ p. p.lower.0) (none_of 44 (lock_fault a runs) (pairs a)))
-pairs_agreed {a} holds marks runs same = (
-  fault_agreed holds marks runs same 43 (order_fault a runs) (order_agreed holds marks runs same),
-  fault_agreed holds marks runs same 44 (lock_fault a runs) (locks_agreed holds marks runs same),
+    × (pair_fault_in 44 (lock_faulty program times marks) k ≡ placed_by (λ p. p.lower.0) (none_of 44 (lock_fault a runs) (pairs a)))
+pairs_agreed {a} {program} {times} holds marks runs same = (
+  fault_agreed holds marks runs same 43 (order_faulty program times marks) (order_fault a runs) (order_agreed holds marks runs same),
+  fault_agreed holds marks runs same 44 (lock_faulty program times marks) (lock_fault a runs) (locks_agreed holds marks runs same),
 )

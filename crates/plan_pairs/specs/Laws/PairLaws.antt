@@ -2,34 +2,18 @@
 -- Assumes nothing.
 use Rattle.std.specs.Prelude.{◌≡◌, Bool, true, false}
 use Rattle.std.proofs.Math.Path.{refl, sym, ap}
-use Rattle.std.proofs.Common.{◌∙◌, eq-eqb, ne_eqb}
+use Rattle.std.proofs.Common.{◌∙◌}
 use Prim.Native.Nat.{ℕ, suc, ◌+◌, ◌-◌, ◌≤◌, ◌<◌}
 use native.Mathlib.Omega.{arith}
 use Rattle.std.proofs.lemmas.Bool.{false≢true}
 use Rattle.std.proofs.Math.Logic.{inl, inr}
 use mathlib.Core.List.{List, [], ◌∷◌, map, ◌++◌}
-use Rattle.notation.specs.Checked.{refused, none_of, placed_by}
-use Rattle.std.specs.Prelude.{if◌then◌else◌}
+use Rattle.notation.specs.Checked.{refused, passed, none_of, placed_by}
 use Rattle.notation.specs.Lists.{any, from, up_to, each}
 use Rattle.notation.specs.Laws.SearchLaws.{from_first, from_none}
 use Rattle.notation.specs.Laws.TestLaws.{or_left, or_second, or_neither, test_decided}
 use Rattle.plan.specs.Legality.{Pair}
-use Rattle.order_states.specs.Code.SnapshotSteps.{Program, LentTimes}
-use Rattle.plan_marks.specs.declared.Fault.TheVariants.{Nothing, At}
-use Rattle.plan_marks.specs.Code.Marks.{fault_of}
-use Rattle.plan_marks.specs.Code.PairParts.{order_faulty, lock_faulty, pair_faulty, pairs_with, pair_fault_among, pair_fault_in}
-
--- ---- one pair
-
-module _ (program : Program) (times : LentTimes) (marks : List ℕ) (x y number : ℕ) {b : Bool} where
-  pub pair_order : number ≡ 43 → b ≡ order_faulty program times marks x y → b ≡ pair_faulty number program times marks x y
-  unfolding pair_faulty
-  pair_order is same = same ∙ rw (eq-eqb number 43 is) refl
-
-  pub pair_lock : (number ≡ 43 → ⊥) → b ≡ lock_faulty program times marks x y
-      → b ≡ pair_faulty number program times marks x y
-  unfolding pair_faulty
-  pair_lock other same = same ∙ rw (ne_eqb number 43 other) refl
+use Rattle.plan_marks.specs.Code.PairParts.{pairs_with, pair_fault_among, pair_fault_in}
 
 -- ---- the pairs of one job
 
@@ -84,47 +68,46 @@ module _ {A P : Type 0} (number : ℕ) (fault : P → Bool) (f : A → P) (rest 
       ]
 
 -- the search for a pair with the fault has come to those whose lower job is x, of k jobs
-pub record FaultFrom (number : ℕ) (program : Program) (times : LentTimes) (marks : List ℕ) (k x : ℕ) : Type 0 where
+pub record FaultFrom (number : ℕ) (test : ℕ → ℕ → Bool) (k x : ℕ) : Type 0 where
   pub within : x ≤ k
-  pub same : pair_fault_in number program times marks k
-      ≡ pair_fault_among number program times marks k (from x (k - x))
+  pub same : pair_fault_in number test k ≡ pair_fault_among number test k (from x (k - x))
 
-module _ (number : ℕ) (program : Program) (times : LentTimes) (marks : List ℕ) (k : ℕ) where
+module _ (number : ℕ) (test : ℕ → ℕ → Bool) (k : ℕ) where
   abbrev faulty : Pair → Bool
-  faulty p = pair_faulty number program times marks p.lower.0 p.higher.0
+  faulty p = test p.lower.0 p.higher.0
 
   abbrev lower : Pair → ℕ
   lower p = p.lower.0
 
-  pub fault_starts : FaultFrom number program times marks k 0
+  pub fault_starts : FaultFrom number test k 0
   unfolding pair_fault_in up_to
   fault_starts =
       let whole : k ≡ k - 0 = omega arith in
       record {
         within = omega arith;
-        same = ap (λ (m : ℕ). pair_fault_among number program times marks k (from 0 m)) whole;
+        same = ap (λ (m : ℕ). pair_fault_among number test k (from 0 m)) whole;
       }
 
-  module _ (x : ℕ) (so_far : FaultFrom number program times marks k x) where
+  module _ (x : ℕ) (so_far : FaultFrom number test k x) where
     fault_step : x < k
-        → pair_fault_in number program times marks k
+        → pair_fault_in number test k
         ≡ placed_by (λ p. p.lower.0)
         (none_of number faulty (pairs_with k x ++ each (from (x + 1) (k - (x + 1))) (pairs_with k)))
     unfolding pair_fault_among each
-    fault_step lt = so_far.same ∙ ap (pair_fault_among number program times marks k) (from_first x k lt)
+    fault_step lt = so_far.same ∙ ap (pair_fault_among number test k) (from_first x k lt)
 
     pub fault_found : x < k
-        → {b : Bool} → b ≡ any (pair_faulty number program times marks x) (from (suc x) (k - suc x)) → b ≡ true
-        → At number x ≡ fault_of (pair_fault_in number program times marks k)
-    unfolding pairs_with fault_of
+        → {b : Bool} → b ≡ any (test x) (from (suc x) (k - suc x)) → b ≡ true
+        → refused number x ≡ pair_fault_in number test k
+    unfolding pairs_with
     fault_found lt same h =
-        sym (ap fault_of (fault_step lt
+        sym (fault_step lt
         ∙ images_faulty number faulty (λ y. record { lower = record { 0 = x }; higher = record { 0 = y } }) _
-        (λ p. p.lower.0) x (λ y. refl) (from (suc x) (k - suc x)) (sym same ∙ h)))
+        (λ p. p.lower.0) x (λ y. refl) (from (suc x) (k - suc x)) (sym same ∙ h))
 
     pub fault_later : x < k
-        → {b : Bool} → b ≡ any (pair_faulty number program times marks x) (from (suc x) (k - suc x)) → b ≡ false
-        → FaultFrom number program times marks k (x + 1)
+        → {b : Bool} → b ≡ any (test x) (from (suc x) (k - suc x)) → b ≡ false
+        → FaultFrom number test k (x + 1)
     unfolding pairs_with pair_fault_among
     fault_later lt same h =
         record {
@@ -135,7 +118,6 @@ module _ (number : ℕ) (program : Program) (times : LentTimes) (marks : List �
               (from (suc x) (k - suc x)) (sym same ∙ h));
         }
 
-    pub fault_ends : k ≤ x → Nothing ≡ fault_of (pair_fault_in number program times marks k)
-    unfolding pair_fault_among each none_of placed_by fault_of
-    fault_ends le =
-        sym (ap fault_of (so_far.same ∙ ap (pair_fault_among number program times marks k) (from_none x k le)))
+    pub fault_ends : k ≤ x → passed tt ≡ pair_fault_in number test k
+    unfolding pair_fault_among each none_of placed_by
+    fault_ends le = sym (so_far.same ∙ ap (pair_fault_among number test k) (from_none x k le))

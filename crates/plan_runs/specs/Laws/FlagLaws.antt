@@ -2,7 +2,6 @@
 -- Assumes nothing.
 use Rattle.std.specs.Prelude.{◌≡◌, refl, ℕ, Bool, true, false, ◌||◌, set}
 use Rattle.std.proofs.Common.{set-set}
-use Rattle.std.specs.Prelude.{if◌then◌else◌}
 use Rattle.machine.specs.Ends.{Flags, flagged}
 
 -- a test that holds, and one that does not

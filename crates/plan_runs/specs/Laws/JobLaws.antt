@@ -1,18 +1,17 @@
 -- The run of one job over lent arrays: what holds before each step, and what a step makes of it. The step's bytes are
 -- refused, it ends the job, it goes on, or all sixteen steps are made.
 -- Assumes nothing.
-use Rattle.std.specs.Prelude.{◌≡◌, ℕ, suc, ◌+◌, ◌-◌, ◌*◌, ◌≤◌, ◌<◌, Bool, true, ◌||◌, ltb, get_or}
-use Rattle.std.proofs.Math.Path.{refl, sym, ap, ap₂, subst}
-use Rattle.std.proofs.Common.{◌∙◌, lt-ltb, ltb-false}
+use Rattle.std.specs.Prelude.{◌≡◌, ℕ, suc, ◌+◌, ◌-◌, ◌*◌, ◌≤◌, ◌<◌, Bool, true, ◌||◌, ltb, get_or, Result, Ok, Err, IfOk}
+use Rattle.std.proofs.Math.Path.{refl, sym, ap, ap₂}
+use Rattle.std.proofs.Common.{◌∙◌, lt-ltb}
 use native.Mathlib.Omega.{arith}
 use Rattle.std.proofs.Math.Bool.{false, false≢true}
-use Rattle.std.proofs.Math.Logic.{inl, inr}
 use mathlib.Core.List.{List, [], ◌∷◌, ◌++◌, map, append-nil}
 use Rattle.std.proofs.Math.ListN.{length}
-use Rattle.notation.specs.Checked.{Checked, refused, passed}
+use Rattle.notation.specs.Checked.{Checked, passed, mapped}
 use Rattle.notation.specs.Lists.{from, up_to, bytes_at}
 use Rattle.notation.specs.Laws.TabulateLaws.{values_length}
-use Rattle.notation.specs.Laws.TestLaws.{test_decided, and_second, and_holds}
+use Rattle.notation.specs.Laws.TestLaws.{and_holds}
 use Rattle.taskfile.specs.declared.Ceilings.{Ceilings}
 use Rattle.taskfile.specs.declared.Instruction.{Instruction}
 use Rattle.timing.specs.declared.Job.{Job}
@@ -25,13 +24,14 @@ use Rattle.machine.specs.Instructions.{fresh, perform}
 use Rattle.plan.specs.declared.Round.{Round}
 use Rattle.plan.specs.Runs.{Plan, Step, RunState, JobRun, first_round, round_at, step_bytes, step_effect, step_made, running_after, run_job}
 use Rattle.order_states.specs.Code.SnapshotSteps.{owner_in, instruction_in}
-use Rattle.plan_marks.specs.declared.Fault.{Fault}
-use Rattle.plan_marks.specs.declared.Fault.TheVariants.{Nothing, At}
+use Rattle.taskfile.specs.Code.Refusals.{outcome}
+use Rattle.taskfile.specs.declared.refusals.Refused.{Refused}
 use Rattle.plan_marks.specs.declared.JobRan.{JobRan}
-use Rattle.plan_marks.specs.Code.Marks.{fault_of, store_at, with_store, run_state_in, step_marked, step_count, steps_marked, with_mark, IsMarks}
-use Rattle.plan_marks.specs.Code.RunParts.{Holds, JobRanAs, JobRanOf}
+use Rattle.plan_marks.specs.declared.Marks.{Marks}
+use Rattle.plan_marks.specs.Code.Marks.{store_at, with_store, run_state_in, step_marked, step_count, steps_marked, with_mark}
+use Rattle.plan_marks.specs.Code.RunParts.{Holds, job_run_in, JobRanOf}
 use Rattle.plan.specs.Runs.{step_bytes_for}
-use Rattle.plan_marks.specs.Laws.MarkLaws.{count_here, mark_added, mark_others, mark_whole}
+use Rattle.plan_marks.specs.Laws.MarkLaws.{count_here, mark_added, mark_others}
 use Rattle.plan_marks.specs.Laws.StoreLaws.{put_length}
 use Rattle.plan_runs.specs.Laws.ByteLaws.{bytes_refused, bytes_passed, bytes_round}
 use Rattle.plan_runs.specs.Laws.FlagLaws.{flag_kept}
@@ -44,7 +44,7 @@ use Rattle.machine.proofs.Laws.WithinLaws.{fresh_within, perform_within}
 use Rattle.plan_runs.specs.Laws.NextStepLaws.{after_steps, made_none, made_more, step_refused, step_ended_lem, step_goes}
 
 -- a job's first n steps
-unfoldable pub first_steps : List ℕ → ℕ → ℕ → List Step
+unfoldable pub first_steps : Marks → ℕ → ℕ → List Step
 first_steps marks x n = map (step_marked marks x) (up_to n)
 
 -- the whole run of job x
@@ -52,11 +52,10 @@ abbrev pub whole_job : Accepted → Plan → ℕ → RunState → Checked ℕ Jo
 whole_job a plan x running = run_job a plan (record { 0 = x }) 16 fresh first_round running
 
 -- a job has made n steps: the arrays hold what they made, and its whole run is what is left of it after them
-pub record Running (program : List ℕ) (locks : Ceilings) (plan : Plan) (k x start : ℕ) (stores₀ marks₀ : List ℕ)
-    (owner : ℕ) (stores marks : List ℕ) (local : Local) (previous : Round) (failed : Bool)
+pub record Running (program : List ℕ) (locks : Ceilings) (plan : Plan) (k x start : ℕ) (stores₀ : List ℕ)
+    (marks₀ : Marks) (owner : ℕ) (stores : List ℕ) (marks : Marks) (local : Local) (previous : Round) (failed : Bool)
     (offset n : ℕ) : Type 0 where
   pub room : length stores ≡ 256
-  pub is_marks : IsMarks marks
   pub others : (y : ℕ) → y < 32 → (y ≡ x → ⊥) → steps_marked marks y ≡ steps_marked marks₀ y
   pub near : offset ≡ start + 2 * n
   pub few : n ≤ 16
@@ -72,13 +71,12 @@ pub record Running (program : List ℕ) (locks : Ceilings) (plan : Plan) (k x st
       (run_job a plan (record { 0 = x }) (16 - n) local previous (run_state_in k stores (flagged failed x flags) offset))
 
 -- no step is made yet
-pub run_starts : (program : List ℕ) (locks : Ceilings) (plan : Plan) (k x start : ℕ) (stores marks : List ℕ)
-    {owner : ℕ} {local : Local} → length stores ≡ 256 → IsMarks marks → owner ≡ owner_in program x → local ≡ fresh
+pub run_starts : (program : List ℕ) (locks : Ceilings) (plan : Plan) (k x start : ℕ) (stores : List ℕ) (marks : Marks)
+    {owner : ℕ} {local : Local} → length stores ≡ 256 → owner ≡ owner_in program x → local ≡ fresh
     → Running program locks plan k x start stores marks owner stores marks local first_round false start 0
 unfolding first_steps up_to from
-run_starts program locks plan k x start stores marks room is_marks owned new = record {
+run_starts program locks plan k x start stores marks room owned new = record {
   room = room;
-  is_marks = is_marks;
   others = λ y isY apart. refl;
   near = omega arith;
   few = omega arith;
@@ -89,87 +87,82 @@ run_starts program locks plan k x start stores marks room is_marks owned new = r
   runs = λ a times held isJob flags. rw (new, ← flag_kept false x flags refl) (made_none _);
 }
 
-module _ {program : List ℕ} {locks : Ceilings} {plan : Plan} {k x start : ℕ} {stores₀ marks₀ : List ℕ} {owner : ℕ}
-    {stores marks : List ℕ} {local : Local} {previous : Round} {failed : Bool} {offset n : ℕ}
+module _ {program : List ℕ} {locks : Ceilings} {plan : Plan} {k x start : ℕ} {stores₀ : List ℕ} {marks₀ : Marks}
+    {owner : ℕ} {stores : List ℕ} {marks : Marks} {local : Local} {previous : Round} {failed : Bool} {offset n : ℕ}
     (run : Running program locks plan k x start stores₀ marks₀ owner stores marks local previous failed offset n)
     (whole : length stores₀ ≡ 256) where
-  abbrev ran_with : Fault → JobRan
-  ran_with fault = record { fault = fault; offset = offset; failed = failed }
+  -- the job's run came to this
+  abbrev Ran : Result JobRan (Refused ℕ) → Type 0
+  Ran r = JobRanOf program locks plan k x start stores₀ marks₀ stores marks r
 
-  -- the job's run came to this, with a fault or without
-  abbrev Ran : Fault → Type 0
-  Ran fault = JobRanOf program locks plan k x start stores₀ marks₀ stores marks (ran_with fault)
+  -- it came to its end
+  abbrev ended_here : Result JobRan (Refused ℕ)
+  ended_here = Ok (record { offset = offset; failed = failed })
 
   -- only the run itself is left to show
-  ran_as : (fault : Fault)
+  ran_as : (r : Result JobRan (Refused ℕ)) → IfOk r (λ ran. ran.offset ≤ start + 32)
       → ((a : Accepted) (times : List ℕ) → Holds a program times locks k → IsJob a (record { 0 = x }) → (flags : Flags)
-      → JobRanAs k x flags stores marks (ran_with fault) (whole_job a plan x (run_state_in k stores₀ flags start)))
-      → Ran fault
-  ran_as fault ran = record {
+      → mapped (job_run_in k x flags stores marks) (outcome r)
+      ≡ whole_job a plan x (run_state_in k stores₀ flags start))
+      → Ran r
+  ran_as r near ran = record {
     room = omega (arith, run.room);
-    is_marks = run.is_marks;
     others = run.others;
-    near = omega (arith, run.near, run.few);
+    near = near;
     ran = ran;
   }
 
+  reached : offset ≤ start + 32
+  reached = omega (arith, run.near, run.few)
+
   -- no accepted table has a base or a position out of bounds
-  run_outside : (owner < 8 → local.next < 16 → ⊥) → Ran Nothing
-  run_outside out = ran_as Nothing (λ a times held isJob flags.
+  run_outside : (owner < 8 → local.next < 16 → ⊥) → Ran ended_here
+  run_outside out = ran_as ended_here reached (λ a times held isJob flags.
       absurd (out (owner_small held x isJob run.owned)
       (omega (arith, run.inside a times held isJob, inside_short held x isJob))))
 
   -- all sixteen steps are made
-  run_used : 16 ≤ n → Ran Nothing
-  unfolding run_job after_steps first_steps steps_marked
-  run_used used = ran_as Nothing (λ a times held isJob flags.
+  pub run_used : 16 ≤ n → Ran ended_here
+  unfolding run_job after_steps first_steps steps_marked mapped
+  run_used used = ran_as ended_here reached (λ a times held isJob flags.
       (let none : 16 - n ≡ 0 = omega arith in
-      let ends : whole_job a plan x (run_state_in k stores₀ flags start)
-      ≡ passed (record {
-        steps = first_steps marks x n ++ [];
+      let made : first_steps marks x n ++ [] ≡ steps_marked marks x =
+      append-nil _ ∙ ap (λ (c : ℕ). map (step_marked marks x) (up_to c)) (sym (run.counted (omega arith))) in
+      sym (run.runs a times held isJob flags ∙ rw none refl
+      ∙ ap (λ (l : List Step). passed (record {
+        steps = l;
         running = run_state_in k stores (flagged failed x flags) offset;
-      }) =
-      run.runs a times held isJob flags ∙ rw none refl in
-      subst (JobRanAs k x flags stores marks _) (sym ends)
-      (refl, append-nil _ ∙ ap (λ (c : ℕ). map (step_marked marks x) (up_to c)) (sym (run.counted (omega arith))), refl)))
+      })) made)))
 
   -- no step may be made any more
-  pub run_over : {b : Bool} → b ≡ may_step owner local.next n → b ≡ false → Ran Nothing
+  pub run_over : {b : Bool} → b ≡ may_step owner local.next → b ≡ false → Ran ended_here
   unfolding may_step
   run_over is over =
-      let stops : may_step owner local.next n ≡ false = sym is ∙ over in
-      elim (test_decided (ltb n 16)) [
-        | inl more ↦ run_outside (λ low within.
-            false≢true (sym (sym (and_second (ltb n 16) _ more) ∙ stops)
-            ∙ and_holds (ltb owner 8) _ (lt-ltb _ _ low) (lt-ltb _ _ within)))
-        | inr used ↦ run_used (ltb-false _ _ used)
-      ]
+      run_outside (λ low within.
+      false≢true (sym (sym is ∙ over) ∙ and_holds (ltb owner 8) _ (lt-ltb _ _ low) (lt-ltb _ _ within)))
 
-  module _ {i : Instruction} (reads : i ≡ instruction_in program owner local.next) {fault : Fault}
-      (is : fault ≡ fault_of (step_bytes_for k i plan previous offset)) (more : n < 16) where
+  module _ {i : Instruction} (reads : i ≡ instruction_in program owner local.next) (more : n < 16) where
     left : 16 - n ≡ suc (16 - (n + 1))
     left = omega arith
 
     -- the step's bytes are refused
-    pub run_refused_lem : {number place : ℕ} → fault ≡ At number place → Ran fault
-    unfolding after_steps run_state_in
-    run_refused_lem {number} {place} there = ran_as fault (λ a times held isJob flags.
+    pub run_refused_lem : {e : Refused ℕ} → outcome (Err e) ≡ step_bytes_for k i plan previous offset → Ran (Err e)
+    unfolding after_steps run_state_in mapped
+    run_refused_lem {e} is = ran_as (Err e) tt (λ a times held isJob flags.
         (let inside = run.inside a times held isJob in
         let bytes =
         bytes_lent held x isJob run.owned local inside reads plan previous offset
-        ∙ bytes_refused k i plan previous offset is there in
-        let ends : whole_job a plan x (run_state_in k stores₀ flags start) ≡ refused number place =
-        run.runs a times held isJob flags
-        ∙ rw left (ap (after_steps (first_steps marks x n)) (step_refused a plan _ (16 - (n + 1)) local previous _ bytes)) in
-        subst (JobRanAs k x flags stores marks _) (sym ends) there))
+        ∙ bytes_refused k i plan previous offset e is in
+        sym (run.runs a times held isJob flags
+        ∙ rw left (ap (after_steps (first_steps marks x n)) (step_refused a plan _ (16 - (n + 1)) local previous _ bytes)))))
 
-    module _ (clear : fault ≡ Nothing) (is_x : x < 32) (rounds : k ≤ 32) {effect : Effect}
+    module _ (is : outcome {P = ℕ} (Ok tt) ≡ step_bytes_for k i plan previous offset) (is_x : x < 32) (rounds : k ≤ 32) {effect : Effect}
         (does : effect ≡ perform i (get_or plan (offset + 1) 0) local (store_at stores (round_at plan offset).0))
-        {stores' marks' : List ℕ} (puts : stores' ≡ with_store stores (round_at plan offset).0 effect.store)
+        {stores' : List ℕ} {marks' : Marks} (puts : stores' ≡ with_store stores (round_at plan offset).0 effect.store)
         (notes : marks' ≡ with_mark marks x n (lent_step locks plan owner offset effect)) {failed' : Bool}
         (either : failed' ≡ (failed || effect.failed)) where
       is_round : (round_at plan offset).0 < k
-      is_round = bytes_round k i plan previous offset is clear
+      is_round = bytes_round k i plan previous offset is
 
       eight : length effect.store ≡ 8
       unfolding store_at bytes_at
@@ -180,21 +173,18 @@ module _ {program : List ℕ} {locks : Ceilings} {plan : Plan} {k x start : ℕ}
           ap (λ (l : List ℕ). length l) puts ∙ put_length stores run.room _ (omega (arith, is_round)) _ eight
           ∙ run.room
 
-      is_marks' : IsMarks marks'
-      is_marks' = rw notes (mark_whole run.is_marks x n is_x more _)
-
       others' : (y : ℕ) → y < 32 → (y ≡ x → ⊥) → steps_marked marks' y ≡ steps_marked marks₀ y
       others' y isY apart =
-          ap (λ (m : List ℕ). steps_marked m y) notes
-          ∙ mark_others marks run.is_marks.whole x n is_x more _ y isY apart (run.is_marks.few y isY)
+          ap (λ (m : Marks). steps_marked m y) notes
+          ∙ mark_others marks x n is_x more _ y apart
           ∙ run.others y isY apart
 
       counted' : step_count marks' x ≡ n + 1
-      counted' = ap (λ (m : List ℕ). step_count m x) notes ∙ count_here marks run.is_marks.whole x n is_x more _
+      counted' = ap (λ (m : Marks). step_count m x) notes ∙ count_here marks x n is_x more _
 
       added : steps_marked marks' x ≡ first_steps marks x n ++ (lent_step locks plan owner offset effect ∷ [])
       unfolding first_steps
-      added = ap (λ (m : List ℕ). steps_marked m x) notes ∙ mark_added marks run.is_marks.whole x n is_x more _
+      added = ap (λ (m : Marks). steps_marked m x) notes ∙ mark_added marks x n is_x more _
 
       first_added : first_steps marks' x (n + 1)
           ≡ first_steps marks x n ++ (lent_step locks plan owner offset effect ∷ [])
@@ -219,7 +209,7 @@ module _ {program : List ℕ} {locks : Ceilings} {plan : Plan} {k x start : ℕ}
         passes : step_bytes a plan job local previous offset ≡ passed tt
         passes =
             bytes_lent held x isJob run.owned local inside reads plan previous offset
-            ∙ bytes_passed k i plan previous offset is clear
+            ∙ bytes_passed k i plan previous offset is
 
         effect_is : step_effect a plan job local before ≡ effect
         effect_is =
@@ -264,14 +254,14 @@ module _ {program : List ℕ} {locks : Ceilings} {plan : Plan} {k x start : ℕ}
       -- the step ends the job
       pub run_ended : effect.ended ≡ true
           → JobRanOf program locks plan k x start stores₀ marks₀ stores' marks'
-          (record { fault = Nothing; offset = offset + 2; failed = failed' })
+          (Ok (record { offset = offset + 2; failed = failed' }))
+      unfolding mapped
       run_ended ends = record {
         room = omega (arith, room');
-        is_marks = is_marks';
         others = others';
         near = omega (arith, run.near);
         ran = λ a times held isJob flags.
-            subst (JobRanAs k x flags stores' marks' _) (sym (ended_is held isJob flags ends)) (refl, refl, refl);
+            sym (ended_is held isJob flags ends);
       }
 
       -- the step does not end it
@@ -280,7 +270,6 @@ module _ {program : List ℕ} {locks : Ceilings} {plan : Plan} {k x start : ℕ}
           (offset + 2) (n + 1)
       run_goes noted goes = rw noted record {
         room = room';
-        is_marks = is_marks';
         others = others';
         near = omega (arith, run.near);
         few = omega arith;

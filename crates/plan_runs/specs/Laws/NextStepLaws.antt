@@ -4,7 +4,6 @@ use Rattle.std.specs.Prelude.{◌≡◌, ℕ, suc, true, false, List, [], ◌∷
 use Rattle.std.proofs.Math.Path.{refl}
 use Rattle.std.proofs.Common.{sym, ap, append_assoc}
 use Rattle.notation.specs.Checked.{Checked, refused, passed, ◌>>=◌, ◌>>◌}
-use Rattle.std.specs.Prelude.{if◌then◌else◌}
 use Rattle.timing.specs.declared.Job.{Job}
 use Rattle.timing.specs.Accepted.{Accepted}
 use Rattle.machine.specs.declared.Local.{Local}

@@ -1,52 +1,37 @@
 -- Laws of one step of a plan's run: how its two bytes are judged, and what it leaves.
 -- Assumes nothing.
-use Rattle.std.specs.Prelude.{◌≡◌, ℕ, ◌+◌, ◌≤◌, ◌<◌, Bool, not, ◌&&◌, List, leb, ltb, length, get_or}
+use Rattle.std.specs.Prelude.{◌≡◌, ℕ, ◌+◌, ◌≤◌, ◌<◌, Bool, not, ◌&&◌, leb, ltb, length, get_or}
 use Rattle.std.proofs.Math.Path.{sym, ap}
 use Rattle.std.proofs.Common.{◌∙◌}
 use Rattle.std.proofs.Math.Bool.{true, false}
 use borrow.Author.Tests.{lt-ltb, le-ltb, le-leb, lt-leb, ltb-true, not-true, not-false}
-use Rattle.notation.specs.Checked.{Checked, require, ◌>>◌}
+use Rattle.notation.specs.Checked.{Checked, refused, passed, require, ◌>>◌}
 use Rattle.notation.specs.Laws.CheckedLaws.{require_holds, require_fails}
-use Rattle.notation.specs.Laws.TestLaws.{and_both, and_first, and_second, and_last, and_holds}
+use Rattle.notation.specs.Laws.TestLaws.{and_both, and_first, and_last, and_holds}
 use Rattle.notation.specs.Lists.{member}
 use Rattle.taskfile.specs.declared.Instruction.{Instruction}
 use Rattle.machine.specs.Instructions.{values}
 use Rattle.plan.specs.declared.Round.{Round}
 use Rattle.plan.specs.Runs.{Plan}
-use Rattle.plan_marks.specs.declared.Fault.{Fault}
-use Rattle.plan_marks.specs.declared.Fault.TheVariants.{Nothing, At}
-use Rattle.plan_marks.specs.Code.Marks.{fault_of, with_mark}
+use Rattle.plan_marks.specs.declared.Marks.{Marks}
+use Rattle.plan_marks.specs.Code.Marks.{with_mark}
 use Rattle.plan.specs.Runs.{step_bytes_for}
 use Rattle.plan_runs.specs.Code.StepBounds.{may_step}
 
 -- ---- whether a step may be made
 
-module _ (base next n : ℕ) where
-  pub may_used : 16 ≤ n → false ≡ may_step base next n
-  unfolding may_step
-  may_used used = sym (and_first (ltb n 16) _ (le-ltb _ _ used))
-
-  pub may_high : 8 ≤ base → false ≡ may_step base next n
-  unfolding may_step
-  may_high high = sym (and_last (ltb n 16) _ (and_first (ltb base 8) _ (le-ltb _ _ high)))
-
-  pub may_next : n < 16 → base < 8 → ltb next 16 ≡ may_step base next n
-  unfolding may_step
-  may_next few low = sym (and_second (ltb n 16) _ (lt-ltb _ _ few) ∙ and_second (ltb base 8) _ (lt-ltb _ _ low))
-
-  -- what a step that may be made is known by
-  pub may_bounds : {b : Bool} → b ≡ may_step base next n → b ≡ true → (n < 16) × (base < 8) × (next < 16)
-  unfolding may_step
-  may_bounds is may =
-      let first = and_both (ltb n 16) _ (sym is ∙ may) in
-      let rest = and_both (ltb base 8) _ first.1 in
-      (ltb-true _ _ first.0, ltb-true _ _ rest.0, ltb-true _ _ rest.1)
+-- what a step that may be made is known by
+pub may_bounds : (base next : ℕ) {b : Bool} → b ≡ may_step base next → b ≡ true → (base < 8) × (next < 16)
+unfolding may_step
+may_bounds base next is may =
+    let both = and_both (ltb base 8) _ (sym is ∙ may) in
+    (ltb-true _ _ both.0, ltb-true _ _ both.1)
 
 -- ---- the step's two bytes, judged in the order 40, 42, 41
 
 module _ (k : ℕ) (i : Instruction) (plan : Plan) (previous : Round) (offset : ℕ) where
-  abbrev judged : Fault
-  judged = fault_of (step_bytes_for k i plan previous offset)
+  abbrev judged : Checked ℕ (Unit {0})
+  judged = step_bytes_for k i plan previous offset
 
   abbrev in_rounds : Bool
   in_rounds = ltb (get_or plan offset 0) k && leb previous.0 (get_or plan offset 0)
@@ -61,26 +46,24 @@ module _ (k : ℕ) (i : Instruction) (plan : Plan) (previous : Round) (offset : 
   placed = ◌>>◌ (require in_rounds 42 offset) valued
 
   -- bytes run out
-  pub step_short : length plan ≤ offset + 1 → At 40 (length plan) ≡ judged
-  unfolding step_bytes_for fault_of
-  step_short short =
-      ap fault_of (sym (require_fails (ltb (offset + 1) (length plan)) 40 (length plan) placed (le-ltb _ _ short)))
+  pub step_short : length plan ≤ offset + 1 → refused 40 (length plan) ≡ judged
+  unfolding step_bytes_for
+  step_short short = sym (require_fails (ltb (offset + 1) (length plan)) 40 (length plan) placed (le-ltb _ _ short))
 
   module _ (long : offset + 1 < length plan) where
     there : step_bytes_for k i plan previous offset ≡ placed
     unfolding step_bytes_for
     there = require_holds (ltb (offset + 1) (length plan)) 40 (length plan) placed (lt-ltb _ _ long)
 
-    outside : in_rounds ≡ false → At 42 offset ≡ judged
-    unfolding fault_of
-    outside out = ap fault_of (sym (there ∙ require_fails in_rounds 42 offset valued out))
+    outside : in_rounds ≡ false → refused 42 offset ≡ judged
+    outside out = sym (there ∙ require_fails in_rounds 42 offset valued out)
 
     -- a round that is none of the k
-    pub step_beyond : k ≤ get_or plan offset 0 → At 42 offset ≡ judged
+    pub step_beyond : k ≤ get_or plan offset 0 → refused 42 offset ≡ judged
     step_beyond beyond = outside (and_first (ltb (get_or plan offset 0) k) _ (le-ltb _ _ beyond))
 
     -- a round before the job's previous step's
-    pub step_back : get_or plan offset 0 < previous.0 → At 42 offset ≡ judged
+    pub step_back : get_or plan offset 0 < previous.0 → refused 42 offset ≡ judged
     step_back back = outside (and_last (ltb (get_or plan offset 0) k) _ (lt-leb _ _ back))
 
     module _ (among : get_or plan offset 0 < k) (onward : previous.0 ≤ get_or plan offset 0) where
@@ -91,23 +74,23 @@ module _ (k : ℕ) (i : Instruction) (plan : Plan) (previous : Round) (offset : 
           (and_holds (ltb (get_or plan offset 0) k) _ (lt-ltb _ _ among) (le-leb _ _ onward))
 
       -- a value that is not on offer
-      pub step_not_offered : {b : Bool} → b ≡ offered → not b ≡ true → At 41 (offset + 1) ≡ judged
-      unfolding fault_of require
+      pub step_not_offered : {b : Bool} → b ≡ offered → not b ≡ true → refused 41 (offset + 1) ≡ judged
+      unfolding require
       step_not_offered {b} is h =
           let no : offered ≡ false = sym is ∙ not-true b h in
-          sym (ap fault_of (within ∙ ap (λ (t : Bool). require t 41 (offset + 1)) no))
+          sym (within ∙ ap (λ (t : Bool). require t 41 (offset + 1)) no)
 
-      -- no fault
-      pub step_good : {b : Bool} → b ≡ offered → not b ≡ false → Nothing ≡ judged
-      unfolding fault_of require
+      -- no refusal
+      pub step_good : {b : Bool} → b ≡ offered → not b ≡ false → passed tt ≡ judged
+      unfolding require
       step_good {b} is h =
           let good : offered ≡ true = sym is ∙ not-false b h in
-          sym (ap fault_of (within ∙ ap (λ (t : Bool). require t 41 (offset + 1)) good))
+          sym (within ∙ ap (λ (t : Bool). require t 41 (offset + 1)) good)
 
 -- ---- what the step leaves
 
 -- a priority that is the same makes the same mark
-pub mark_noted : (marks : List ℕ) (x n : ℕ) (r : Round) (v : ℕ) {p q : ℕ} → p ≡ q
+pub mark_noted : (marks : Marks) (x n : ℕ) (r : Round) (v : ℕ) {p q : ℕ} → p ≡ q
     → with_mark marks x n (record { round = r; value = v; priority_after = p })
     ≡ with_mark marks x n (record { round = r; value = v; priority_after = q })
 mark_noted marks x n r v own = ap (λ (p : ℕ). with_mark marks x n (record { round = r; value = v; priority_after = p })) own

@@ -1,7 +1,7 @@
--- `sheets_lines::fill_sheet` meets its contract: a text that may be too short, and one with room for every sheet.
+-- A text that may be too short, and one with room for every sheet.
 -- Assumes nothing.
-use native.Mathlib.Omega.{arith}
-use borrow.Author.Rules.{rules}
+use Rattle.std.proofs.Common.{refl, rules, arith}
+use Rattle.notation_buffers.specs.Laws.FrontLaws.{page_puts}
 use Rattle.sheets_lines.specs.Laws.SheetLaws.{sheet_no_room, sheet_within, sheet_answers}
 use Rattle.sheets_lines.proofs.fill_sheet.Goals as goal
 
@@ -11,9 +11,15 @@ returns-then-text-lt-SHEET_ROOM c =
     record { answer = left.0; written = left.1 }
 
 pub overflow_cast-result : goal.overflow_cast-result
-overflow_cast-result c = omega (arith, sheet_within _ _ c.if-text-lt-SHEET_ROOM.false c.put_sheet-length.ensures)
+overflow_cast-result c =
+    let page = c.new-page.ensures in
+    let puts = page_puts page.holds page.front c.put_sheet.ensures c.written.ensures.counts refl in
+    omega (arith, sheet_within c.args.file.now c.args.text.now c.if-text-lt-SHEET_ROOM.false puts)
 
 pub returns : goal.returns
 returns c =
-    let left = sheet_answers _ _ c.if-text-lt-SHEET_ROOM.false c.put_sheet-length.ensures in
+    let page = c.new-page.ensures in
+    let left =
+    sheet_answers c.args.file.now _ c.if-text-lt-SHEET_ROOM.false
+    (page_puts page.holds page.front c.put_sheet.ensures c.written.ensures.counts (search rules)) in
     record { answer = left.0; written = left.1 }

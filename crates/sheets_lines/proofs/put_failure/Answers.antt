@@ -1,6 +1,5 @@
--- `sheets_lines::put_failure` meets its contract: the lines of a failing order stand one after the other.
+-- The lines of a failing order stand one after the other.
 -- Assumes nothing.
-use borrow.Author.Rules.{rules}
 use Rattle.sheets.specs.SheetWords.{fails_word}
 use Rattle.sheets_lines.specs.Laws.FindingLaws.{failure_put}
 use Rattle.sheets_lines.proofs.put_failure.Goals as goal
@@ -8,5 +7,5 @@ use Rattle.sheets_lines.proofs.put_failure.Goals as goal
 pub returns : goal.returns
 unfolding fails_word
 returns c =
-    failure_put c.plan_marks-marks.ensures c.put_verdict-verdict.ensures c.put_order-ordered.ensures
-    c.put_failed-noted.ensures c.put_jobs_rounds.ensures
+    failure_put c.plan_marks.ensures c.put_verdict.ensures c.put_order.ensures c.put_failed.ensures
+    c.put_jobs_rounds.ensures

@@ -5,6 +5,8 @@ use Rattle.std.proofs.Math.Option.{some}
 use Rattle.notation.specs.Checked.{passed}
 use Rattle.notation.specs.Lists.{up_to, each}
 use Rattle.notation.specs.Texts.{Text, decimal, line}
+use Rattle.notation_buffers.specs.declared.pages.Page.{Page}
+use Rattle.notation_buffers.specs.Code.Pages.{Puts}
 use Rattle.taskfile.specs.Judgement.{numbered}
 use Rattle.taskfile.specs.Tables.{task_of}
 use Rattle.taskfile.specs.declared.Table.{Table}
@@ -13,17 +15,16 @@ use Rattle.timing.specs.Code.IsAccepted.{IsAccepted}
 use Rattle.timing.specs.Code.JobParts.{job_list_of}
 use Rattle.timing.specs.Jobs.{jobs_within}
 use Rattle.timing.specs.declared.JobList.{JobList}
-use Rattle.machine.specs.Ends.{End}
+use Rattle.machine.specs.declared.End.{End}
 use Rattle.order.specs.Orders.{OrderEnds}
 use Rattle.plan.specs.Plans.{legal_run}
 use Rattle.matching.specs.Conversions.{plan_of}
 use Rattle.walk.specs.WalkEntry.{decided}
 use Rattle.walk.specs.Walks.{EndedOrder, walk}
 use Rattle.walk.specs.declared.WalkAnswer.{WalkAnswer}
-use Rattle.plan_marks.specs.Code.Marks.{IsMarks}
+use Rattle.plan_marks.specs.declared.Marks.{Marks}
 use Rattle.sheets.specs.Sheets.{sheet_allowance, findings, rounds_lines}
 use Rattle.sheets.specs.SheetWords.{task_word, response_word, jobs_word}
-use Rattle.sheets_printing.specs.Code.Puts.{PutsText}
 use Rattle.sheets_failing.specs.Code.LineParts.{job_line}
 
 -- the line of task i of a table whose response times stand in an array
@@ -52,9 +53,8 @@ unfoldable pub findings_of : Accepted → Text
 findings_of a = findings a (decided sheet_allowance (walk a))
 
 -- it was written
-abbrev pub PutsFindings : Table → JobList → Text → ℕ → Text → ℕ → Type 0
-PutsFindings t list before at after n =
-    (a : Accepted) → PartsOf a t list → PutsText before at (findings_of a) after n
+abbrev pub PutsFindings : Table → JobList → Page → Page → Type 0
+PutsFindings t list before after = (a : Accepted) → PartsOf a t list → Puts before (findings_of a) after
 
 -- a walk's answer that shows a failing order of an accepted table
 pub record FailingParts (a : Accepted) (t : Table) (list : JobList) (w : WalkAnswer) (order : List ℕ) : Type 0 where
@@ -67,12 +67,11 @@ pub record FailingParts (a : Accepted) (t : Table) (list : JobList) (w : WalkAns
   pub bytes : order ≡ shown.bytes
 
 -- what the walk finds was written, where it is this failing order
-abbrev pub PutsFailure : Table → JobList → WalkAnswer → List ℕ → Text → ℕ → Text → ℕ → Type 0
-PutsFailure t list w order before at after n =
-    (a : Accepted) → FailingParts a t list w order → PutsText before at (findings_of a) after n
+abbrev pub PutsFailure : Table → JobList → WalkAnswer → List ℕ → Page → Page → Type 0
+PutsFailure t list w order before after =
+    (a : Accepted) → FailingParts a t list w order → Puts before (findings_of a) after
 
 -- the marks of the steps of a complete order's plan: they hold each job's rounds
-pub record MarksOf (t : Table) (list : JobList) (order marks : List ℕ) : Type 0 where
-  pub is_marks : IsMarks marks
+pub record MarksOf (t : Table) (list : JobList) (order : List ℕ) (marks : Marks) : Type 0 where
   pub rounds : (a : Accepted) → PartsOf a t list → {e : End} → OrderEnds a order e
       → rounds_lines a (legal_run a (plan_of a order)) ≡ each (up_to list.count) (job_line marks)

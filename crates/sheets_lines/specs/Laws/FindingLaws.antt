@@ -4,7 +4,7 @@ use Rattle.std.proofs.Math.Path.{◌≡◌, refl, sym, ap, ap₂}
 use Rattle.std.proofs.Common.{subst, ◌∙◌, arith}
 use Rattle.std.specs.Prelude.{◌⊎◌, Bool, true, false, leb}
 use Rattle.std.proofs.Math.Logic.{inl, inr}
-use Prim.Native.Nat.{ℕ, ◌^◌, ◌≤◌, ◌<◌}
+use Prim.Native.Nat.{ℕ, ◌≤◌}
 use mathlib.Core.List.{List, [], ◌∷◌, ◌++◌, map, map-map}
 use Rattle.std.proofs.Math.Option.{Option, none, some}
 use Rattle.std.proofs.Math.ListN.{length, get_or, take, length-take}
@@ -28,15 +28,17 @@ use Rattle.walk.specs.WalkEntry.{decided, refusal, verdict_of, decided_answer, s
 use Rattle.walk.specs.Walks.{EndedOrder, Walked, walk}
 use Rattle.walk.specs.declared.Verdict.TheVariants.{None, Holds, Fails}
 use Rattle.walk.specs.declared.WalkAnswer.{WalkAnswer}
-use Rattle.walk_trials.specs.Code.Outcomes.{answer_of, shown_length}
-use Rattle.walk_trials.specs.Laws.OutcomeLaws.{length_found}
+use Rattle.walk_trials.specs.Code.Outcomes.{Short, answer_of, shown_length}
+use Rattle.walk_trials.specs.Laws.OutcomeLaws.{short_shown}
 use Rattle.walk_trials.specs.declared.Outcome.{Outcome}
 use Rattle.walk_trials.specs.Code.WalkParts.{WalkOf}
 use Rattle.walk_trials.specs.Laws.WalkEntryLaws.{EntryOf, entry}
 use Rattle.sheets.specs.Sheets.{sheet_allowance, refused_line, order_line, failed_line, rounds_lines, verdict_lines, findings}
 use Rattle.sheets.specs.SheetWords.{failed_word, verdict_word, holds_word, fails_word}
-use Rattle.sheets_printing.specs.Code.Puts.{PutsText}
-use Rattle.sheets_printing.specs.Laws.LineLaws.{puts_same, puts_more}
+use Rattle.notation_buffers.specs.declared.pages.Page.{Page}
+use Rattle.notation_buffers.specs.Code.Pages.{Puts}
+use Rattle.notation_buffers.specs.Laws.PageLaws.{puts_same, puts_more}
+use Rattle.plan_marks.specs.declared.Marks.{Marks}
 use Rattle.sheets_failing.specs.Code.LineParts.{job_line}
 use Rattle.sheets_lines.specs.Code.SheetParts.{PartsOf, findings_of, PutsFailure, FailingParts, MarksOf}
 
@@ -71,8 +73,8 @@ module _ {a : Accepted} {t : Table} {list : JobList} (p : PartsOf a t list) {bef
   fit = entry p.accepted (walked a p.accepted p.table p.listed)
 
   -- an order found is short
-  pub found_short : r.found ≡ true → r.length < 2 ^ 32
-  found_short found = omega (arith, length_found r found, fit.counted, fit.short)
+  pub found_short : Short r
+  found_short = short_shown r (omega (arith, fit.counted, fit.short))
 
   module _ {w : WalkAnswer} (answers : w ≡ answer_of r) where
     answer_is : w ≡ decided_answer (decided sheet_allowance (walk a))
@@ -109,8 +111,8 @@ module _ {a : Accepted} {t : Table} {list : JobList} (p : PartsOf a t list) {bef
     refused_case (fails found e d is held) Some-number = absurd (Some-number (ap (λ (x : WalkAnswer). x.number) is))
 
     -- a number: its line
-    pub findings_refused : (w.number ≡ 0 → ⊥) → {text : List ℕ} {at : ℕ} {after : List ℕ} {n : ℕ}
-        → PutsText text at (refused_line w.number w.place) after n → PutsText text at (findings_of a) after n
+    pub findings_refused : (w.number ≡ 0 → ⊥) → {before after : Page}
+        → Puts before (refused_line w.number w.place) after → Puts before (findings_of a) after
     findings_refused Some-number puts = puts_same (sym (refused_case shows Some-number)) puts
 
     holds_case : Shows a w path → w.number ≡ 0 → (w.verdict ≡ Fails → ⊥)
@@ -123,9 +125,8 @@ module _ {a : Accepted} {t : Table} {list : JobList} (p : PartsOf a t list) {bef
     holds_case (fails found e d is held) clean no-failure = absurd (no-failure (ap (λ (x : WalkAnswer). x.verdict) is))
 
     -- no number and no failure: the verdict that it holds
-    pub findings_holds : w.number ≡ 0 → (w.verdict ≡ Fails → ⊥) → {text : List ℕ} {at : ℕ} {after : List ℕ} {n : ℕ}
-        → PutsText text at (line verdict_word (holds_word ∷ decimal w.count ∷ [])) after n
-        → PutsText text at (findings_of a) after n
+    pub findings_holds : w.number ≡ 0 → (w.verdict ≡ Fails → ⊥) → {before after : Page}
+        → Puts before (line verdict_word (holds_word ∷ decimal w.count ∷ [])) after → Puts before (findings_of a) after
     findings_holds clean no-failure puts = puts_same (sym (holds_case shows clean no-failure)) puts
 
     fails_case : Shows a w path → w.verdict ≡ Fails
@@ -198,7 +199,7 @@ module _ {a : Accepted} {t : Table} {list : JobList} {w : WalkAnswer} {order : L
       p.failed count
       ∙ ap (line failed_word) (failed_numbers a p.shown.ending.failed)
 
-  failure_is : {marks : List ℕ} → MarksOf t list order marks
+  failure_is : {marks : Marks} → MarksOf t list order marks
       → ((line verdict_word (fails_word ∷ decimal w.count ∷ []) ++ order_line order)
       ++ line failed_word (map decimal (only (λ x. get_or w.failed x false) (up_to list.count))))
       ++ each (up_to list.count) (job_line marks)
@@ -215,12 +216,10 @@ module _ {a : Accepted} {t : Table} {list : JobList} {w : WalkAnswer} {order : L
       ∙ sym (ap (findings a) p.decides ∙ ap (verdict_lines a (walk a).count) p.fails)
 
 -- the four lines one after the other
-pub failure_put : {t : Table} {list : JobList} {w : WalkAnswer} {order marks : List ℕ} → MarksOf t list order marks
-    → {before : List ℕ} {at : ℕ} {one : List ℕ} {l : ℕ} {two : List ℕ} {m : ℕ} {three : List ℕ} {k : ℕ}
-    {after : List ℕ} {n : ℕ} → PutsText before at (line verdict_word (fails_word ∷ decimal w.count ∷ [])) one l
-    → PutsText one l (order_line order) two m
-    → PutsText two m (line failed_word (map decimal (only (λ x. get_or w.failed x false) (up_to list.count)))) three k
-    → PutsText three k (each (up_to list.count) (job_line marks)) after n
-    → PutsFailure t list w order before at after n
+pub failure_put : {t : Table} {list : JobList} {w : WalkAnswer} {order : List ℕ} {marks : Marks} → MarksOf t list order marks
+    → {before one two three after : Page} → Puts before (line verdict_word (fails_word ∷ decimal w.count ∷ [])) one
+    → Puts one (order_line order) two
+    → Puts two (line failed_word (map decimal (only (λ x. get_or w.failed x false) (up_to list.count)))) three
+    → Puts three (each (up_to list.count) (job_line marks)) after → PutsFailure t list w order before after
 failure_put marked first second third fourth a p =
     puts_same (failure_is p marked) (puts_more (puts_more (puts_more first second) third) fourth)

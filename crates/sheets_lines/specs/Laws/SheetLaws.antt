@@ -6,24 +6,23 @@ use Rattle.std.proofs.Common.{subst, ◌∙◌, arith, le-leb}
 use Prim.Native.Nat.{ℕ, ◌≤◌, ◌<◌}
 use Rattle.std.proofs.Math.ListN.{length}
 use Rattle.std.proofs.lemmas.Bool.{lt-leb}
-use Rattle.notation.specs.Checked.{Checked, passed}
+use Rattle.notation.specs.Checked.{Checked, refused, passed, mapped}
 use Rattle.notation.specs.Laws.CheckedLaws.{require_holds, require_fails}
 use Rattle.notation.specs.Lists.{up_to, each}
 use Rattle.notation.specs.Texts.{Text, decimal, line}
 use Rattle.taskfile.proofs.Laws.JudgingLaws.{tasks_length}
 use Rattle.taskfile.specs.Records.{File}
 use Rattle.taskfile.specs.Tables.{tasks_of}
-use Rattle.taskfile.specs.declared.Check.TheVariants.{Passed, Refused}
 use Rattle.taskfile.specs.declared.Table.{Table}
 use Rattle.timing.specs.Accepted.{Accepted, accept}
-use Rattle.timing.specs.Code.AcceptParts.{AcceptedParts, AcceptedAs}
+use Rattle.timing.specs.Code.AcceptParts.{AcceptedParts, accepted_file}
 use Rattle.timing.specs.Code.IsAccepted.{IsAccepted}
 use Rattle.timing.specs.Code.JobParts.{job_list_of}
 use Rattle.timing.specs.Code.ResponseParts.{Timeable}
-use Rattle.timing.proofs.Laws.AcceptLaws.{accepted_refused, accepted_passed}
+use Rattle.timing.proofs.Laws.AcceptLaws.{accepted_refused, accepted_passed, accepted_timeable}
 use Rattle.timing.proofs.Laws.AcceptedLaws.{file_accepted}
 use Rattle.timing.proofs.Laws.JobFacts.{jobs_few}
-use Rattle.timing.specs.declared.AcceptAnswer.{AcceptAnswer}
+use Rattle.timing.specs.declared.AcceptedFile.{AcceptedFile}
 use Rattle.timing.specs.declared.JobList.{JobList}
 use Rattle.plan.specs.Runs.{job_total}
 use Rattle.notation_buffers.specs.Laws.WritingLaws.{appends_count, appends_front}
@@ -31,24 +30,25 @@ use Rattle.sheets.proofs.Laws.SheetSizes.{sheet_fits}
 use Rattle.sheets.specs.Sheets.{refused_line, totals_line, table_sheet, sheet_from, sheet_of}
 use Rattle.sheets.specs.Sheets.{sheet_room, printed, sheet_answer_of, sheet_after_of, sheet_answer, sheet_after}
 use Rattle.sheets.specs.SheetWords.{tasks_word, jobs_word}
-use Rattle.sheets_printing.specs.Code.Puts.{PutsText}
-use Rattle.sheets_printing.specs.Laws.LineLaws.{puts_same, puts_more}
+use Rattle.notation_buffers.specs.declared.pages.Page.{Page}
+use Rattle.notation_buffers.specs.Code.Pages.{Puts}
+use Rattle.notation_buffers.specs.Code.Writing.{Appends}
+use Rattle.notation_buffers.specs.Laws.PageLaws.{puts_same, puts_more}
 use Rattle.sheets_lines.specs.Code.SheetParts.{task_text, PartsOf, Parts, findings_of, PutsFindings}
-use Rattle.sheets_lines.specs.Laws.TaskLines.{accepted_timeable, task_lines_held}
+use Rattle.sheets_lines.specs.Laws.TaskLines.{task_lines_held}
 
 -- ---- the sheet
 
-module _ (f : File) (x : AcceptAnswer) (says : AcceptedAs x (accept f)) where
+module _ (f : File) where
   -- a refused file's sheet is the line of its refusal
-  pub sheet_refused : {number place : ℕ} → x.check ≡ Refused number place
-      → {before : List ℕ} {text : List ℕ} {n : ℕ} → PutsText before 0 (refused_line number place) text n
-      → PutsText before 0 (sheet_of f) text n
+  pub sheet_refused : {number place : ℕ} → refused number place ≡ mapped accepted_file (accept f)
+      → {before after : Page} → Puts before (refused_line number place) after → Puts before (sheet_of f) after
   unfolding sheet_of sheet_from
-  sheet_refused e puts = puts_same (sym (ap sheet_from (accepted_refused x (accept f) says e))) puts
+  sheet_refused e puts = puts_same (sym (ap sheet_from (accepted_refused (accept f) e))) puts
 
-  module _ (passes : x.check ≡ Passed) where
+  module _ {x : AcceptedFile} (says : passed x ≡ mapped accepted_file (accept f)) where
     abbrev found : (a : Accepted) × (accept f ≡ passed a) × AcceptedParts x a
-    found = accepted_passed x (accept f) says passes
+    found = accepted_passed (accept f) says
 
     abbrev a : Accepted
     a = found.0
@@ -93,10 +93,10 @@ module _ (f : File) (x : AcceptAnswer) (says : AcceptedAs x (accept f)) where
         ∙ sym (ap sheet_from found.1)
 
     -- an accepted file's sheet: totals, tasks, findings
-    pub sheet_put : {before : List ℕ} {one : List ℕ} {l : ℕ} {two : List ℕ} {m : ℕ} {after : List ℕ} {n : ℕ}
-        → PutsText before 0 (line tasks_word (decimal x.table.tasks ∷ jobs_word ∷ decimal x.list.count ∷ [])) one l
-        → PutsText one l (each (up_to x.table.tasks) (task_text x.table x.responses)) two m
-        → PutsFindings x.table x.list two m after n → PutsText before 0 (sheet_of f) after n
+    pub sheet_put : {before one two after : Page}
+        → Puts before (line tasks_word (decimal x.table.tasks ∷ jobs_word ∷ decimal x.list.count ∷ [])) one
+        → Puts one (each (up_to x.table.tasks) (task_text x.table x.responses)) two
+        → PutsFindings x.table x.list two after → Puts before (sheet_of f) after
     sheet_put first second third = puts_same sheet_is (puts_more (puts_more first second) (third a parts_of))
 
 -- ---- the entry
@@ -111,7 +111,7 @@ module _ (f : File) (text : List ℕ) where
       require_fails {P = ℕ} (leb sheet_room (length text)) 20 0 (passed (sheet_of f)) (lt-leb sheet_room (length text) short) in
       (sym (ap sheet_answer_of is), sym (ap (λ (c : Checked ℕ Text). sheet_after_of c text) is))
 
-  module _ (enough : sheet_room ≤ length text) {after : List ℕ} {n : ℕ} (puts : PutsText text 0 (sheet_of f) after n) where
+  module _ (enough : sheet_room ≤ length text) {after : List ℕ} {n : ℕ} (puts : Appends (length text) text 0 (sheet_of f) after n) where
     -- the sheet is within its room, and so within the text
     fits : length (sheet_of f) ≤ length text
     fits = omega (arith, sheet_fits f)

@@ -5,33 +5,14 @@ use Rattle.std.proofs.Math.Path.{refl, ap}
 use Rattle.std.proofs.Common.{sym, ◌∙◌, arith}
 use Prim.Native.Nat.{ℕ, zero, suc, ◌+◌, ◌≤◌, ◌<◌}
 use Rattle.std.proofs.Math.Decide.{ℕ_discrete}
-use Rattle.taskfile.specs.declared.Check.TheVariants.{Passed, Refused}
-use Rattle.notation.specs.Checked.{Checked, refused, passed, none_of, ◌>>◌}
-use Rattle.std.specs.Prelude.{if◌then◌else◌}
+use Rattle.notation.specs.Checked.{Checked, refused, passed, mapped, bare, none_of, ◌>>◌}
 use Rattle.notation.specs.Lists.{from, up_to}
-use Rattle.taskfile.specs.Code.Reading.{check_of}
-
--- a check that came to `Passed` passed, and one that came to a refusal is that refusal
-pub check_of_passed : {A : Type 0} (c : Checked ℕ A) → check_of c ≡ Passed → (x : A) × (c ≡ passed x)
-unfolding check_of
-check_of_passed (refused number place) e = absurd (let z : ◌≡◌ {A = ℕ} 0 1 = cc in omega arith)
-check_of_passed (passed x) e = (x, refl)
-
-pub check_of_refused : {A : Type 0} (c : Checked ℕ A) {number place : ℕ} → check_of c ≡ Refused number place
-    → c ≡ refused number place
-unfolding check_of
-check_of_refused (refused n p) e = cc
-check_of_refused (passed x) e = absurd (let z : ◌≡◌ {A = ℕ} 0 1 = cc in omega arith)
-
--- equal checks come to the same
-pub check_comes : {A : Type 0} {c d : Checked ℕ A} → c ≡ d → check_of d ≡ check_of c
-check_comes e = sym (ap check_of e)
 
 -- to pass a value on afterwards changes no refusal
-pub comes_then : {A B : Type 0} (c : Checked ℕ A) (x : B) → check_of c ≡ check_of (◌>>◌ c (passed x))
-unfolding check_of ◌>>◌
-comes_then (refused number place) x = refl
-comes_then (passed y) x = refl
+pub then_bare : {A : Type 0} (c : Checked ℕ (Unit {0})) (x : A) → c ≡ bare (◌>>◌ c (passed x))
+unfolding mapped ◌>>◌
+then_bare (refused number place) x = refl
+then_bare (passed y) x = refl
 
 -- a listed place that has the fault decides, and one that has not leaves it to those after it
 none_of_here : (number : ℕ) (fault : ℕ → Bool) (place : ℕ) (places : List ℕ) → fault place ≡ true

@@ -1,5 +1,5 @@
 -- Laws of the records that links lead to: `Followed` says how far a walk of the links has stored them in an array,
--- `Filled` how far an array is filled with a value of each.
+-- `FilledTo` how far an array is filled with a value of each.
 -- Assumes nothing.
 use Rattle.std.specs.Prelude.{ℕ, zero, suc, ◌+◌, ◌-◌, ◌≤◌, ◌<◌, ◌≡◌, refl, ◌≢◌, ◌⊎◌, List, [], ◌∷◌, ◌++◌, map, length, take, set, replicate}
 use Rattle.std.proofs.Common.{add-one, arith, not-suc-le-zero, le_of_suc-le-suc, sym, ◌∙◌, inl, inr, append-nil}
@@ -7,7 +7,7 @@ use Rattle.std.proofs.Common.{append_assoc, length-append, take_all, take-suc, l
 use Rattle.std.proofs.Math.Path.{ap}
 use Rattle.std.proofs.Math.ListN.{get_or}
 use Rattle.std.proofs.lemmas.List.{length-map}
-use Rattle.taskfile.specs.declared.Chain.{Chain}
+use Rattle.taskfile.specs.declared.Filled.{Filled}
 use Rattle.notation.specs.Laws.ListLaws.{map_snoc}
 use Rattle.notation.specs.Lists.{padded}
 use Rattle.notation.specs.Laws.PaddedLaws.{padded_nil, padded_at, padded_snoc}
@@ -103,18 +103,18 @@ followed_more f m first array n index onward h few ne below q =
 
 -- a walk with no record left has stored every record, and n counts them
 followed_whole : (f : File) (m first : ℕ) (array : List ℕ) (n index : ℕ) → Followed f m first array n index
-    → linked f (m - n) index ≡ [] → record { count = n; records = array } ≡ chain_at f first m
+    → linked f (m - n) index ≡ [] → record { count = n; items = array } ≡ chain_at f first m
 unfolding chain_at
 followed_whole f m first array n index h none =
     let whole : h.passed ≡ linked f m first =
     sym (append-nil h.passed) ∙ ap (λ r. h.passed ++ r) (sym none) ∙ h.rest in
     let counted = sym h.count ∙ ap length whole in
     let stored = h.holds ∙ ap (padded 16 0) whole in
-    λ i. record { count = counted i; records = stored i }
+    λ i. record { count = counted i; items = stored i }
 
 -- the walk ends at zero, or when m records are stored
 pub followed_end : (f : File) (m first : ℕ) (array : List ℕ) (n index : ℕ) → Followed f m first array n index
-    → (index ≡ 0) ⊎ (m ≤ n) → record { count = n; records = array } ≡ chain_at f first m
+    → (index ≡ 0) ⊎ (m ≤ n) → record { count = n; items = array } ≡ chain_at f first m
 followed_end f m first array n index h (inl e) =
     followed_whole f m first array n index h (ap (linked f (m - n)) e ∙ linked_end f (m - n))
 followed_end f m first array n index h (inr full) =
@@ -122,33 +122,33 @@ followed_end f m first array n index h (inr full) =
     followed_whole f m first array n index h (ap (λ k. linked f k index) e ∙ linked_none f index)
 
 -- An array of m places, d where nothing is stored, is filled with g of each record of a chain, in order: n are stored.
-pub record Filled {A : Type 0} (f : File) (first m : ℕ) (d : A) (g : ℕ → A) (array : List A) (n : ℕ) : Type 0 where
+pub record FilledTo {A : Type 0} (f : File) (first m : ℕ) (d : A) (g : ℕ → A) (array : List A) (n : ℕ) : Type 0 where
   pub within : n ≤ length (linked f m first)
   pub holds : array ≡ padded m d (map g (take n (linked f m first)))
 
-pub filled_none : {A : Type 0} (f : File) (first m : ℕ) (d : A) (g : ℕ → A) → Filled f first m d g (replicate m d) 0
+pub filled_none : {A : Type 0} (f : File) (first m : ℕ) (d : A) (g : ℕ → A) → FilledTo f first m d g (replicate m d) 0
 filled_none f first m d g = record { within = omega arith; holds = sym (padded_nil m d) }
 
 -- how many records the chain has
-pub chain_count : (f : File) (first m : ℕ) {chain : Chain} → chain ≡ chain_at f first m
+pub chain_count : (f : File) (first m : ℕ) {chain : Filled ℕ 16} → chain ≡ chain_at f first m
     → chain.count ≡ length (linked f m first)
 unfolding chain_at
-chain_count f first m read = ap (λ (c : Chain). c.count) read
+chain_count f first m read = ap (λ (c : Filled ℕ 16). c.count) read
 
-pub chain_few : (f : File) (first m : ℕ) {chain : Chain} → chain ≡ chain_at f first m → chain.count ≤ m
+pub chain_few : (f : File) (first m : ℕ) {chain : Filled ℕ 16} → chain ≡ chain_at f first m → chain.count ≤ m
 chain_few f first m read = omega (arith, chain_count f first m read, linked_length f m first)
 
-module _ {A : Type 0} (f : File) (first m : ℕ) (d : A) (g : ℕ → A) (array : List A) (n : ℕ) {chain : Chain}
-    (read : chain ≡ chain_at f first m) (filled : Filled f first m d g array n) where
-  chain_read : m ≤ 16 → n < length (linked f m first) → get_or chain.records n 0 ≡ get_or (linked f m first) n 0
+module _ {A : Type 0} (f : File) (first m : ℕ) (d : A) (g : ℕ → A) (array : List A) (n : ℕ) {chain : Filled ℕ 16}
+    (read : chain ≡ chain_at f first m) (filled : FilledTo f first m d g array n) where
+  chain_read : m ≤ 16 → n < length (linked f m first) → get_or chain.items n 0 ≡ get_or (linked f m first) n 0
   unfolding chain_at
   chain_read few below =
-      ap (λ (c : Chain). get_or c.records n 0) read
+      ap (λ (c : Filled ℕ 16). get_or c.items n 0) read
       ∙ padded_at 16 0 (linked f m first) n (omega (arith, linked_length f m first))
 
   -- a turn stores g of the next record
-  pub filled_more : m ≤ 16 → n < chain.count → {x : A} → x ≡ g (get_or chain.records n 0)
-      → Filled f first m d g (set array n x) (n + 1)
+  pub filled_more : m ≤ 16 → n < chain.count → {x : A} → x ≡ g (get_or chain.items n 0)
+      → FilledTo f first m d g (set array n x) (n + 1)
   filled_more few below {x} e =
       let all = linked f m first in
       let inside : n < length all = omega (arith, chain_count f first m read) in

@@ -4,44 +4,25 @@ use Rattle.std.specs.Prelude.{◌≡◌, refl, ℕ, ◌%◌, ◌≤◌, ◌<◌,
 use Rattle.std.proofs.Common.{sym, ap, subst, ◌∙◌, ⊎_elim, arith, leb-true, eqb-true}
 use mathlib.Core.List.Memᴰ
 use mathlib.Core.List.{map, Memᴰ}
-use Rattle.taskfile.specs.declared.Check.TheVariants.{Passed, Refused}
-use Rattle.taskfile.specs.declared.Check.{Check}
-use Rattle.taskfile.specs.declared.Judged.{Judged}
-use Rattle.taskfile.specs.declared.Judged.TheVariants.{Sound, Faulty}
-use Rattle.taskfile.specs.declared.LoadAnswer.{LoadAnswer}
 use Rattle.taskfile.specs.declared.Site.{Site}
 use Rattle.taskfile.specs.declared.Site.TheVariants.{AtTask, AtInstruction}
 use Rattle.taskfile.specs.declared.Table.{Table}
 use Rattle.taskfile.specs.declared.Task.{Task}
 use Rattle.taskfile.specs.Chains.{Chains, chains_of}
 use Rattle.taskfile.proofs.Laws.ChainLaws.{chains_linked, InTable, in_table_sited, site_record_lem}
-use Rattle.notation.specs.Checked.{Checked, refused, passed, require, placed_by, ◌>>=◌, ◌>>◌}
+use Rattle.notation.specs.Checked.{Checked, refused, passed, require, placed_by, mapped, bare, ◌>>=◌, ◌>>◌}
 use Rattle.notation.specs.Laws.CheckedLaws.{passed_same, bind_passed, then_passed, placed_passed, require_holds}
 use Rattle.notation.specs.Laws.CheckedLaws.{require_fails, bind_refused, bind_goes, then_refused, then_goes}
-use Rattle.notation.specs.Laws.CheckedLaws.{none_of_listed, then_refuses}
-use Rattle.taskfile.proofs.Laws.CheckSteps.{check_of_passed, check_of_refused}
+use Rattle.notation.specs.Laws.CheckedLaws.{refused_passed, none_of_listed, then_refuses}
 use Rattle.taskfile.specs.File.{Loaded, load, sized, record_at}
 use Rattle.taskfile.specs.Judgement.{judged, numbered, task_numbers, instruction_sites, of_instruction, of_task, body_fault, rate_fault, ceiling_fault}
 use Rattle.notation.specs.Lists.{up_to}
 use Rattle.notation.specs.Laws.ListLaws.{member_each, up_to_member}
-use Rattle.taskfile.specs.Code.Reading.{check_of, judged_of, linked_chains, LoadedAs}
+use Rattle.taskfile.specs.Code.Reading.{linked_chains}
 use Rattle.taskfile.specs.Code.ReadingParts.{site_record}
 use Rattle.taskfile.specs.Records.{File}
 use Rattle.taskfile.specs.Tables.{tasks_of, task_of, body_of, table_at}
 use Rattle.notation.specs.Laws.TestLaws.{and_both}
-
--- ---- checks as the declared enums, the other way round
-
-pub judged_sound : {A : Type 0} (c : Checked Site A) → judged_of c ≡ Sound → (x : A) × (c ≡ passed x)
-unfolding judged_of
-judged_sound (refused number place) e = absurd (let z : ◌≡◌ {A = ℕ} 0 1 = cc in omega arith)
-judged_sound (passed x) e = (x, refl)
-
-pub judged_faulty : {A : Type 0} (c : Checked Site A) {number : ℕ} {site : Site} → judged_of c ≡ Faulty number site
-    → c ≡ refused number site
-unfolding judged_of
-judged_faulty (refused n p) e = cc
-judged_faulty (passed x) e = absurd (let z : ◌≡◌ {A = ℕ} 0 1 = cc in omega arith)
 
 -- a task number that is listed is one of the table's
 pub task_in : (t : Table) (i : Task) → Memᴰ i (task_numbers t) → i.0 < length (tasks_of t)
@@ -112,38 +93,51 @@ module _ (f : File) where
 
 -- ---- what loading a file answers
 
-module _ (f : File) (x : LoadAnswer) where
-  pub answers_unsized : sized f ≡ false → x.check ≡ Refused 1 0 → LoadedAs x (load f)
-  answers_unsized h e = subst (LoadedAs x) (sym (load_unsized f h)) e
+-- what a check without its value says of the check
+bare_refused : {P A : Type 0} (c : Checked P A) {n : ℕ} {p : P} → refused n p ≡ bare c → c ≡ refused n p
+unfolding mapped
+bare_refused (refused number place) e = cc
+bare_refused (passed x) e = refused_passed e
 
-  module _ (right : sized f ≡ true) {chains : Check} (read : chains ≡ check_of (chains_of f)) where
-    pub answers_unchained : {n p : ℕ} → chains ≡ Refused n p → x.check ≡ chains → LoadedAs x (load f)
-    answers_unchained h e =
-        subst (LoadedAs x) (sym (load_unchained f right (check_of_refused (chains_of f) (sym read ∙ h)))) (e ∙ h)
+bare_passed : {P A : Type 0} (c : Checked P A) → passed tt ≡ bare c → (x : A) × (c ≡ passed x)
+unfolding mapped
+bare_passed (refused number place) e = refused_passed (sym e)
+bare_passed (passed x) e = (x, refl)
 
-    -- the chains of a file that passed are those that its links make
-    linked_passed : chains ≡ Passed → chains_of f ≡ passed (linked_chains f)
-    linked_passed h =
-        let chained = check_of_passed (chains_of f) (sym read ∙ h) in
-        chained.1 ∙ ap passed (chains_linked f chained.1)
+-- a file's table, or its refusal
+abbrev table_of : File → Checked ℕ Table
+table_of f = mapped (λ loaded. loaded.table) (load f)
 
-    module _ (whole : chains ≡ Passed) {t : Table} (spelled : t ≡ table_at f (linked_chains f)) {judgement : Judged}
-        (judging : judgement ≡ judged_of (judged t)) where
-      pub answers_faulty : {n : ℕ} {s : Site} {r : ℕ} → judgement ≡ Faulty n s → r ≡ site_record f s
-          → x.check ≡ Refused n r → LoadedAs x (load f)
-      answers_faulty {n} {s} h place e =
-          let fault : judged (table_at f (linked_chains f)) ≡ refused n s =
-          rw spelled at (judged_faulty (judged t) (sym judging ∙ h)) in
+module _ (f : File) where
+  pub answers_unsized : sized f ≡ false → refused 1 0 ≡ table_of f
+  unfolding mapped
+  answers_unsized h = rw (load_unsized f h)
+
+  module _ (right : sized f ≡ true) where
+    pub answers_unchained : {n p : ℕ} → refused n p ≡ bare (chains_of f) → refused n p ≡ table_of f
+    unfolding mapped
+    answers_unchained h = rw (load_unchained f right (bare_refused (chains_of f) h))
+
+    module _ (whole : passed tt ≡ bare (chains_of f)) {t : Table} (spelled : t ≡ table_at f (linked_chains f)) where
+      -- the chains of a file that passed are those that its links make
+      linked_passed : chains_of f ≡ passed (linked_chains f)
+      linked_passed =
+          let chained = bare_passed (chains_of f) whole in
+          chained.1 ∙ ap passed (chains_linked f chained.1)
+
+      pub answers_faulty : {n : ℕ} {s : Site} {r : ℕ} → refused n s ≡ judged t → r ≡ site_record f s
+          → refused n r ≡ table_of f
+      unfolding mapped
+      answers_faulty {n} {s} h place =
+          let fault : judged (table_at f (linked_chains f)) ≡ refused n s = rw spelled at (sym h) in
           let record' : record_at (linked_chains f) s ≡ site_record f s =
           site_record_lem f s (in_table_sited f s (fault_in_table (table_at f (linked_chains f)) fault)) in
-          subst (LoadedAs x) (sym (load_faulty f right (linked_passed whole) fault)) (e ∙ ap (Refused n) (place ∙ sym record'))
+          rw (load_faulty f right linked_passed fault, place, record')
 
-      pub answers_sound : judgement ≡ Sound → x.check ≡ Passed → x.table ≡ t → LoadedAs x (load f)
-      answers_sound h e same =
-          let sound = judged_sound (judged t) (sym judging ∙ h) in
-          subst (LoadedAs x)
-          (sym (load_sound f right (linked_passed whole) (subst (λ (y : Table). judged y ≡ passed sound.0) spelled sound.1)))
-          (e, same ∙ spelled)
+      pub answers_sound : passed tt ≡ judged t → passed t ≡ table_of f
+      unfolding mapped
+      answers_sound h =
+          rw (load_sound f right linked_passed (subst (λ (y : Table). judged y ≡ passed tt) spelled (sym h)), spelled)
 
 -- ---- what a file that was loaded holds
 

@@ -1,9 +1,15 @@
 -- Laws of the records of a task file: bytes past the file's end, zero bytes one by one, the largest values of all
 -- fields as one list, and what its largest value says of a field.
 -- Assumes nothing.
-use Rattle.std.specs.Prelude.{ℕ, zero, suc, ◌+◌, ◌*◌, ◌-◌, ◌≤◌, ◌<◌, ◌≡◌, refl, Bool, true, false, ◌&&◌, List, ◌++◌, map, length, get_or, leb, ltb, eqb}
-use Rattle.std.proofs.Common.{add-one, arith, sym, subst, eqb-true, eq-eqb, ne_eqb, le-leb, ltb-true}
+use Rattle.std.specs.Prelude.{ℕ, zero, suc, ◌+◌, ◌*◌, ◌≤◌, ◌<◌, ◌≡◌, refl, Bool, true, ◌&&◌, List, ◌++◌, map, length, get_or, take, drop, min, leb, ltb, eqb}
+use Rattle.std.proofs.Common.{arith, sym, subst, eqb-true, le-leb, ltb-true}
 use Rattle.std.proofs.Math.ListN.{get_or-eq_default}
+use Rattle.std.proofs.Math.Decide.{dec_lt}
+use Rattle.std.proofs.Math.Seq.{drop-cons, take-nil}
+use Rattle.std.proofs.lemmas.List.{drop_min, drop_all}
+use Rattle.std.specs.List.{list_all}
+use Rattle.taskfile.specs.declared.Field.{Field}
+use Rattle.taskfile.specs.declared.Field.TheVariants.{A, B, C}
 use Rattle.taskfile.specs.declared.Instruction.{Instruction}
 use Rattle.notation.specs.Lists.{from, up_to, all}
 use Rattle.taskfile.specs.Code.RecordFields.{field_of, limit_of}
@@ -29,35 +35,34 @@ wide_at_read f r k =
     let three : 16 * r + (k + 3) ≡ 16 * r + k + 3 = omega arith in
     rw (one, two, three) refl
 
--- the test of no bytes holds; it fails where the first byte is not 0, and where it is, it is the test of the others
-pub zero_from_none : (f : File) (r k n : ℕ) → n ≤ 0 → zero_from f r k n ≡ true
-unfolding zero_from from all
-zero_from_none f r k zero h = refl
-zero_from_none f r k (suc n) h = absurd (omega arith)
+-- the test of n bytes is that of those that the file has, since past its end every byte is 0
+zero_bytes : (f : File) (r k n : ℕ) → list_all (λ b. eqb b 0) (take n (drop (16 * r + k) f)) ≡ zero_from f r k n
+unfolding zero_from from all byte_at
+zero_bytes f r k zero = refl
+zero_bytes f r k (suc n) =
+    let next : 16 * r + suc k ≡ suc (16 * r + k) = omega arith in
+    elim (dec_lt (16 * r + k) (length f)) [
+      | yes inside ↦ rw (drop-cons f (16 * r + k) 0 inside, ← zero_bytes f r (suc k) n, next)
+      | no past ↦
+          let here = get_or-eq_default f 0 {n = 16 * r + k} (omega arith) in
+          rw (drop_all (16 * r + k) f (omega arith), here, ← zero_bytes f r (suc k) n, drop_all (16 * r + suc k) f (omega arith), take-nil)
+    ]
 
-pub zero_from_other : (f : File) (r k n : ℕ) → 0 < n → (byte_at f r k ≡ 0 → ⊥) → zero_from f r k n ≡ false
-unfolding zero_from from all
-zero_from_other f r k zero h other = absurd (omega arith)
-zero_from_other f r k (suc n) h other = rw (ne_eqb (byte_at f r k) 0 other)
-
-pub zero_from_more : (f : File) (r k n : ℕ) → 0 < n → byte_at f r k ≡ 0 → zero_from f r k n ≡ zero_from f r (k + 1) (n - 1)
-unfolding zero_from from all
-zero_from_more f r k zero h same = absurd (omega arith)
-zero_from_more f r k (suc n) h same =
-    let fewer : suc n - 1 ≡ n = omega arith in
-    rw (eq-eqb (byte_at f r k) 0 same, fewer, add-one k)
+pub zero_from_file : (f : File) (r k n : ℕ)
+    → list_all (λ b. eqb b 0) (take n (drop (min (16 * r + k) (length f)) f)) ≡ zero_from f r k n
+zero_from_file f r k n = rw drop_min (zero_bytes f r k n)
 
 -- an operation past the last uses no field
 abbrev pub no_uses : Uses
 no_uses = uses unused unused unused
 
-no_uses_field : (field : ℕ) → field_of field no_uses ≡ unused
+no_uses_field : (field : Field) → field_of field no_uses ≡ unused
 unfolding field_of
-no_uses_field zero = refl
-no_uses_field (suc zero) = refl
-no_uses_field (suc (suc n)) = refl
+no_uses_field A = refl
+no_uses_field B = refl
+no_uses_field C = refl
 
-pub limit_past : (o field : ℕ) → length operation_uses ≤ o → limit_of (field_of field (uses_of o)) ≡ 0
+pub limit_past : (o : ℕ) (field : Field) → length operation_uses ≤ o → limit_of (field_of field (uses_of o)) ≡ 0
 unfolding uses_of limit_of
 limit_past o field h = rw (get_or-eq_default operation_uses no_uses h, no_uses_field field)
 
@@ -65,24 +70,29 @@ limit_past o field h = rw (get_or-eq_default operation_uses no_uses h, no_uses_f
 unfoldable pub limits : List Uses → List ℕ
 limits us = map (λ u. limit_of u.a) us ++ (map (λ u. limit_of u.b) us ++ map (λ u. limit_of u.c) us)
 
+-- where the values of a field begin in the list
+abbrev pub start_of : Field → ℕ
+start_of A = 0
+start_of B = 12
+start_of C = 24
+
 -- does the list have what is said of a field of an operation?
-limited : ℕ → ℕ → Bool
-limited field o = eqb (get_or (limits operation_uses) (12 * field + o) 0) (limit_of (field_of field (uses_of o)))
+limited : Field → ℕ → Bool
+limited field o = eqb (get_or (limits operation_uses) (start_of field + o) 0) (limit_of (field_of field (uses_of o)))
 
-all_limited : (field : ℕ) → field ≤ 2 → all (limited field) (up_to 12) ≡ true
+all_limited : (field : Field) → all (limited field) (up_to 12) ≡ true
 unfolding all up_to from limited limits operation_uses uses_of limit_of field_of
-all_limited zero h = refl
-all_limited (suc zero) h = refl
-all_limited (suc (suc zero)) h = refl
-all_limited (suc (suc (suc n))) h = absurd (omega arith)
+all_limited A = refl
+all_limited B = refl
+all_limited C = refl
 
-pub limits_at : (o field : ℕ) → o < 12 → field ≤ 2
-    → get_or (limits operation_uses) (12 * field + o) 0 ≡ limit_of (field_of field (uses_of o))
+pub limits_at : (o : ℕ) (field : Field) → o < 12
+    → get_or (limits operation_uses) (start_of field + o) 0 ≡ limit_of (field_of field (uses_of o))
 unfolding limited
-limits_at o field lt h =
+limits_at o field lt =
     eqb-true _ _
     (subst (λ (k : ℕ). limited field k ≡ true) (get_or_up_to 12 o 0 lt)
-    (all_at (limited field) (up_to 12) o 0 (all_limited field h) (omega (arith, up_to_length 12))))
+    (all_at (limited field) (up_to 12) o 0 (all_limited field) (omega (arith, up_to_length 12))))
 
 -- a used field has a largest value above 0
 bounded : Use → Bool
@@ -101,11 +111,11 @@ uses_of_bounded : (o : ℕ) → all_bounded (uses_of o) ≡ true
 unfolding uses_of all_bounded bounded
 uses_of_bounded o = all_get_or all_bounded operation_uses o no_uses operations_bounded refl
 
-field_bounded : (field : ℕ) (u : Uses) → all_bounded u ≡ true → bounded (field_of field u) ≡ true
+field_bounded : (field : Field) (u : Uses) → all_bounded u ≡ true → bounded (field_of field u) ≡ true
 unfolding field_of all_bounded
-field_bounded zero u h = (and_both (bounded u.a) _ h).0
-field_bounded (suc zero) u h = (and_both (bounded u.b) _ (and_both (bounded u.a) _ h).1).0
-field_bounded (suc (suc n)) u h = (and_both (bounded u.b) _ (and_both (bounded u.a) _ h).1).1
+field_bounded A u h = (and_both (bounded u.a) _ h).0
+field_bounded B u h = (and_both (bounded u.b) _ (and_both (bounded u.a) _ h).1).0
+field_bounded C u h = (and_both (bounded u.b) _ (and_both (bounded u.a) _ h).1).1
 
 bounded_unused : (u : Use) → bounded u ≡ true → limit_of u ≡ 0 → u ≡ unused
 unfolding bounded limit_of
@@ -114,7 +124,7 @@ bounded_unused (most n) h e = absurd (omega (arith, ltb-true 0 n h))
 bounded_unused lock_number h e = absurd (omega arith)
 
 -- a field whose largest value is 0 is unused
-pub limit_unused : (o field : ℕ) → limit_of (field_of field (uses_of o)) ≡ 0 → field_of field (uses_of o) ≡ unused
+pub limit_unused : (o : ℕ) (field : Field) → limit_of (field_of field (uses_of o)) ≡ 0 → field_of field (uses_of o) ≡ unused
 limit_unused o field e = bounded_unused (field_of field (uses_of o)) (field_bounded field (uses_of o) (uses_of_bounded o)) e
 
 -- a field of another largest value is used, and a byte in it is in range up to that value

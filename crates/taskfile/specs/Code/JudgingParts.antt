@@ -2,9 +2,6 @@
 -- arrays has.
 -- Assumes nothing.
 use Rattle.std.specs.Prelude.{◌≡◌, ℕ, ◌+◌, ◌-◌, ◌≤◌, ◌<◌, Bool, not, ◌&&◌, ◌||◌, List, length, get_or, leb, ltb, eqb}
-use Rattle.std.proofs.Math.Option.{Option, none, some}
-use Rattle.taskfile.specs.declared.Found.{Found}
-use Rattle.taskfile.specs.declared.Found.TheVariants.{At, Nothing}
 use Rattle.taskfile.specs.declared.Instruction.{Instruction}
 use Rattle.taskfile.specs.declared.Table.{Table}
 use Rattle.taskfile.specs.declared.TaskEntry.{TaskEntry}
@@ -23,10 +20,6 @@ pub record Shaped (t : Table) : Type 0 where
   pub holdings_full : length t.holdings ≡ 8
   pub locks_within : t.locks ≤ 8
   pub bodies : (i : ℕ) → i < 8 → ShapedEntry (get_or t.entries i no_task)
-
-unfoldable pub found_of : Option ℕ → Found
-found_of none = Nothing
-found_of (some p) = At p
 
 -- a fault of 7 at position p of a body
 unfoldable pub body_fault_in : TaskEntry → ℕ → Bool

@@ -1,36 +1,20 @@
--- What the functions of the reader yield, in terms of the definitions: a check as the declared enum, the records
--- reached as flags, and chains by following indices.
+-- What the functions of the reader yield, in terms of the definitions: the records reached as flags, and chains by
+-- following indices.
 -- Assumes nothing.
 use Rattle.std.specs.Prelude.{◌≡◌, ℕ, zero, suc, Bool, List, [], ◌∷◌, ◌++◌, map}
-use Rattle.taskfile.specs.declared.Check.{Check}
-use Rattle.taskfile.specs.declared.Check.TheVariants.{Passed, Refused}
-use Rattle.taskfile.specs.declared.Judged.{Judged}
-use Rattle.taskfile.specs.declared.Judged.TheVariants.{Sound, Faulty}
-use Rattle.taskfile.specs.declared.LoadAnswer.{LoadAnswer}
-use Rattle.taskfile.specs.declared.Site.{Site}
 use Rattle.taskfile.specs.Chains.{Chains, TaskChain, most_instructions, most_tasks, most_locks}
 use Rattle.notation.specs.Checked.{Checked, refused, passed}
-use Rattle.taskfile.specs.File.{Loaded}
 use Rattle.notation.specs.Lists.{up_to, member}
 use Rattle.taskfile.specs.Records.{File, byte_at, next}
-
--- the number and place of each case of a check
-unfoldable pub check_of : {A : Type 0} → Checked ℕ A → Check
-check_of (refused number place) = Refused number place
-check_of (passed value) = Passed
-
-unfoldable pub judged_of : {A : Type 0} → Checked Site A → Judged
-judged_of (refused number site) = Faulty number site
-judged_of (passed value) = Sound
 
 -- a flag for each of 256 records: was it reached?
 unfoldable pub seen_of : List ℕ → List Bool
 seen_of reached = map (λ r. member r reached) (up_to 256)
 
--- a chain that was read: its check and, if it passed, the flags with its records (`all` of them) added
-abbrev pub ChainedAs : {A : Type 0} → (A → List ℕ) → Check → List Bool → List ℕ → Checked ℕ A → Type 0
-ChainedAs all check seen reached (refused number place) = check ≡ Refused number place
-ChainedAs all check seen reached (passed a) = (check ≡ Passed) × (seen ≡ seen_of (all a ++ reached))
+-- a chain that was read: what it comes to and, if it passed, the flags with its records (`all` of them) added
+abbrev pub ChainedAs : {A : Type 0} → (A → List ℕ) → Checked ℕ (Unit {0}) → List Bool → List ℕ → Checked ℕ A → Type 0
+ChainedAs all check seen reached (refused number place) = check ≡ refused number place
+ChainedAs all check seen reached (passed a) = (check ≡ passed tt) × (seen ≡ seen_of (all a ++ reached))
 
 -- the records of a chain by following indices, at most n
 unfoldable pub linked : File → ℕ → ℕ → List ℕ
@@ -46,8 +30,3 @@ linked_task f r = record { task_record = r; body = linked f most_instructions (b
 unfoldable pub linked_chains : File → Chains
 linked_chains f =
     record { tasks = map (linked_task f) (linked f most_tasks (byte_at f 0 2)); locks = linked f most_locks (byte_at f 0 3) }
-
--- a file that was loaded, or its refusal
-abbrev pub LoadedAs : LoadAnswer → Checked ℕ Loaded → Type 0
-LoadedAs x (refused number place) = x.check ≡ Refused number place
-LoadedAs x (passed loaded) = (x.check ≡ Passed) × (x.table ≡ loaded.table)

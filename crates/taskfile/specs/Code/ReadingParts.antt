@@ -1,12 +1,12 @@
 -- The parts of a table by following indices, as the functions of the reader yield them.
 -- Assumes nothing.
 use Rattle.std.specs.Prelude.{ℕ, zero, suc, map, length}
-use Rattle.taskfile.specs.declared.Body.{Body}
-use Rattle.taskfile.specs.declared.Chain.{Chain}
-use Rattle.taskfile.specs.declared.Entries.{Entries}
+use Rattle.taskfile.specs.declared.Filled.{Filled}
+use Rattle.taskfile.specs.declared.Instruction.{Instruction}
 use Rattle.taskfile.specs.declared.Locks.{Locks}
 use Rattle.taskfile.specs.declared.Site.{Site}
 use Rattle.taskfile.specs.declared.Site.TheVariants.{AtHeader, AtTask, AtInstruction, AtLock}
+use Rattle.taskfile.specs.declared.TaskEntry.{TaskEntry}
 use Rattle.taskfile.specs.Chains.{most_instructions, most_tasks, most_locks}
 use Rattle.notation.specs.Lists.{padded}
 use Rattle.taskfile.specs.Code.Reading.{linked, linked_task}
@@ -14,20 +14,20 @@ use Rattle.taskfile.specs.Records.{File, byte_at, wide_at, next, instruction_at}
 use Rattle.taskfile.specs.Tables.{end_instruction, no_task, entry_at}
 
 -- a chain of at most n records, in an array with room for the longest
-unfoldable pub chain_at : File → ℕ → ℕ → Chain
+unfoldable pub chain_at : File → ℕ → ℕ → Filled ℕ most_instructions
 chain_at f first n =
     let records = linked f n first in
-    record { count = length records; records = padded most_instructions 0 records }
+    record { count = length records; items = padded most_instructions 0 records }
 
-unfoldable pub body_at : File → ℕ → Body
+unfoldable pub body_at : File → ℕ → Filled Instruction most_instructions
 body_at f first =
     let body = linked f most_instructions first in
-    record { length = length body; body = padded most_instructions end_instruction (map (instruction_at f) body) }
+    record { count = length body; items = padded most_instructions end_instruction (map (instruction_at f) body) }
 
-unfoldable pub entries_at : File → ℕ → Entries
+unfoldable pub entries_at : File → ℕ → Filled TaskEntry most_tasks
 entries_at f first =
     let tasks = linked f most_tasks first in
-    record { count = length tasks; entries = padded most_tasks no_task (map (λ r. entry_at f (linked_task f r)) tasks) }
+    record { count = length tasks; items = padded most_tasks no_task (map (λ r. entry_at f (linked_task f r)) tasks) }
 
 unfoldable pub locks_read : File → ℕ → Locks
 locks_read f first =

@@ -6,4 +6,4 @@ use Rattle.taskfile_reader.proofs.empty_table.Goals as goal
 
 pub returns : goal.returns
 unfolding empty_table
-returns c = rw c.empty_task-none.ensures refl
+returns c = rw c.empty_task.ensures refl

@@ -1,24 +1,14 @@
 -- `taskfile_reader::is_sized` meets its contract: each test decides one part of what the length has to be.
 -- Assumes nothing.
 use native.Mathlib.Omega.{arith}
-use mathlib.Core.Path.{sym}
-use lib.ListN.{length}
-use borrow.Author.Tests.{le-leb, lt-leb}
+use Rattle.std.proofs.lemmas.Bool.Decides.{nat_tests}
 use Rattle.taskfile.specs.File.{sized}
 use Rattle.taskfile_reader.proofs.is_sized.Goals as goal
 
-pub returns-then-n-eq0 : goal.returns-then-n-eq0
+pub returns-then-n-le-BYTES : goal.returns-then-n-le-BYTES
 unfolding sized
-returns-then-n-eq0 c = sym (rw (lt-leb 1 (length c.args.file.now) (omega arith)))
+returns-then-n-le-BYTES c = grind (arith, nat_tests)
 
-pub returns-then-n-gt-BYTES : goal.returns-then-n-gt-BYTES
+pub returns-else-n-le-BYTES : goal.returns-else-n-le-BYTES
 unfolding sized
-returns-then-n-gt-BYTES c =
-    let n = length c.args.file.now in
-    sym (rw (le-leb 1 n (omega arith), lt-leb n 4096 (omega arith)))
-
-pub returns : goal.returns
-unfolding sized
-returns c =
-    let n = length c.args.file.now in
-    sym (rw (le-leb 1 n (omega arith), le-leb n 4096 (omega arith)))
+returns-else-n-le-BYTES c = grind (arith, nat_tests)

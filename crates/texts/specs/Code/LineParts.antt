@@ -1,23 +1,17 @@
--- What the functions that read a text come to, in the shape of their answers: a word's end, the numerals of a line, a
--- line, a text.
+-- What the functions that read a text come to, in the shape of their answers: a word's end, a numeral and the numerals
+-- of a line, a form by its word, a line.
 -- Assumes nothing.
-use Rattle.std.specs.Prelude.{ℕ, min, ◌+◌, List, [], map, length, drop, replicate}
+use Rattle.std.specs.Prelude.{ℕ, min, ◌+◌, List, [], map, length, drop, Some, None}
+use Rattle.std.specs.Prelude as answers
 use Rattle.std.proofs.Math.Option.{Option, none, some}
-use Rattle.notation.specs.Checked.{Checked, refused, passed}
 use Rattle.std.specs.Prelude.{if◌then◌else◌}
 use Rattle.notation.specs.Lists.{all, first_or, padded}
 use Rattle.notation.specs.Texts.{Text}
-use Rattle.taskfile.specs.Tables.{empty_table}
 use Rattle.texts.specs.declared.Form.{Form}
-use Rattle.texts.specs.declared.Form.TheVariants.{WindowLine}
-use Rattle.texts.specs.declared.LineRead.{LineRead}
-use Rattle.texts.specs.declared.Named.{Named}
-use Rattle.texts.specs.declared.Named.TheVariants.{As, Unknown}
 use Rattle.texts.specs.declared.Numerals.{Numerals}
-use Rattle.texts.specs.declared.TextRead.{TextRead}
+use Rattle.texts.specs.declared.ReadLine.{ReadLine}
 use Rattle.texts.specs.Grammar.{Line, wide_field}
 use Rattle.texts.specs.Reading.{parts, is_numeral, value_of}
-use Rattle.texts.specs.TextTables.{table_of}
 
 -- where the part that begins at a byte of a text ends: at the next separator, or where the text ends
 unfoldable pub part_end : ℕ → Text → ℕ → ℕ
@@ -27,22 +21,26 @@ part_end separator text from = from + length (first_or [] (parts separator (drop
 unfoldable pub words_past : Text → ℕ → List Text
 words_past line at = drop 1 (parts 32 (drop at line))
 
--- a numeral's value, or the lowest that fits no field if that is less: "it saturates, it never wraps"
+-- the number that digits are, or the lowest that fits no field if that is less: "it saturates, it never wraps"
 unfoldable pub capped_value : Text → ℕ
-capped_value word = if is_numeral word then min wide_field (value_of word) else 0
+capped_value digits = min wide_field (value_of digits)
 
-unfoldable pub numerals_of : List Text → Numerals
+-- a numeral's value
+unfoldable pub numeral_of : Text → answers.Option ℕ
+numeral_of word = if is_numeral word then Some (capped_value word) else None
+
+-- the numerals that words are
+unfoldable pub numerals_of : List Text → answers.Option Numerals
 numerals_of words =
-    record { good = all is_numeral words; count = length words; values = padded 8 0 (map capped_value words) }
+    if all is_numeral words
+    then Some (record { count = length words; values = padded 8 0 (map capped_value words) })
+    else None
 
-unfoldable pub named_of : Option Form → Named
-named_of none = Unknown
-named_of (some form) = As form
+-- a form that was looked for by its word
+unfoldable pub named_of : Option Form → answers.Option Form
+named_of none = None
+named_of (some form) = Some form
 
-unfoldable pub line_answer : Checked ℕ Line → LineRead
-line_answer (refused number place) = record { number = number; form = WindowLine; numbers = replicate 8 0 }
-line_answer (passed l) = record { number = 0; form = l.form; numbers = padded 8 0 l.numbers }
-
-unfoldable pub text_answer : Checked ℕ (List Line) → TextRead
-text_answer (refused number place) = record { number = number; line = place; table = empty_table }
-text_answer (passed lines) = record { number = 0; line = 0; table = table_of lines }
+-- a line with its numbers as an array
+unfoldable pub held : Line → ReadLine
+held l = record { form = l.form; numbers = padded 8 0 l.numbers }

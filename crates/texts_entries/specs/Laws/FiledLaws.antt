@@ -6,17 +6,13 @@ use Rattle.std.proofs.Math.Path.{refl, sym, ap}
 use Rattle.std.proofs.Common.{◌∙◌, arith, le-leb}
 use Prim.Native.Nat.{ℕ, zero, suc, ◌+◌, ◌≤◌, ◌<◌}
 use Rattle.std.proofs.lemmas.Bool.{lt-leb}
-use Rattle.notation.specs.Checked.{Checked, refused, passed, placed_by, ◌>>=◌}
+use Rattle.notation.specs.Checked.{Checked, refused, passed, mapped, placed_by, ◌>>=◌}
 use Rattle.notation.specs.Laws.CheckedLaws.{bind_goes, bind_refused, require_holds, require_fails}
-use Rattle.notation.specs.Laws.NumberedLaws.{Numbered, by_number}
 use Rattle.taskfile.specs.declared.Table.{Table}
 use Rattle.writer.specs.declared.WriteAnswer.{WriteAnswer}
 use Rattle.writer.specs.WriteEntries.{written, answer_of, after_of, write_answer, write_after}
 use Rattle.writer_entries.specs.Laws.WrittenTableLaws.{refusal}
-use Rattle.texts.specs.declared.TextRead.{TextRead}
-use Rattle.texts.specs.Code.LineParts.{text_answer}
 use Rattle.texts.specs.Grammar.{Line}
-use Rattle.texts.proofs.Laws.TextFaults.{read_numbered}
 use Rattle.texts.specs.Reading.{text_read}
 use Rattle.texts.specs.TextEntries.{text_room, line_of_record, filed, to_file_answer, to_file_after}
 use Rattle.texts.specs.TextTables.{table_of}
@@ -67,49 +63,46 @@ module _ (text file : List ℕ) where
       require_fails (leb (length text) text_room) 62 0 _ (lt-leb (length text) text_room long) in
       (sym (ap answer_of is), sym (ap (λ (c : Checked ℕ (List ℕ)). after_of c file) is))
 
-  module _ (short : length text ≤ text_room) {read : TextRead} (is : read ≡ text_answer (text_read text)) where
+  module _ (short : length text ≤ text_room) where
     -- what is done with the lines, once the text is short enough
     going : filed text file ≡ ◌>>=◌ (text_read text) (λ lines. placed_by line_of_record (written (table_of lines) file))
     unfolding filed
     going = require_holds (leb (length text) text_room) 62 0 _ (le-leb (length text) text_room short)
 
-    pub filed_unread : (read.number ≡ 0 → ⊥)
-        → (refusal read.number read.line ≡ to_file_answer text file) × (file ≡ to_file_after text file)
-    unfolding to_file_answer to_file_after text_answer answer_of after_of
-    filed_unread some = go (text_read text) refl
+    pub filed_unread : (number place : ℕ) → refused number place ≡ mapped table_of (text_read text)
+        → (refusal number place ≡ to_file_answer text file) × (file ≡ to_file_after text file)
+    unfolding to_file_answer to_file_after mapped answer_of after_of
+    filed_unread number place is = go (text_read text) refl is
       where
-        go : (c : Checked ℕ (List Line)) → text_read text ≡ c
-            → (refusal read.number read.line ≡ answer_of (filed text file))
-            × (file ≡ after_of (filed text file) file)
-        go (refused number place) e =
-            let same = is ∙ ap text_answer e in
-            let done : filed text file ≡ refused number place = going ∙ bind_refused _ e in (
-              ap (λ (r : TextRead). refusal r.number r.line) same ∙ sym (ap answer_of done),
+        go : (c : Checked ℕ (List Line)) → text_read text ≡ c → refused number place ≡ mapped table_of c
+            → (refusal number place ≡ answer_of (filed text file)) × (file ≡ after_of (filed text file) file)
+        go (refused n p) e same =
+            let done : filed text file ≡ refused n p = going ∙ bind_refused _ e in
+            let numbers : number ≡ n = cc in
+            let places : place ≡ p = cc in (
+              (λ i. refusal (numbers i) (places i)) ∙ sym (ap answer_of done),
               sym (ap (λ (c : Checked ℕ (List ℕ)). after_of c file) done),
             )
-        go (passed lines) e = absurd (some (ap (λ (r : TextRead). r.number) (is ∙ ap text_answer e)))
+        go (passed lines) e same = cc
 
     -- the answer that the writer gives for the table, with its place led to a line
-    pub filed_judged : read.number ≡ 0 → {x : WriteAnswer} {after : List ℕ} → x ≡ write_answer read.table file
-        → after ≡ write_after read.table file
-        → (lined x ≡ to_file_answer text file)
-        × (after ≡ to_file_after text file)
-    unfolding to_file_answer to_file_after text_answer write_answer write_after
-    filed_judged none {x} {after} answers writes = go (text_read text) refl (read_numbered text)
+    pub filed_judged : (t : Table) → passed t ≡ mapped table_of (text_read text) → {x : WriteAnswer} {after : List ℕ}
+        → x ≡ write_answer t file → after ≡ write_after t file
+        → (lined x ≡ to_file_answer text file) × (after ≡ to_file_after text file)
+    unfolding to_file_answer to_file_after mapped write_answer write_after
+    filed_judged t is {x} {after} answers writes = go (text_read text) refl is
       where
-        go : (c : Checked ℕ (List Line)) → text_read text ≡ c → Numbered c
-            → (lined x ≡ answer_of (filed text file))
-            × (after ≡ after_of (filed text file) file)
-        go (refused number place) e (by_number one) =
-            absurd (omega (arith, one, none, ap (λ (r : TextRead). r.number) (is ∙ ap text_answer e)))
-        go (passed lines) e numbered =
-            let isTable = ap (λ (r : TextRead). r.table) (is ∙ ap text_answer e) in
+        go : (c : Checked ℕ (List Line)) → text_read text ≡ c → passed t ≡ mapped table_of c
+            → (lined x ≡ answer_of (filed text file)) × (after ≡ after_of (filed text file) file)
+        go (refused number place) e same = cc
+        go (passed lines) e same =
+            let isTable : t ≡ table_of lines = cc in
             let made = written (table_of lines) file in
             let done : filed text file ≡ placed_by line_of_record made = going ∙ bind_goes _ e in
             let led = lined_answer made file in (
               ap lined
-                  (answers ∙ ap (λ (t : Table). answer_of (written t file)) isTable)
+                  (answers ∙ ap (λ (u : Table). answer_of (written u file)) isTable)
                   ∙ sym led.0 ∙ sym (ap answer_of done),
-              writes ∙ ap (λ (t : Table). after_of (written t file) file) isTable
+              writes ∙ ap (λ (u : Table). after_of (written u file) file) isTable
                   ∙ sym led.1 ∙ sym (ap (λ (c : Checked ℕ (List ℕ)). after_of c file) done),
             )

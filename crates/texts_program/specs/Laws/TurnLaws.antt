@@ -5,19 +5,17 @@ use Rattle.std.proofs.Common.{sym, ap, ◌∙◌, arith, length-append, eq-eqb, 
 use Rattle.std.proofs.Math.Seq.{take-append_seam}
 use Rattle.notation.specs.Checked.{Checked, refused, passed}
 use Rattle.notation.specs.Letters.{w}
-use Rattle.std.specs.Prelude.{if◌then◌else◌}
 use Rattle.notation.specs.Lists.{first_or}
 use Rattle.notation.specs.Texts.{decimal}
 use Rattle.notation.specs.Laws.TextSizes.{decimal_most, line_most}
 use Rattle.sheets.specs.Sheets.{refused_line}
 use Rattle.sheets.specs.SheetWords.{refused_word}
-use Rattle.notation_buffers.specs.Laws.WritingLaws.{appends_count, appends_front, appends_within}
+use Rattle.notation_buffers.specs.Code.Writing.{Appends}
+use Rattle.notation_buffers.specs.Laws.WritingLaws.{appends_count, appends_front, appends_length, appends_within}
 use Rattle.writer.specs.declared.WriteAnswer.{WriteAnswer}
 use Rattle.writer.specs.WriteEntries.{answer_of, after_of}
 use Rattle.texts.specs.TextEntries.{text_room, to_file_answer, to_file_after, to_text_answer, to_text_after, filed, texted}
 use Rattle.texts.specs.Turned.{begins_text, shown, turned}
-use Rattle.sheets_printing.specs.Code.Puts.{PutsText}
-use Rattle.sheets_printing.specs.Laws.LineLaws.{puts_length}
 use Rattle.texts_program.specs.Code.Conversions.{ConvertedAs}
 
 -- ---- what begins a text
@@ -87,7 +85,8 @@ refused_short number place =
     )
 
 pub shows_refusal : (x : WriteAnswer) (after : List ℕ) {before printed : List ℕ} {n : ℕ} → text_room ≤ length before
-    → (x.number ≡ 0 → ⊥) → PutsText before 0 (refused_line x.number x.place) printed n → take n printed ≡ shown x after
+    → (x.number ≡ 0 → ⊥) → Appends (length before) before 0 (refused_line x.number x.place) printed n
+    → take n printed ≡ shown x after
 unfolding shown
 shows_refusal x after {before} {printed} {n} enough some puts =
     let bytes = refused_line x.number x.place in
@@ -97,5 +96,6 @@ shows_refusal x after {before} {printed} {n} enough some puts =
     rw (ne_eqb x.number 0 some)
     ((λ j. take (count j) (is j)) ∙ take-append_seam bytes (drop (length bytes) before))
 
-pub refusal_within : {before bytes printed : List ℕ} {n : ℕ} → PutsText before 0 bytes printed n → n ≤ length printed
-refusal_within puts = omega (arith, appends_within puts (omega arith), puts_length puts)
+pub refusal_within : {before bytes printed : List ℕ} {n : ℕ} → Appends (length before) before 0 bytes printed n
+    → n ≤ length printed
+refusal_within puts = omega (arith, appends_within puts (omega arith), appends_length puts (omega arith))

@@ -8,9 +8,9 @@ use Rattle.texts.specs.declared.Form.{Form}
 use Rattle.texts.specs.Grammar.{Line, line_with, row_of, fits, may_come}
 use Rattle.texts.specs.Reading.{is_numeral, value_of}
 
--- a line of a form may come, and as many numerals as it has fields stand after its word
-unfoldable pub well_shaped : ℕ → Form → ℕ → Bool → Bool
-well_shaped stage form count good = may_come stage (row_of form) && (eqb count (length (row_of form).fields) && good)
+-- a line of a form may come, and as many words as it has fields stand after its word
+unfoldable pub well_shaped : ℕ → Form → ℕ → Bool
+well_shaped stage form count = may_come stage (row_of form) && eqb count (length (row_of form).fields)
 
 -- line k, of a form and with words after the first
 unfoldable pub form_read : ℕ → ℕ → Form → List Text → Checked ℕ Line

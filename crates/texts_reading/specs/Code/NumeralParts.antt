@@ -1,6 +1,7 @@
 -- What the functions that read the words of a line ask and come to: a byte where a part ends, and one numeral more.
 -- Assumes nothing.
-use Rattle.std.specs.Prelude.{◌≡◌, ℕ, ◌+◌, ◌≤◌, ◌<◌, ◌&&◌, length, get_or, set}
+use Rattle.std.specs.Prelude.{◌≡◌, ℕ, ◌+◌, ◌≤◌, ◌<◌, length, get_or, set, Option, Some, None}
+use Rattle.std.specs.Prelude.{if◌then◌else◌}
 use Rattle.notation.specs.Texts.{Text}
 use Rattle.texts.specs.declared.Numerals.{Numerals}
 use Rattle.texts.specs.Reading.{is_numeral}
@@ -11,11 +12,9 @@ pub record PartEnds (separator : ℕ) (text : Text) (at : ℕ) : Type 0 where
   pub within : at ≤ length text
   pub stands : at < length text → get_or text at 0 ≡ separator
 
--- one word more after those that were read; past the eighth its value is not kept
-unfoldable pub with_numeral : Numerals → Text → Numerals
+-- one word more after those that were read, which has to be a numeral; past the eighth its value is not kept
+unfoldable pub with_numeral : Numerals → Text → Option Numerals
 with_numeral read word =
-    record {
-      good = read.good && is_numeral word;
-      count = read.count + 1;
-      values = set read.values read.count (capped_value word);
-    }
+    if is_numeral word
+    then Some (record { count = read.count + 1; values = set read.values read.count (capped_value word) })
+    else None

@@ -1,8 +1,9 @@
 -- Laws of the parts of a text: the first, where it ends, and those after it.
 -- Assumes nothing.
-use Rattle.std.specs.Prelude.{◌≡◌, get_or}
+use Rattle.std.specs.Prelude.{◌≡◌, get_or, Bool, true, false, cond, eqb, ltb, position, Some, None}
+use Rattle.std.specs.List.{position_or_len}
 use Rattle.std.proofs.Math.Path.{refl, sym, ap}
-use Rattle.std.proofs.Common.{◌∙◌, arith, add-one, length-drop, drop_of_length-le, drop-cons, drop-drop, get_or-drop}
+use Rattle.std.proofs.Common.{◌∙◌, arith, add-one, length-drop, drop_of_length-le, drop-cons, drop-drop, get_or-drop, eq-eqb, ne_eqb, ltb-false}
 use Prim.Native.Nat.{ℕ, suc, ◌+◌, ◌-◌, ◌≤◌, ◌<◌}
 use Rattle.std.proofs.Math.Decide.{ℕ_discrete}
 use mathlib.Core.List.{List, [], ◌∷◌}
@@ -13,6 +14,26 @@ use Rattle.texts.specs.Reading.{begins, parts}
 use Rattle.texts.specs.Code.LineParts.{part_end, words_past}
 use Rattle.texts.proofs.Laws.SeparatorLaws.{parts_some, parts_ended, parts_begun}
 use Rattle.texts_reading.specs.Code.NumeralParts.{PartEnds}
+
+-- the place that was found, or none
+position_found : (test : ℕ → Bool) (bytes : Text) {k : ℕ} → Some k ≡ position test bytes
+    → k ≡ position_or_len test bytes
+position_found test bytes e = go (ltb (position_or_len test bytes) (length bytes)) e
+  where
+    go : (b : Bool) {k n : ℕ} → Some k ≡ cond b (Some n) None → k ≡ n
+    go true e = cc
+    go false e = cc
+
+position_missing : (test : ℕ → Bool) (bytes : Text) → None ≡ position test bytes
+    → length bytes ≤ position_or_len test bytes
+position_missing test bytes e = go (position_or_len test bytes) (length bytes) e
+  where
+    none_only : (b : Bool) (n : ℕ) → None ≡ cond b (Some n) None → b ≡ false
+    none_only true n e = cc
+    none_only false n e = refl
+
+    go : (n m : ℕ) → None ≡ cond (ltb n m) (Some n) None → m ≤ n
+    go n m e = ltb-false n m (none_only (ltb n m) n e)
 
 module _ (separator : ℕ) where
   -- the first of a text's parts, and the others
@@ -80,6 +101,17 @@ module _ (separator : ℕ) where
       elim (ℕ_discrete b separator) [
         | yes e ↦ rw (first_part_ended b bytes e) (omega arith)
         | no other ↦ rw (first_part_begun b bytes other) (omega (arith, first_part_fits bytes))
+      ]
+
+  -- it ends at the first separator
+  first_part_position : (bytes : Text) → position_or_len (λ b. eqb b separator) bytes ≡ length (first_part bytes)
+  first_part_position [] = rw first_part_none refl
+  first_part_position (b ∷ bytes) =
+      elim (ℕ_discrete b separator) [
+        | yes e ↦ rw (eq-eqb b separator e, first_part_ended b bytes e) refl
+        | no other ↦
+            rw (ne_eqb b separator other, first_part_begun b bytes other)
+            (ap (λ (n : ℕ). 1 + n) (first_part_position bytes) ∙ omega arith)
       ]
 
   -- a separator stands behind it, if anything does
@@ -177,6 +209,30 @@ module _ (separator : ℕ) where
           ap later_parts (drop-cons text from 0 lt)
           ∙ later_ended (get_or text from 0) (drop (suc from) text) e
           ∙ ap (λ (n : ℕ). parts separator (drop n text)) (sym (add-one from))
+
+    -- ---- the first separator
+
+    pub part_end_found : from ≤ length text → {size : ℕ}
+        → Some size ≡ position (λ b. eqb b separator) (drop from text) → from + size ≡ part_end separator text from
+    part_end_found le found =
+        omega (
+          arith,
+          part_end_is,
+          first_part_position (drop from text),
+          position_found (λ b. eqb b separator) (drop from text) found,
+        )
+
+    pub part_end_missing : from ≤ length text → None ≡ position (λ b. eqb b separator) (drop from text)
+        → length text ≡ part_end separator text from
+    part_end_missing le missing =
+        omega (
+          arith,
+          part_end_is,
+          first_part_position (drop from text),
+          position_missing (λ b. eqb b separator) (drop from text) missing,
+          (part_end_within le).1,
+          length-drop from text,
+        )
 
 -- ---- the words of a line
 

@@ -3,13 +3,15 @@
 use Rattle.std.specs.Prelude.{◌≡◌, refl, ℕ, ◌≤◌, Bool, true, false}
 use Rattle.std.proofs.Common.{sym, ap, subst₂, arith}
 use Rattle.std.proofs.Math.Option.{Option, none, some}
-use Rattle.notation.specs.Checked.{Checked, refused, passed, require, given, ◌>>=◌, ◌>>◌}
+use Rattle.notation.specs.Checked.{Checked, refused, passed, mapped, require, given, ◌>>=◌, ◌>>◌}
 use Rattle.notation.specs.Lists.{padded}
 use Rattle.notation.specs.Texts.{Text}
-use Rattle.texts.specs.declared.LineRead.{LineRead}
+use Rattle.taskfile.specs.declared.refusals.Refused.{Refused}
+use Rattle.taskfile.specs.Code.Refusals.{number_of}
+use Rattle.texts.specs.declared.ReadLine.{ReadLine}
 use Rattle.texts.specs.Grammar.{Line, row_of, fits}
 use Rattle.texts.specs.Reading.{line_read}
-use Rattle.texts.specs.Code.LineParts.{line_answer}
+use Rattle.texts.specs.Code.LineParts.{held}
 use Rattle.texts_tables.specs.Code.PartFields.{PartFits}
 use Rattle.texts_tables.proofs.Laws.PartFieldLaws.{part_fields_fit}
 
@@ -40,36 +42,35 @@ line_read_at k stage bytes =
 
 -- ---- what the answer says
 
--- a number other than 0 is the number of a refusal at that line
-pub answer_refused : {k : ℕ} {c : Checked ℕ Line} → ReadAt k c → (r : LineRead) → r ≡ line_answer c
-    → (r.number ≡ 0 → ⊥) → c ≡ refused r.number k
-unfolding line_answer
-answer_refused {k} (fault {number} above) r is other =
-    ap (λ (n : ℕ). refused n k) (sym (ap (λ (x : LineRead). x.number) is))
-answer_refused (whole fit) r is other = absurd (other (ap (λ (x : LineRead). x.number) is))
+-- an error is the check's refusal
+pub answer_refused : {c : Checked ℕ Line} (e : Refused ℕ) → refused (number_of e.why) e.place ≡ mapped held c
+    → c ≡ refused (number_of e.why) e.place
+unfolding mapped
+answer_refused {c = refused number place} e is = cc
+answer_refused {c = passed l} e is = cc
 
--- number 0 says that the line passed, with the form and the numbers of the answer
-pub record Answered (r : LineRead) (c : Checked ℕ Line) : Type 0 where
+-- and a line that was read is the one that the check passes on
+pub record Answered (r : ReadLine) (c : Checked ℕ Line) : Type 0 where
   pub line : Line
   pub passes : c ≡ passed line
   pub form : r.form ≡ line.form
   pub numbers : r.numbers ≡ padded 8 0 line.numbers
   pub fit : fits (row_of line.form).fields line.numbers ≡ true
 
-pub answer_passed : {k : ℕ} {c : Checked ℕ Line} → ReadAt k c → (r : LineRead) → r ≡ line_answer c → r.number ≡ 0
-    → Answered r c
-unfolding line_answer
-answer_passed (fault {number} above) r is zero = absurd (omega (arith, ap (λ (x : LineRead). x.number) is))
-answer_passed (whole {l} fit) r is zero =
+pub answer_passed : {k : ℕ} {c : Checked ℕ Line} → ReadAt k c → (r : ReadLine) → passed r ≡ mapped held c → Answered r c
+unfolding mapped held
+answer_passed (fault above) r is = cc
+answer_passed (whole {l} fit) r is =
+    let same : r ≡ record { form = l.form; numbers = padded 8 0 l.numbers } = cc in
     record {
       line = l;
       passes = refl;
-      form = ap (λ (x : LineRead). x.form) is;
-      numbers = ap (λ (x : LineRead). x.numbers) is;
+      form = ap (λ (x : ReadLine). x.form) same;
+      numbers = ap (λ (x : ReadLine). x.numbers) same;
       fit = fit;
     }
 
 -- its numbers fit where they go
-pub answer_fits : {r : LineRead} {c : Checked ℕ Line} → Answered r c → PartFits r.form r.numbers
+pub answer_fits : {r : ReadLine} {c : Checked ℕ Line} → Answered r c → PartFits r.form r.numbers
 answer_fits {r} a =
     subst₂ PartFits (sym a.form) (sym a.numbers) (part_fields_fit a.line.form a.line.numbers a.fit)

@@ -8,32 +8,30 @@ use Rattle.std.proofs.lemmas.Bool.{lt-leb}
 use Rattle.std.proofs.Math.Dec.{leb}
 use Rattle.std.proofs.Math.ListN.{length, take, drop, length-drop, drop_of_length-le}
 use Rattle.std.proofs.Math.Seq.{take_all}
-use Rattle.notation.specs.Checked.{Checked, refused, passed, require, ◌>>=◌, ◌>>◌}
+use Rattle.notation.specs.Checked.{Checked, refused, passed, mapped, require, ◌>>=◌, ◌>>◌}
 use Rattle.notation.specs.Laws.CheckedLaws.{require_holds, require_fails, bind_refused, bind_goes}
 use Rattle.notation.specs.Laws.TestLaws.{and_first}
 use Rattle.notation.specs.Texts.{Text}
 use Rattle.texts_reading.specs.Laws.PartEndLaws.{first_part, later_parts, parts_split, part_end_ends, part_taken, later_past}
 use Rattle.texts_reading.specs.Laws.PartEndLaws.{past_separator, part_end_within}
 use Rattle.taskfile.specs.declared.Table.{Table}
+use Rattle.taskfile.specs.declared.refusals.Refused.{Refused}
+use Rattle.taskfile.specs.Code.Refusals.{number_of}
 use Rattle.taskfile.specs.Tables.{empty_table}
 use Rattle.texts.specs.declared.Form.{Form}
-use Rattle.texts.specs.declared.LineRead.{LineRead}
-use Rattle.texts.specs.declared.TextRead.{TextRead}
+use Rattle.texts.specs.declared.ReadLine.{ReadLine}
+use Rattle.texts.specs.TextTables.{table_of}
 use Rattle.texts.specs.Code.AddedLines.{add_part, add_lines}
-use Rattle.texts.specs.Code.LineParts.{part_end, line_answer, text_answer}
+use Rattle.texts.specs.Code.LineParts.{part_end, held}
 use Rattle.texts.specs.Grammar.{Line, row_of, at_window, at_tasks}
 use Rattle.texts.proofs.Laws.AddedLinesLaws.{lines_added}
 use Rattle.texts.proofs.Laws.GrammarLaws.{text_spelled}
 use Rattle.texts.specs.Reading.{parts, is_empty, line_read, lines_read, text_read}
 use Rattle.texts_tables.specs.Code.PartFields.{PartFits}
 use Rattle.texts_tables.proofs.Laws.PartFieldLaws.{part_padded}
-use Rattle.texts_tables.specs.Code.TableReading.{table_read, table_read_as}
+use Rattle.texts_tables.specs.Code.TableReading.{table_read}
 use Rattle.texts_tables.proofs.Laws.LineAnswerLaws.{line_read_at, answer_refused, Answered}
 use Rattle.texts_tables.proofs.Laws.LineAnswerLaws.{answer_passed, answer_fits}
-
--- what reading the lines from here on comes to
-abbrev pub rest_read : Table → ℕ → ℕ → List Text → TextRead
-rest_read t k stage ps = table_read_as (table_read t k stage ps)
 
 -- ---- the table beside the lines
 
@@ -72,19 +70,17 @@ table_read_agreed t k stage (bytes ∷ next ∷ others) =
 
 -- the lines of a text that was read add up to the table that they spell
 lines_answered : (text : Text) (c : Checked ℕ (List Line)) → text_read text ≡ c
-    → table_read_as (◌>>=◌ c (λ lines. passed (add_lines empty_table lines))) ≡ text_answer c
-unfolding table_read_as ◌>>=◌ text_answer
+    → ◌>>=◌ c (λ lines. passed (add_lines empty_table lines)) ≡ mapped table_of c
+unfolding ◌>>=◌ mapped
 lines_answered text (refused number place) read = refl
 lines_answered text (passed lines) read =
-    let spells = text_spelled text lines read in
-    ap (λ (t : Table). record { number = 0; line = 0; table = t })
-    (lines_added lines spells.placed spells.good)
+    let spells = text_spelled text lines read in ap (λ (t : Table). passed t) (lines_added lines spells.placed spells.good)
 
 -- what the whole text comes to
-text_answered : (text : Text) → rest_read empty_table 0 at_window (parts 10 text) ≡ text_answer (text_read text)
+text_answered : (text : Text) → table_read empty_table 0 at_window (parts 10 text) ≡ mapped table_of (text_read text)
 unfolding text_read
 text_answered text =
-    ap table_read_as (table_read_agreed empty_table 0 at_window (parts 10 text))
+    table_read_agreed empty_table 0 at_window (parts 10 text)
     ∙ lines_answered text (lines_read 0 at_window (parts 10 text)) refl
 
 -- ---- a line, and what comes after it
@@ -137,28 +133,26 @@ some_empty [] some = absurd (omega arith)
 some_empty (b ∷ bytes) some = refl
 
 module _ (t : Table) (k stage : ℕ) (last : Text) where
-  last_refused : (is_empty last && leb at_tasks stage) ≡ false
-      → rest_read t k stage (last ∷ []) ≡ record { number = 60; line = k; table = empty_table }
-  unfolding table_read table_read_as
-  last_refused fails = ap table_read_as (require_fails (is_empty last && leb at_tasks stage) 60 k (passed t) fails)
+  last_refused : (is_empty last && leb at_tasks stage) ≡ false → table_read t k stage (last ∷ []) ≡ refused 60 k
+  unfolding table_read
+  last_refused fails = require_fails (is_empty last && leb at_tasks stage) 60 k (passed t) fails
 
-  last_passed : (is_empty last && leb at_tasks stage) ≡ true
-      → rest_read t k stage (last ∷ []) ≡ record { number = 0; line = 0; table = t }
-  unfolding table_read table_read_as
-  last_passed holds = ap table_read_as (require_holds (is_empty last && leb at_tasks stage) 60 k (passed t) holds)
+  last_passed : (is_empty last && leb at_tasks stage) ≡ true → table_read t k stage (last ∷ []) ≡ passed t
+  unfolding table_read
+  last_passed holds = require_holds (is_empty last && leb at_tasks stage) 60 k (passed t) holds
 
 -- ---- the loop over the lines
 
 -- the lines up to a byte were read, and spell a table
 pub record TextReadTo (text : Text) (t : Table) (line stage from : ℕ) : Type 0 where
-  pub rest : rest_read t line stage (parts 10 (drop from text)) ≡ text_answer (text_read text)
+  pub rest : table_read t line stage (parts 10 (drop from text)) ≡ mapped table_of (text_read text)
   pub within : from ≤ length text
   pub few : line ≤ from
 
 pub text_begun : (text : Text) (t : Table) → t ≡ empty_table → TextReadTo text t 0 0 0
 text_begun text t is =
     record {
-      rest = ap (λ (u : Table). rest_read u 0 at_window (parts 10 text)) is ∙ text_answered text;
+      rest = ap (λ (u : Table). table_read u 0 at_window (parts 10 text)) is ∙ text_answered text;
       within = omega arith;
       few = omega arith;
     }
@@ -166,41 +160,37 @@ text_begun text t is =
 module _ {text : Text} {t : Table} {line stage from : ℕ} (done : TextReadTo text t line stage from) where
   -- something stands there, and no newline ends it
   pub text_unended : from < length text → (to : ℕ) → to ≡ part_end 10 text from → to ≡ length text
-      → record { number = 60; line = line; table = empty_table } ≡ text_answer (text_read text)
+      → refused 60 line ≡ mapped table_of (text_read text)
   text_unended stands to is unended =
       let fails : (is_empty (drop from text) && leb at_tasks stage) ≡ false =
       and_first (is_empty (drop from text)) (leb at_tasks stage)
       (some_empty (drop from text) (omega (arith, length-drop from text))) in
       sym (last_refused t line stage (drop from text) fails)
-      ∙ sym (ap (rest_read t line stage) (parts_unended text from done.within (sym is ∙ unended)))
+      ∙ sym (ap (table_read t line stage) (parts_unended text from done.within (sym is ∙ unended)))
       ∙ done.rest
 
   -- nothing stands there
-  text_over : length text ≤ from → rest_read t line stage ([] ∷ []) ≡ text_answer (text_read text)
+  text_over : length text ≤ from → table_read t line stage ([] ∷ []) ≡ mapped table_of (text_read text)
   unfolding parts
   text_over over =
-      ap (λ (l : Text). rest_read t line stage (parts 10 l)) (sym (drop_of_length-le text {i = from} over))
+      ap (λ (l : Text). table_read t line stage (parts 10 l)) (sym (drop_of_length-le text {i = from} over))
       ∙ done.rest
 
-  pub text_short : length text ≤ from → stage < at_tasks
-      → record { number = 60; line = line; table = empty_table } ≡ text_answer (text_read text)
+  pub text_short : length text ≤ from → stage < at_tasks → refused 60 line ≡ mapped table_of (text_read text)
   unfolding is_empty
   text_short over early = sym (last_refused t line stage [] (lt-leb at_tasks stage early)) ∙ text_over over
 
-  pub text_whole : length text ≤ from → at_tasks ≤ stage
-      → record { number = 0; line = 0; table = t } ≡ text_answer (text_read text)
+  pub text_whole : length text ≤ from → at_tasks ≤ stage → passed t ≡ mapped table_of (text_read text)
   unfolding is_empty
   text_whole over late = sym (last_passed t line stage [] (le-leb at_tasks stage late)) ∙ text_over over
 
--- the line from a byte on was found, with a newline behind it, and reading it came to an answer
-pub record LineFound (text : Text) (t : Table) (line stage from to : ℕ) (r : LineRead) : Type 0 where
+-- the line from a byte on was found, with a newline behind it
+pub record LineFound (text : Text) (t : Table) (line stage from to : ℕ) : Type 0 where
   pub done : TextReadTo text t line stage from
   pub is : to ≡ part_end 10 text from
   pub ended : to < length text
-  pub read : r ≡ line_answer (line_read line stage (take (to - from) (drop from text)))
 
-module _ {text : Text} {t : Table} {line stage from to : ℕ} {r : LineRead}
-    (found : LineFound text t line stage from to r) where
+module _ {text : Text} {t : Table} {line stage from to : ℕ} (found : LineFound text t line stage from to) where
   bytes : Text
   bytes = take (to - from) (drop from text)
 
@@ -208,26 +198,26 @@ module _ {text : Text} {t : Table} {line stage from to : ℕ} {r : LineRead}
   later l =
       table_read (add_part t l.form l.numbers) (suc line) (row_of l.form).stage (parts 10 (drop (to + 1) text))
 
-  text_next : table_read_as (◌>>=◌ (line_read line stage bytes) later) ≡ text_answer (text_read text)
+  text_next : ◌>>=◌ (line_read line stage bytes) later ≡ mapped table_of (text_read text)
   unfolding bytes later
   text_next =
-      sym (ap (rest_read t line stage) (parts_line text from found.done.within to found.is found.ended)
-      ∙ ap table_read_as (line_first t line stage bytes (drop (to + 1) text)))
+      sym (ap (table_read t line stage) (parts_line text from found.done.within to found.is found.ended)
+      ∙ line_first t line stage bytes (drop (to + 1) text))
       ∙ found.done.rest
 
   -- it is refused
-  pub text_stopped : (r.number ≡ 0 → ⊥)
-      → record { number = r.number; line = line; table = empty_table } ≡ text_answer (text_read text)
-  unfolding table_read_as bytes
-  text_stopped other =
-      let refuses = answer_refused (line_read_at line stage bytes) r found.read other in
-      sym (ap table_read_as (bind_refused later refuses)) ∙ text_next
+  pub text_stopped : (e : Refused ℕ)
+      → refused (number_of e.why) e.place ≡ mapped held (line_read line stage (take (to - from) (drop from text)))
+      → refused (number_of e.why) e.place ≡ mapped table_of (text_read text)
+  unfolding bytes
+  text_stopped e read = sym (bind_refused later (answer_refused e read)) ∙ text_next
 
   -- it passes
-  module _ (zero : r.number ≡ 0) where
+  module _ (r : ReadLine)
+      (read : passed r ≡ mapped held (line_read line stage (take (to - from) (drop from text)))) where
     line_answered : Answered r (line_read line stage bytes)
     unfolding bytes
-    line_answered = answer_passed (line_read_at line stage bytes) r found.read zero
+    line_answered = answer_passed (line_read_at line stage bytes) r read
 
     pub numbers_fit : PartFits r.form r.numbers
     numbers_fit = answer_fits line_answered
@@ -246,8 +236,8 @@ module _ {text : Text} {t : Table} {line stage from to : ℕ} {r : LineRead}
         let rest = parts 10 (drop (to + 1) text) in
         record {
           rest =
-              (λ i. rest_read (table i) (add-one line i) (stage i) rest)
-              ∙ sym (ap table_read_as (bind_goes later line_answered.passes))
+              (λ i. table_read (table i) (add-one line i) (stage i) rest)
+              ∙ sym (bind_goes later line_answered.passes)
               ∙ text_next;
           within = omega (arith, found.ended);
           few = omega (arith, found.done.few, found.is, part_end_within 10 text from found.done.within);

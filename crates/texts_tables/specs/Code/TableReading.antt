@@ -1,11 +1,9 @@
 -- Reading a text as the loop over its lines goes: with the table that the lines so far spell.
 -- Assumes nothing.
 use Rattle.std.specs.Prelude.{ℕ, suc, ◌&&◌, List, [], ◌∷◌, leb}
-use Rattle.notation.specs.Checked.{Checked, refused, passed, require, ◌>>=◌, ◌>>◌}
+use Rattle.notation.specs.Checked.{Checked, passed, require, ◌>>=◌, ◌>>◌}
 use Rattle.notation.specs.Texts.{Text}
 use Rattle.taskfile.specs.declared.Table.{Table}
-use Rattle.taskfile.specs.Tables.{empty_table}
-use Rattle.texts.specs.declared.TextRead.{TextRead}
 use Rattle.texts.specs.Code.AddedLines.{add_part}
 use Rattle.texts.specs.Grammar.{row_of, at_tasks}
 use Rattle.texts.specs.Reading.{is_empty, line_read}
@@ -19,7 +17,3 @@ table_read t k stage (last ∷ []) = do
 table_read t k stage (bytes ∷ next ∷ others) = do
   line ← line_read k stage bytes
   table_read (add_part t line.form line.numbers) (suc k) (row_of line.form).stage (next ∷ others)
-
-unfoldable pub table_read_as : Checked ℕ Table → TextRead
-table_read_as (refused number place) = record { number = number; line = place; table = empty_table }
-table_read_as (passed t) = record { number = 0; line = 0; table = t }

@@ -5,41 +5,39 @@ use Rattle.std.proofs.Math.Path.{sym, ap, fun_ext}
 use Rattle.std.proofs.Common.{subst, ◌∙◌, inl, inr, arith, le-leb}
 use mathlib.Core.List.{List, [], ◌∷◌, map, Memᴰ}
 use Rattle.std.proofs.lemmas.Bool.{lt-leb}
-use Rattle.taskfile.specs.declared.Check.TheVariants.{Passed, Refused}
-use Rattle.taskfile.specs.declared.Judged.TheVariants.{Sound, Faulty}
-use Rattle.taskfile.specs.declared.LoadAnswer.{LoadAnswer}
 use Rattle.taskfile.specs.declared.Site.{Site}
 use Rattle.taskfile.specs.declared.Site.TheVariants.{AtHeader, AtTask}
 use Rattle.taskfile.specs.declared.Table.{Table}
 use Rattle.taskfile.specs.declared.Task.{Task}
 use Rattle.taskfile.specs.Chains.{Chains}
 use Rattle.taskfile.proofs.Laws.ChainLaws.{chains_linked, InTable, in_table_sited, site_record_lem, table_shaped}
-use Rattle.notation.specs.Checked.{Checked, refused, passed, given, placed_by, ◌>>=◌}
-use Rattle.notation.specs.Laws.CheckedLaws.{passed_same, bind_passed, require_holds, require_fails, bind_refused, bind_goes, bind_refuses, given_refused}
+use Rattle.notation.specs.Checked.{Checked, refused, passed, given, placed_by, mapped, ◌>>=◌}
+use Rattle.notation.specs.Laws.CheckedLaws.{refused_passed, passed_same, placed_passed, bind_passed, require_holds}
+use Rattle.notation.specs.Laws.CheckedLaws.{require_fails, bind_refused, bind_goes, bind_refuses, given_refused}
 use Rattle.taskfile.specs.File.{Loaded, load, record_at}
 use Rattle.taskfile.specs.Judgement.{numbered, task_numbers}
 use Rattle.taskfile.proofs.Laws.LoadLaws.{load_parts, task_in}
 use Rattle.notation.specs.Lists.{each, up_to, padded}
 use Rattle.notation.specs.Laws.PaddedLaws.{padded_at, padded_any}
-use Rattle.taskfile.specs.Code.Reading.{LoadedAs, linked_chains}
+use Rattle.taskfile.specs.Code.Reading.{linked_chains}
 use Rattle.taskfile.specs.Code.ReadingParts.{site_record}
 use Rattle.taskfile.specs.Records.{File}
 use Rattle.taskfile.proofs.Laws.TableLaws.{task_numbers_length, task_numbers_at}
 use Rattle.taskfile.specs.Tables.{tasks_of, task_of, table_at}
 use Rattle.taskfile.proofs.Laws.TimesLaws.{times_in_range_lem}
-use Rattle.timing.specs.declared.AcceptAnswer.{AcceptAnswer}
-use Rattle.timing.specs.declared.JobList.{JobList}
 use Rattle.timing.specs.declared.JobRecord.{JobRecord}
-use Rattle.timing.specs.declared.Responses.{Responses}
 use Rattle.timing.specs.Accepted.{Accepted, most_jobs, responses_of, timed, accept}
-use Rattle.timing.specs.Code.AcceptParts.{AcceptedParts, AcceptedAs}
-use Rattle.timing.proofs.Laws.JobLaws.{responses_found}
+use Rattle.timing.specs.declared.AcceptedFile.{AcceptedFile}
+use Rattle.timing.specs.Code.AcceptParts.{AcceptedParts, accepted_file}
+use Rattle.timing.proofs.Laws.AcceptedLaws.{file_accepted}
+use Rattle.timing.proofs.Laws.JobFacts.{jobs_counted}
+use Rattle.timing.proofs.Laws.JobLaws.{responses_found, timed_passed}
 use Rattle.timing.specs.Code.JobParts.{job_list_of, WithinPeriods}
 use Rattle.timing.specs.Jobs.{job_count, job_of, jobs_within, jobs_of, jobs_of_task}
 use Rattle.timing.specs.ReadEntries.{read_answer_of, read_answer}
 use Rattle.timing.specs.Response.{response_of}
 use Rattle.timing.proofs.Laws.ResponseLaws.{response_found}
-use Rattle.timing.specs.Code.ResponseParts.{Timeable, ResponsesAs}
+use Rattle.timing.specs.Code.ResponseParts.{Timeable}
 use Rattle.taskfile.proofs.Laws.JudgingLaws.{tasks_length}
 
 -- ---- a file that was loaded
@@ -56,17 +54,6 @@ loaded_timeable f {loaded} e =
       positive = λ i lt. (times_in_range_lem f parts.0 i (omega (arith, tasks_length _ shaped))).0;
       within = λ i lt. (times_in_range_lem f parts.0 i (omega (arith, tasks_length _ shaped))).1;
     })
-
--- a loaded file's answer, the other way round
-pub loaded_refused : (f : File) (x : LoadAnswer) (c : Checked ℕ Loaded) → LoadedAs x c → {n p : ℕ}
-    → x.check ≡ Refused n p → c ≡ refused n p
-loaded_refused f x (refused number place) h e = let same : Refused number place ≡ Refused _ _ = sym h ∙ e in cc
-loaded_refused f x (passed loaded) h e = absurd (let z : ◌≡◌ {A = ℕ} 0 1 = cc in omega arith)
-
-pub loaded_passed : (x : LoadAnswer) (c : Checked ℕ Loaded) → LoadedAs x c → x.check ≡ Passed
-    → (loaded : Loaded) × (c ≡ passed loaded) × (x.table ≡ loaded.table)
-loaded_passed x (refused number place) h e = absurd (let z : ◌≡◌ {A = ℕ} 0 1 = cc in omega arith)
-loaded_passed x (passed loaded) h e = (loaded, refl, h.1)
 
 -- ---- response times that were looked for
 
@@ -164,100 +151,122 @@ module _ (f : File) where
 
 -- ---- what the functions answer
 
-responses_faulty : (x : Responses) (c : Checked Site (List ℕ)) → ResponsesAs x c → {n : ℕ} {s : Site}
-    → x.check ≡ Faulty n s → c ≡ refused n s
-responses_faulty x (refused number site) h {n} {s} e = let same : Faulty number site ≡ Faulty n s = sym h ∙ e in cc
-responses_faulty x (passed Rs) h e = absurd (let z : ◌≡◌ {A = ℕ} 0 1 = cc in omega arith)
+-- what a check whose value is led to another says of the check
+pub mapped_refused : {P A B : Type 0} (g : A → B) (c : Checked P A) {n : ℕ} {p : P} → refused n p ≡ mapped g c
+    → c ≡ refused n p
+unfolding mapped
+mapped_refused g (refused number place) e = cc
+mapped_refused g (passed x) e = refused_passed e
 
-responses_sound : (x : Responses) (c : Checked Site (List ℕ)) → ResponsesAs x c → x.check ≡ Sound
-    → (Rs : List ℕ) × (c ≡ passed Rs) × (x.times ≡ padded 8 0 Rs)
-responses_sound x (refused number site) h e = absurd (let z : ◌≡◌ {A = ℕ} 0 1 = cc in omega arith)
-responses_sound x (passed Rs) h e = (Rs, refl, h.1)
+pub mapped_passed : {P A B : Type 0} (g : A → B) (c : Checked P A) {y : B} → passed y ≡ mapped g c
+    → (x : A) × (c ≡ passed x) × (y ≡ g x)
+unfolding mapped
+mapped_passed g (refused number place) e = refused_passed (sym e)
+mapped_passed g (passed x) e = (x, refl, passed_same e)
 
-module _ (f : File) (l : LoadAnswer) (loading : LoadedAs l (load f)) where
-  pub answers_refused : (x : AcceptAnswer) {n p : ℕ} → l.check ≡ Refused n p → x.check ≡ Refused n p
-      → AcceptedAs x (accept f)
-  answers_refused x h e = subst (AcceptedAs x) (sym (accept_refused f (loaded_refused f l (load f) loading h))) e
+-- a file's table, or its refusal
+abbrev table_of : File → Checked ℕ Table
+table_of f = mapped (λ loaded. loaded.table) (load f)
 
-  module _ (whole : l.check ≡ Passed) where
+-- the response times of a table in an array, or its refusal
+abbrev times_of : Table → Checked Site (List ℕ)
+times_of t = mapped (padded 8 0) (responses_of t (task_numbers t))
+
+-- what the table of a file says, led to another value by g
+module _ (f : File) {B : Type 0} (g : Accepted → B) where
+  pub answers_refused : {n p : ℕ} → refused n p ≡ table_of f → refused n p ≡ mapped g (accept f)
+  unfolding mapped
+  answers_refused h = rw (accept_refused f (mapped_refused _ (load f) h))
+
+  module _ {t : Table} (loading : passed t ≡ table_of f) where
+    abbrev read : (loaded : Loaded) × (load f ≡ passed loaded) × (t ≡ loaded.table)
+    read = mapped_passed (λ (loaded : Loaded). loaded.table) (load f) loading
+
     -- the table of a file that passed can be timed
-    pub answers_timeable : Timeable l.table
-    answers_timeable =
-        let read = loaded_passed l (load f) loading whole in
-        subst Timeable (sym read.2) (loaded_timeable f read.1)
+    pub answers_timeable : Timeable t
+    answers_timeable = subst Timeable (sym read.2) (loaded_timeable f read.1)
 
-    module _ (found : Responses) (timing : ResponsesAs found (responses_of l.table (task_numbers l.table))) where
-      pub answers_overload : (x : AcceptAnswer) {n : ℕ} {s : Site} {r : ℕ} → found.check ≡ Faulty n s
-          → r ≡ site_record f s → x.check ≡ Refused n r → AcceptedAs x (accept f)
-      answers_overload x {n} {s} h place e =
-          let read = loaded_passed l (load f) loading whole in
-          let faulty : responses_of read.0.table (task_numbers read.0.table) ≡ refused n s =
-          subst (λ (t : Table). responses_of t (task_numbers t) ≡ refused n s) read.2 (responses_faulty found _ timing h) in
-          subst (AcceptedAs x) (sym (accept_overload f read.1 faulty)) (e ∙ ap (Refused n) place)
+    pub answers_overload : {n : ℕ} {s : Site} {r : ℕ} → refused n s ≡ times_of t → r ≡ site_record f s
+        → refused n r ≡ mapped g (accept f)
+    unfolding mapped
+    answers_overload {n} {s} h place =
+        let late = mapped_refused (padded 8 0) (responses_of t (task_numbers t)) h in
+        let late' : responses_of read.0.table (task_numbers read.0.table) ≡ refused n s =
+        subst (λ (x : Table). responses_of x (task_numbers x) ≡ refused n s) read.2 late in
+        rw (accept_overload f read.1 late', place)
 
-      module _ (timed' : found.check ≡ Sound) where
-        -- response times that were found are at most the periods
-        pub answers_within : WithinPeriods l.table found.times
-        answers_within =
-            let sound = responses_sound found _ timing timed' in
-            found_within answers_timeable sound.1 sound.2
+    module _ {times : List ℕ} (timing : passed times ≡ times_of t) where
+      abbrev found : (Rs : List ℕ) × (responses_of t (task_numbers t) ≡ passed Rs) × (times ≡ padded 8 0 Rs)
+      found = mapped_passed (padded 8 0) (responses_of t (task_numbers t)) timing
 
-        -- those of the table as it was loaded
-        sound_loaded : (loaded : Loaded) → l.table ≡ loaded.table
-            → (Rs : List ℕ) × (responses_of loaded.table (task_numbers loaded.table) ≡ passed Rs)
-            × (found.times ≡ padded 8 0 Rs)
-        sound_loaded loaded same =
-            let sound = responses_sound found _ timing timed' in
-            (sound.0, subst (λ (t : Table). responses_of t (task_numbers t) ≡ passed sound.0) same sound.1, sound.2)
+      -- those of the table as it was loaded
+      found_loaded : responses_of read.0.table (task_numbers read.0.table) ≡ passed found.0
+      found_loaded = subst (λ (x : Table). responses_of x (task_numbers x) ≡ passed found.0) read.2 found.1
 
-        pub answers_many : (x : AcceptAnswer) {total : ℕ} → total ≡ job_count l.table → 32 < total
-            → x.check ≡ Refused 11 0 → AcceptedAs x (accept f)
-        answers_many x {total} counted many e =
-            let read = loaded_passed l (load f) loading whole in
-            let sound = sound_loaded read.0 read.2 in
-            let above : 32 < job_count read.0.table = subst (λ (n : ℕ). 32 < n) (counted ∙ ap job_count read.2) many in
-            subst (AcceptedAs x) (sym (accept_many f read.1 sound.1 above)) e
+      -- response times that were found are at most the periods
+      pub answers_within : WithinPeriods t times
+      answers_within = found_within answers_timeable found.1 found.2
 
-        pub answers_accepted : (x : AcceptAnswer) {total : ℕ} → total ≡ job_count l.table → total ≤ 32
-            → x.check ≡ Passed → x.table ≡ l.table → x.responses ≡ found.times
-            → x.list ≡ job_list_of (jobs_of l.table found.times) → AcceptedAs x (accept f)
-        answers_accepted x {total} counted few e table times list =
-            let read = loaded_passed l (load f) loading whole in
-            let sound = sound_loaded read.0 read.2 in
-            let jobs : jobs_of read.0.table found.times ≡ jobs_of read.0.table sound.0 =
-            same_jobs (loaded_timeable f read.1) sound.1 sound.2 in
-            let below : job_count read.0.table ≤ 32 = subst (λ (n : ℕ). n ≤ 32) (counted ∙ ap job_count read.2) few in
-            subst (AcceptedAs x) (sym (accept_passed f read.1 sound.1 below))
-            (record {
-              check = e;
-              table = table ∙ read.2;
-              responses = times ∙ sound.2;
-              list = list ∙ ap (λ (t : Table). job_list_of (jobs_of t found.times)) read.2 ∙ ap job_list_of jobs;
-            })
+      pub answers_many : {total : ℕ} → total ≡ job_count t → 32 < total → refused 11 0 ≡ mapped g (accept f)
+      unfolding mapped
+      answers_many counted many =
+          let above : 32 < job_count read.0.table = subst (λ (n : ℕ). 32 < n) (counted ∙ ap job_count read.2) many in
+          rw (accept_many f read.1 found_loaded above)
+
+      -- what is accepted
+      pub answers_passed : {total : ℕ} → total ≡ job_count t → total ≤ 32
+          → (a : Accepted) × (accept f ≡ passed a) × (t ≡ a.table) × (times ≡ padded 8 0 a.responses) × (total ≡ length a.jobs)
+      answers_passed counted few =
+          let below : job_count read.0.table ≤ 32 = subst (λ (n : ℕ). n ≤ 32) (counted ∙ ap job_count read.2) few in
+          let count = counted ∙ ap job_count read.2 ∙ sym (jobs_counted read.0.table found.0) in
+          (_, accept_passed f read.1 found_loaded below, read.2, found.2, count)
+
+-- ---- a file that was accepted
+
+-- its table can be timed
+pub accepted_timeable : (f : File) {a : Accepted} → accept f ≡ passed a → Timeable a.table
+unfolding accept
+accepted_timeable f e =
+    let parts = bind_passed (load f) (λ loaded. placed_by (record_at loaded.chains) (timed loaded.table)) e in
+    let table = timed_passed parts.0.table (placed_passed (record_at parts.0.chains) (timed parts.0.table) parts.2) in
+    subst Timeable (sym table.0) (loaded_timeable f parts.1)
+
+-- its jobs are those that the response times in an array make
+pub accepted_jobs : (f : File) {a : Accepted} → accept f ≡ passed a
+    → job_list_of (jobs_of a.table (padded 8 0 a.responses)) ≡ job_list_of a.jobs
+accepted_jobs f e =
+    let held = (file_accepted f e).is_timed in
+    ap job_list_of (same_jobs (accepted_timeable f e) held.found refl ∙ sym held.listed)
+
+-- what a caller of `accept_file` has of a refusal and of an accepted file
+pub accepted_refused : (c : Checked ℕ Accepted) {n p : ℕ} → refused n p ≡ mapped accepted_file c → c ≡ refused n p
+accepted_refused c e = mapped_refused accepted_file c e
+
+pub accepted_passed : {x : AcceptedFile} (c : Checked ℕ Accepted) → passed x ≡ mapped accepted_file c
+    → (a : Accepted) × (c ≡ passed a) × AcceptedParts x a
+unfolding accepted_file
+accepted_passed c e =
+    let found = mapped_passed accepted_file c e in (
+      found.0,
+      found.1,
+      record {
+        table = ap (λ (y : AcceptedFile). y.table) found.2;
+        responses = ap (λ (y : AcceptedFile). y.responses) found.2;
+        list = ap (λ (y : AcceptedFile). y.list) found.2;
+      },
+    )
 
 -- ---- the reader's entry
 
-pub accepted_refused : (x : AcceptAnswer) (c : Checked ℕ Accepted) → AcceptedAs x c → {n p : ℕ}
-    → x.check ≡ Refused n p → c ≡ refused n p
-accepted_refused x (refused number place) h {n} {p} e = let same : Refused number place ≡ Refused n p = sym h ∙ e in cc
-accepted_refused x (passed a) h e = let clash : Passed ≡ Refused _ _ = sym h.check ∙ e in absurd (let z : ◌≡◌ {A = ℕ} 0 1 = cc in omega arith)
-
-pub accepted_passed : (x : AcceptAnswer) (c : Checked ℕ Accepted) → AcceptedAs x c → x.check ≡ Passed
-    → (a : Accepted) × (c ≡ passed a) × AcceptedParts x a
-accepted_passed x (refused number place) h e = absurd (let z : ◌≡◌ {A = ℕ} 0 1 = cc in omega arith)
-accepted_passed x (passed a) h e = (a, refl, h)
-
-module _ (f : File) (x : AcceptAnswer) (accepting : AcceptedAs x (accept f)) where
-  pub reads_refused : {n p : ℕ} → x.check ≡ Refused n p
+module _ (f : File) where
+  pub reads_refused : {n p : ℕ} → accept f ≡ refused n p
       → record { number = n; place = p; responses = replicate 8 0; jobs = 0 } ≡ read_answer f
   unfolding read_answer read_answer_of padded
-  reads_refused h = sym (ap read_answer_of (accepted_refused x (accept f) accepting h))
+  reads_refused h = sym (ap read_answer_of h)
 
-  pub reads_accepted : x.check ≡ Passed
-      → record { number = 0; place = 0; responses = x.responses; jobs = x.list.count } ≡ read_answer f
-  unfolding read_answer read_answer_of job_list_of
-  reads_accepted h =
-      let parts = accepted_passed x (accept f) accepting h in
-      let held = parts.2.responses in
-      let count = ap (λ (l : JobList). l.count) parts.2.list in
-      (λ i. record { number = 0; place = 0; responses = held i; jobs = count i }) ∙ sym (ap read_answer_of parts.1)
+  pub reads_accepted : {a : Accepted} → accept f ≡ passed a → {times : List ℕ} {total : ℕ}
+      → times ≡ padded 8 0 a.responses → total ≡ length a.jobs
+      → record { number = 0; place = 0; responses = times; jobs = total } ≡ read_answer f
+  unfolding read_answer read_answer_of
+  reads_accepted h held count =
+      (λ i. record { number = 0; place = 0; responses = held i; jobs = count i }) ∙ sym (ap read_answer_of h)

@@ -2,7 +2,8 @@
 -- locks that may keep the task waiting; where no lock has a holding time it is 0, and the response equation is that of
 -- document 01; and it is worked out lock by lock, from the last down.
 -- Assumes nothing.
-use Rattle.std.specs.Prelude.{◌≡◌, ◌⊎◌, Bool, map}
+use Rattle.std.specs.Prelude.{◌≡◌, ◌⊎◌, Bool, map, take}
+use Rattle.std.proofs.lemmas.List.{take-take}
 use Rattle.std.proofs.Math.Path.{refl, sym, ap}
 use Rattle.std.proofs.Common.{◌∙◌, add-zero}
 use Rattle.std.proofs.Math.Logic.{inl, inr, ⊎_elim}
@@ -158,3 +159,8 @@ module _ {t : Table} (shaped : Shaped t) where
         → get_or (tasks_below t i) k no_task ≡ get_or t.entries k d
     unfolding tasks_below task_of
     below_read le k d lt = get_or-take i.0 (tasks_of t) k no_task lt ∙ sym (task_read shaped k d (omega arith))
+
+    -- they stand in the array in this order
+    pub below_stored : i.0 ≤ t.tasks → take i.0 t.entries ≡ tasks_below t i
+    unfolding tasks_below tasks_of
+    below_stored le = sym (take-take i.0 t.tasks t.entries le)

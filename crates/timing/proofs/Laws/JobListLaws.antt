@@ -11,7 +11,6 @@ use Rattle.taskfile.specs.declared.Task.{Task}
 use Rattle.taskfile.specs.declared.TaskEntry.{TaskEntry}
 use Rattle.taskfile.specs.Judgement.{numbered, task_numbers}
 use Rattle.taskfile.specs.Code.JudgingParts.{Shaped}
-use Rattle.std.specs.Prelude.{if◌then◌else◌}
 use Rattle.notation.specs.Lists.{from, up_to, each, padded}
 use Rattle.notation.specs.Laws.ListLaws.{from_snoc, map_snoc, each_append}
 use Rattle.notation.specs.Laws.PaddedLaws.{padded_snoc, padded_at}

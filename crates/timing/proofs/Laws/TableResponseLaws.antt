@@ -1,13 +1,13 @@
 -- Laws of the search for all response times, from the highest task down: what is known of the tasks from task i on.
 -- Assumes nothing.
-use Rattle.std.specs.Prelude.{◌≡◌, refl, ℕ, zero, suc, ◌-◌, ◌≤◌, ◌<◌, Bool, true, false, ◌&&◌, List, [], ◌∷◌, length, drop, set, replicate}
+use Rattle.std.specs.Prelude.{◌≡◌, refl, ℕ, zero, suc, ◌-◌, ◌≤◌, ◌<◌, Bool, true, ◌&&◌, List, [], ◌∷◌, length, drop, set, replicate, Option, Some, None}
 use Rattle.std.proofs.Common.{sym, ap, ◌∙◌, le_refl, add-one, arith, drop_of_length-le, drop-cons, drop-set-lt, get_or-set_same}
 use Rattle.std.proofs.Math.Numerals.{unary_clauses}
-use Rattle.std.proofs.lemmas.Bool.{false≢true}
-use Rattle.std.proofs.Math.Option.{Option, none, some}
+use Rattle.std.proofs.Math.Option as Math
 use Rattle.std.proofs.Math.ListN.{length-set}
 use Rattle.taskfile.specs.declared.Site.TheVariants.{AtTask}
 use Rattle.taskfile.specs.declared.Table.{Table}
+use Rattle.taskfile.specs.declared.Task.{Task}
 use Rattle.notation.specs.Checked.{refused, passed, given, ◌>>=◌}
 use Rattle.taskfile.specs.Judgement.{numbered, task_numbers}
 use Rattle.taskfile.specs.Code.JudgingParts.{Shaped}
@@ -16,7 +16,6 @@ use Rattle.notation.specs.Laws.PaddedLaws.{padded_cons, padded_nil}
 use Rattle.notation.specs.Laws.TestLaws.{and_both}
 use Rattle.taskfile.proofs.Laws.TableLaws.{task_numbers_length, task_numbers_at}
 use Rattle.taskfile.specs.Tables.{tasks_of, task_of}
-use Rattle.timing.specs.declared.Bound.TheVariants.{Within, Overload}
 use Rattle.timing.specs.Accepted.{responses_of}
 use Rattle.timing.specs.Response.{tasks_above, response_of}
 use Rattle.timing.specs.Code.ResponseParts.{Timeable, bound_of, Fits, AllFit, fits_alone}
@@ -27,15 +26,15 @@ use Rattle.taskfile.proofs.Laws.JudgingLaws.{tasks_length}
 
 -- ---- one task
 
-bound_some : (o : Option ℕ) {R : ℕ} → bound_of o ≡ Within R → o ≡ some R
+bound_some : (o : Math.Option ℕ) {R : ℕ} → bound_of o ≡ Some R → o ≡ Math.some R
 unfolding bound_of
-bound_some none e = absurd (let z : ◌≡◌ {A = ℕ} 0 1 = cc in omega arith)
-bound_some (some Q) e = cc
+bound_some Math.none e = cc
+bound_some (Math.some Q) e = cc
 
-bound_none : (o : Option ℕ) → bound_of o ≡ Overload → o ≡ none
+bound_none : (o : Math.Option ℕ) → bound_of o ≡ None → o ≡ Math.none
 unfolding bound_of
-bound_none none e = refl
-bound_none (some Q) e = absurd (let z : ◌≡◌ {A = ℕ} 0 1 = cc in omega arith)
+bound_none Math.none e = refl
+bound_none (Math.some Q) e = cc
 
 -- task i is the first of the tasks from i on
 numbers_next : {t : Table} → Shaped t → (i : ℕ) → i < t.tasks
@@ -53,12 +52,12 @@ pub record AllFound (t : Table) (i : ℕ) (times : List ℕ) : Type 0 where
   pub full : length times ≡ 8
   pub held : drop i times ≡ padded (8 - i) 0 Rs
 
--- Either so, or one is late and the lowest that has no response time is known. Apart from that, `fit` tells that all
--- of them meet their periods where none waits for a lock.
-pub record FoundFrom (t : Table) (i : ℕ) (times : List ℕ) (fit late : Bool) (lowest : ℕ) : Type 0 where
+-- Either so, or the lowest of them that has no response time is known. Apart from that, `fit` tells that all of them
+-- meet their periods where none waits for a lock.
+pub record FoundFrom (t : Table) (i : ℕ) (times : List ℕ) (fit : Bool) (late : Option Task) : Type 0 where
   pub fits : fit ≡ true → AllFit (drop i (tasks_of t))
-  pub all : late ≡ false → AllFound t i times
-  pub lacking : late ≡ true → responses_of t (drop i (task_numbers t)) ≡ refused 10 (AtTask (numbered lowest))
+  pub all : late ≡ None → AllFound t i times
+  pub lacking : (lowest : Task) → late ≡ Some lowest → responses_of t (drop i (task_numbers t)) ≡ refused 10 (AtTask lowest)
 
 drop_replicate : (i n x : ℕ) → drop i (replicate n x) ≡ replicate (n - i) x
 drop_replicate zero n x = simp unary_clauses
@@ -66,7 +65,7 @@ drop_replicate (suc i) zero x = let none : 0 - suc i ≡ 0 = omega arith in rw n
 drop_replicate (suc i) (suc n) x = simp unary_clauses (drop_replicate i n x)
 
 -- past the last task there is nothing to find
-pub found_none : {t : Table} → Timeable t → FoundFrom t t.tasks (replicate 8 0) true false 0
+pub found_none : {t : Table} → Timeable t → FoundFrom t t.tasks (replicate 8 0) true None
 unfolding responses_of
 found_none {t} timeable =
     let shaped = timeable.shaped in
@@ -80,7 +79,7 @@ found_none {t} timeable =
             full = refl;
             held = drop_replicate t.tasks 8 0 ∙ sym (padded_nil (8 - t.tasks) 0);
           };
-      lacking = λ e. absurd (false≢true e);
+      lacking = λ lowest e. cc;
     }
 
 -- the place of task i holds its response time, and the places after it are as they were
@@ -93,8 +92,8 @@ held_more i R times Rs lt full held =
     rw (drop-cons (set times i R) i 0, get_or-set_same times i R 0, drop-set-lt (suc i) times i R (omega arith), room, padded_cons)
     (ap (λ (l : List ℕ). R ∷ l) held)
 
-module _ {t : Table} (timeable : Timeable t) {i : ℕ} (lt : i < t.tasks) {times : List ℕ} {fit late : Bool}
-    {lowest : ℕ} (found : FoundFrom t (suc i) times fit late lowest) where
+module _ {t : Table} (timeable : Timeable t) {i : ℕ} (lt : i < t.tasks) {times : List ℕ} {fit : Bool}
+    {late : Option Task} (found : FoundFrom t (suc i) times fit late) where
   -- the tasks above task i meet their periods where none waits
   pub found_fit : fit ≡ true → AllFit (tasks_above t (numbered i))
   unfolding tasks_above
@@ -109,14 +108,14 @@ module _ {t : Table} (timeable : Timeable t) {i : ℕ} (lt : i < t.tasks) {times
   found_alone alone above = rw (tasks_next timeable.shaped i lt, add-one) (alone, above)
 
   -- so it does where it has a response time
-  done_alone : {R : ℕ} → response_of t (numbered i) ≡ some R → Alone
+  done_alone : {R : ℕ} → response_of t (numbered i) ≡ Math.some R → Alone
   done_alone response =
       let k = numbered i in
       fits_easier (response_done t k (need_positive timeable k lt) response) (need_least t k) (le_refl _)
 
   -- where task i has a response time
-  pub found_more : {R : ℕ} → bound_of (response_of t (numbered i)) ≡ Within R
-      → FoundFrom t i (set times i R) fit late lowest
+  pub found_more : {R : ℕ} → bound_of (response_of t (numbered i)) ≡ Some R
+      → FoundFrom t i (set times i R) fit late
   unfolding responses_of given ◌>>=◌
   found_more {R} b =
       let response = bound_some _ b in
@@ -130,12 +129,12 @@ module _ {t : Table} (timeable : Timeable t) {i : ℕ} (lt : i < t.tasks) {times
               full = simp length-set above.full;
               held = held_more i R times above.Rs (omega (arith, timeable.shaped.tasks_within)) above.full above.held;
             };
-        lacking = λ e. rw (numbers_next timeable.shaped i lt, response, found.lacking e);
+        lacking = λ lowest e. rw (numbers_next timeable.shaped i lt, response, found.lacking lowest e);
       }
 
   -- where it has none, it is the lowest so far; whether it meets its period where it need not wait is tested
-  pub found_refused : {alone : Bool} → bound_of (response_of t (numbered i)) ≡ Overload
-      → alone ≡ (fit && fits_alone t (numbered i)) → FoundFrom t i times alone true i
+  pub found_refused : {alone : Bool} → bound_of (response_of t (numbered i)) ≡ None
+      → alone ≡ (fit && fits_alone t (numbered i)) → FoundFrom t i times alone (Some (numbered i))
   unfolding responses_of given ◌>>=◌ fits_alone
   found_refused b tested =
       record {
@@ -143,6 +142,8 @@ module _ {t : Table} (timeable : Timeable t) {i : ℕ} (lt : i < t.tasks) {times
             let both = and_both fit _ (sym tested ∙ e) in
             let above = found_fit both.0 in
             found_alone ((fits_decided _ above _ _ (timeable.positive (numbered i) lt)).0 both.1) above;
-        all = λ e. absurd (false≢true (sym e));
-        lacking = λ e. rw (numbers_next timeable.shaped i lt, bound_none _ b);
+        all = λ e. cc;
+        lacking = λ lowest e.
+            let here : numbered i ≡ lowest = cc in
+            rw (numbers_next timeable.shaped i lt, bound_none _ b) (ap (λ (k : Task). refused 10 (AtTask k)) here);
       }

@@ -1,20 +1,17 @@
--- What every entry has of a file, as the functions yield it.
+-- What every entry has of a file that is accepted, as the functions yield it.
 -- Assumes nothing.
-use Rattle.std.specs.Prelude.{◌≡◌, ℕ}
-use Rattle.taskfile.specs.declared.Check.TheVariants.{Passed, Refused}
-use Rattle.notation.specs.Checked.{Checked, refused, passed}
+use Rattle.std.specs.Prelude.{◌≡◌}
 use Rattle.notation.specs.Lists.{padded}
-use Rattle.timing.specs.declared.AcceptAnswer.{AcceptAnswer}
+use Rattle.timing.specs.declared.AcceptedFile.{AcceptedFile}
 use Rattle.timing.specs.Accepted.{Accepted}
 use Rattle.timing.specs.Code.JobParts.{job_list_of}
 
 -- an accepted file's table, response times and jobs, in arrays
-pub record AcceptedParts (x : AcceptAnswer) (a : Accepted) : Type 0 where
-  pub check : x.check ≡ Passed
+unfoldable pub accepted_file : Accepted → AcceptedFile
+accepted_file a = record { table = a.table; responses = padded 8 0 a.responses; list = job_list_of a.jobs }
+
+-- the same, part by part
+pub record AcceptedParts (x : AcceptedFile) (a : Accepted) : Type 0 where
   pub table : x.table ≡ a.table
   pub responses : x.responses ≡ padded 8 0 a.responses
   pub list : x.list ≡ job_list_of a.jobs
-
-abbrev pub AcceptedAs : AcceptAnswer → Checked ℕ Accepted → Type 0
-AcceptedAs x (refused number place) = x.check ≡ Refused number place
-AcceptedAs x (passed a) = AcceptedParts x a

@@ -1,24 +1,19 @@
 -- The iteration to the response time as its functions yield it: the utilisation that the tasks above need,
--- the lower bound that it starts from, the test whether an interval of some length is long enough, the arrays that
--- the tasks' times are lent in, and the answers as declared types.
+-- the lower bound that it starts from, the test whether an interval of some length is long enough, the array that
+-- the tasks' times are lent in, and a response time as it is yielded.
 -- Assumes nothing.
-use Rattle.std.specs.Prelude.{◌≡◌, ℕ, ◌+◌, ◌-◌, ◌*◌, ◌^◌, ◌≤◌, ◌<◌, Bool, not, ◌&&◌, ◌||◌, List, [], ◌∷◌, leb, eqb, length, get_or}
-use Rattle.std.proofs.Math.Option.{Option, none, some}
-use Rattle.taskfile.specs.declared.Judged.TheVariants.{Sound, Faulty}
-use Rattle.taskfile.specs.declared.Site.{Site}
+use Rattle.std.specs.Prelude.{◌≡◌, ℕ, ◌+◌, ◌-◌, ◌*◌, ◌^◌, ◌≤◌, ◌<◌, Bool, not, ◌&&◌, ◌||◌, List, [], ◌∷◌, leb, eqb, length, get_or, Option, Some, None}
+use Rattle.std.proofs.Math.Option as Math
 use Rattle.taskfile.specs.declared.Table.{Table}
 use Rattle.taskfile.specs.declared.Task.{Task}
 use Rattle.taskfile.specs.declared.TaskEntry.{TaskEntry}
-use Rattle.notation.specs.Checked.{Checked, refused, passed}
 use Rattle.taskfile.specs.Judgement.{numbered}
 use Rattle.taskfile.specs.Code.JudgingParts.{Shaped}
-use Rattle.notation.specs.Lists.{padded}
 use Rattle.taskfile.specs.Tables.{task_of}
-use Rattle.timing.specs.declared.Bound.{Bound}
-use Rattle.timing.specs.declared.Bound.TheVariants.{Within, Overload}
-use Rattle.timing.specs.declared.Responses.{Responses}
+use Rattle.timing.specs.declared.Timing.{Timing}
 use Rattle.timing.specs.declared.Utilisation.{Utilisation}
 use Rattle.timing.specs.Response.{rounded_up, tasks_above, interference, need, demand}
+use Rattle.timing.specs.Code.BoundedTimes.{no_timing}
 
 -- a table whose times can be worked out: its arrays are full, and each task has 1 ≤ C ≤ P
 pub record Timeable (t : Table) : Type 0 where
@@ -26,32 +21,21 @@ pub record Timeable (t : Table) : Type 0 where
   pub positive : (i : Task) → i.0 < t.tasks → 1 ≤ (task_of t i).execution
   pub within : (i : Task) → i.0 < t.tasks → (task_of t i).execution ≤ (task_of t i).period
 
--- an array of eight numbers, of which the first n are f 0, f 1, .. in 32 bits
-pub record Column (f : ℕ → ℕ) (n : ℕ) (xs : List ℕ) : Type 0 where
-  pub full : length xs ≡ 8
-  pub held : (k : ℕ) → k < n → get_or xs k 0 ≡ f k
-  pub narrow : (k : ℕ) → k < n → get_or xs k 0 < 2 ^ 32
+-- what task k of a table asks of the processor
+unfoldable pub timing_at : Table → ℕ → Timing
+timing_at t k = let e = task_of t (numbered k) in record { execution = e.execution; period = e.period }
 
--- the execution time and the period of task k
-unfoldable pub execution_at : Table → ℕ → ℕ
-execution_at t k = (task_of t (numbered k)).execution
+-- an array of eight, of which the first n are what the first n tasks of a table ask, in 32 bits
+pub record Timings (t : Table) (n : ℕ) (timings : List Timing) : Type 0 where
+  pub full : length timings ≡ 8
+  pub held : (k : ℕ) → k < n → get_or timings k no_timing ≡ timing_at t k
+  pub narrow : (k : ℕ) → k < n
+      → ((get_or timings k no_timing).execution < 2 ^ 32) × ((get_or timings k no_timing).period < 2 ^ 32)
 
-unfoldable pub period_at : Table → ℕ → ℕ
-period_at t k = (task_of t (numbered k)).period
-
--- execution times and periods of n tasks with 1 ≤ C ≤ P, in 32 bits
-pub record BoundedTimes (Cs Ps : List ℕ) (n : ℕ) : Type 0 where
-  pub few : n ≤ 8
-  pub positive : (k : ℕ) → k < n → 1 ≤ get_or Cs k 0
-  pub within : (k : ℕ) → k < n → get_or Cs k 0 ≤ get_or Ps k 0
-  pub narrow : (k : ℕ) → k < n → get_or Ps k 0 < 2 ^ 32
-
--- those of the n tasks of a table
-pub record TimesOf (t : Table) (Cs Ps : List ℕ) (n : ℕ) : Type 0 where
+-- the times of a table's tasks, in an array to be lent
+pub record TimesOf (t : Table) (timings : List Timing) : Type 0 where
   pub timeable : Timeable t
-  pub count : t.tasks ≡ n
-  pub executions : Column (execution_at t) n Cs
-  pub periods : Column (period_at t) n Ps
+  pub asked : Timings t t.tasks timings
 
 -- what task i needs beside interference, as a number of 33 bits
 pub record NeedOf (t : Table) (i : Task) (own : ℕ) : Type 0 where
@@ -59,10 +43,10 @@ pub record NeedOf (t : Table) (i : Task) (own : ℕ) : Type 0 where
   pub positive : 1 ≤ own
   pub narrow : own < 2 ^ 33
 
--- a task's response time as the declared enum
-unfoldable pub bound_of : Option ℕ → Bound
-bound_of none = Overload
-bound_of (some R) = Within R
+-- a task's response time, as a function yields it
+unfoldable pub bound_of : Math.Option ℕ → Option ℕ
+bound_of Math.none = None
+bound_of (Math.some R) = Some R
 
 -- a utilisation of less than the whole in at most cap parts, and a task that needs c of every p: their sum fits
 pub record SumFits (s : Utilisation) (c p cap : ℕ) : Type 0 where
@@ -116,8 +100,3 @@ fits_from (e ∷ above) base b =
 -- the test whether task i meets its period where it waits for no lock
 unfoldable pub fits_alone : Table → Task → Bool
 fits_alone t i = fits_from (tasks_above t i) (task_of t i).execution (task_of t i).period
-
--- the response times of a table, or its refusal
-abbrev pub ResponsesAs : Responses → Checked Site (List ℕ) → Type 0
-ResponsesAs x (refused number site) = x.check ≡ Faulty number site
-ResponsesAs x (passed Rs) = (x.check ≡ Sound) × (x.times ≡ padded 8 0 Rs)

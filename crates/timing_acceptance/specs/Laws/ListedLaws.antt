@@ -1,104 +1,93 @@
--- Laws of what `jobs_for` yields: the refusals of the file and of the room, and the jobs of an accepted file.
+-- Laws of the job list: the refusals of the file and of the room, and the jobs of an accepted file; and what the entry
+-- then answers and stores.
 -- Assumes nothing.
-use Rattle.std.specs.Prelude.{◌≡◌, ℕ, ◌≤◌, ◌<◌, List, get_or, leb}
-use Rattle.std.proofs.Common.{sym, ap, ◌∙◌, arith, le-leb}
-use Rattle.std.proofs.Math.Path.{subst}
-use Rattle.std.proofs.Math.ListN.{length}
+use Rattle.std.specs.Prelude.{◌≡◌, ℕ, ◌≤◌, ◌<◌, List, ◌++◌, length, leb, take, drop}
+use Rattle.std.proofs.Common.{sym, ap, ◌∙◌, arith, subst, le-leb, leb→le}
 use Rattle.std.proofs.lemmas.Bool.{lt-leb}
-use Rattle.notation.specs.Checked.{Checked, refused, passed}
-use Rattle.notation.specs.Lists.{padded}
-use Rattle.notation.specs.Laws.CheckedLaws.{bind_refused, bind_goes, require_holds, require_fails}
-use Rattle.notation.specs.Laws.PaddedLaws.{padded_at}
-use Rattle.taskfile.specs.declared.Check.TheVariants.{Passed, Refused}
+use Rattle.notation.specs.Checked.{Checked, refused, passed, mapped, require}
+use Rattle.notation.specs.Laws.CheckedLaws.{bind_refused, bind_goes, bind_passed, then_passed, passed_same, require_holds, require_fails, require_passed}
 use Rattle.taskfile.specs.Records.{File}
-use Rattle.timing.specs.declared.AcceptAnswer.{AcceptAnswer}
+use Rattle.timing.specs.declared.AcceptedFile.{AcceptedFile}
+use Rattle.timing.specs.declared.JobList.{JobList}
 use Rattle.timing.specs.declared.JobRecord.{JobRecord}
-use Rattle.timing.specs.declared.ListAnswer.{ListAnswer}
 use Rattle.timing.specs.Accepted.{accept, most_jobs}
-use Rattle.timing.specs.Code.AcceptParts.{AcceptedAs}
+use Rattle.timing.specs.Code.AcceptParts.{accepted_file}
 use Rattle.timing.specs.Code.JobParts.{job_list_of}
-use Rattle.timing.proofs.Laws.AcceptLaws.{accepted_refused, accepted_passed}
+use Rattle.timing.proofs.Laws.AcceptLaws.{mapped_refused, mapped_passed, accepted_refused, accepted_passed}
 use Rattle.timing.proofs.Laws.AcceptedLaws.{file_accepted}
 use Rattle.timing.proofs.Laws.JobFacts.{jobs_few}
 use Rattle.timing.specs.ReadEntries.{listed, list_answer, list_answer_of, list_after, list_after_of}
-use Rattle.timing.specs.Relations.{no_job}
-use Rattle.timing_acceptance.specs.declared.job_list.Listed.{Listed}
-use Rattle.timing_acceptance.specs.Code.Filled.{list_filled, ListedAs}
-use Rattle.timing_acceptance.specs.Laws.FilledLaws.{HoldsRecords, list_filled_none, filled_whole}
+use Rattle.timing_acceptance.specs.Laws.FilledLaws.{filled_whole}
 
--- every list with this room is answered so
-abbrev Decided : File → ℕ → Checked ℕ (List JobRecord) → Type 0
-Decided f room c = (list : List JobRecord) → length list ≡ room → listed f list ≡ c
-
--- and is then so
-after_decided : (f : File) {room : ℕ} {c : Checked ℕ (List JobRecord)} → Decided f room c
-    → (list : List JobRecord) → length list ≡ room → list_after_of c list ≡ list_after f list
-unfolding list_after
-after_decided f decided list long = sym (ap (λ (c : Checked ℕ (List JobRecord)). list_after_of c list) (decided list long))
-
--- a refusal stores nothing
-refused_as : {x : Listed} {f : File} {room number place : ℕ} → Decided f room (refused number place)
-    → x.answer ≡ record { number = number; place = place; jobs = 0 } → ListedAs x f room
-unfolding list_answer list_answer_of list_after_of
-refused_as {x} decided e =
-    let none : x.answer.jobs ≡ 0 = ap (λ (y : ListAnswer). y.jobs) e in
-    record {
-      answer = λ list long. e ∙ sym (ap list_answer_of (decided list long));
-      after = λ list long.
-          ap (λ (n : ℕ). list_filled x n list) none ∙ sym (list_filled_none x list) ∙ after_decided _ decided list long;
-      most = omega (arith, none);
-      within = omega (arith, none);
-    }
-
--- the jobs are stored
-passed_as : {x : Listed} {f : File} {room : ℕ} (jobs : List JobRecord) → Decided f room (passed jobs)
-    → x.answer ≡ record { number = 0; place = 0; jobs = length jobs } → x.jobs ≡ padded most_jobs no_job jobs
-    → length jobs ≤ 32 → 32 ≤ room → ListedAs x f room
-unfolding list_answer list_answer_of list_after_of
-passed_as {x} jobs decided e array few room =
-    let count : x.answer.jobs ≡ length jobs = ap (λ (y : ListAnswer). y.jobs) e in
-    let held : HoldsRecords x jobs = λ i small.
-    ap (λ (l : List JobRecord). get_or l i no_job) array ∙ padded_at most_jobs no_job jobs i (omega (arith, small, few)) in
-    record {
-      answer = λ list long. e ∙ sym (ap list_answer_of (decided list long));
-      after = λ list long.
-          ap (λ (n : ℕ). list_filled x n list) count
-          ∙ filled_whole x jobs list held (omega (arith, few, room, long)) ∙ after_decided _ decided list long;
-      most = omega (arith, count, few);
-      within = omega (arith, count, few, room);
-    }
-
-module _ (f : File) (room : ℕ) (x : AcceptAnswer) (accepting : AcceptedAs x (accept f)) where
+module _ (f : File) (list : List JobRecord) where
   -- the file is refused
-  pub lists_refused : {n p : ℕ} → x.check ≡ Refused n p
-      → {y : Listed} → y.answer ≡ record { number = n; place = p; jobs = 0 } → ListedAs y f room
-  unfolding listed
-  lists_refused h e = refused_as (λ list long. bind_refused _ (accepted_refused x (accept f) accepting h)) e
+  pub lists_refused : {n p : ℕ} → refused n p ≡ mapped accepted_file (accept f) → refused n p ≡ mapped job_list_of (listed f list)
+  unfolding mapped listed
+  lists_refused e = sym (ap (mapped job_list_of) (bind_refused _ (accepted_refused (accept f) e)))
 
-  -- the room is below 32
-  pub lists_roomless : x.check ≡ Passed → room < 32
-      → {y : Listed} → y.answer ≡ record { number = 20; place = 0; jobs = 0 } → ListedAs y f room
-  unfolding listed
-  lists_roomless h low e =
-      let found = accepted_passed x (accept f) accepting h in
-      refused_as
-      (λ list long.
-      let short : length list < 32 = subst (λ (m : ℕ). m < 32) (sym long) low in
-      bind_goes _ found.1 ∙ require_fails (leb most_jobs (length list)) 20 0 _ (lt-leb _ _ short))
-      e
+  module _ {x : AcceptedFile} (e : passed x ≡ mapped accepted_file (accept f)) where
+    -- the room is below 32
+    pub lists_roomless : length list < 32 → refused 20 0 ≡ mapped job_list_of (listed f list)
+    unfolding mapped listed
+    lists_roomless short =
+        let found = accepted_passed (accept f) e in
+        sym (ap (mapped job_list_of)
+        (bind_goes _ found.1 ∙ require_fails (leb most_jobs (length list)) 20 0 _ (lt-leb _ _ short)))
 
-  -- the file is accepted
-  pub lists_accepted : x.check ≡ Passed → 32 ≤ room
-      → ListedAs (record { answer = record { number = 0; place = 0; jobs = x.list.count }; jobs = x.list.jobs }) f room
-  unfolding listed job_list_of
-  lists_accepted h high =
-      let found = accepted_passed x (accept f) accepting h in
-      passed_as
-      found.0.jobs
-      (λ list long.
-      let wide : 32 ≤ length list = subst (λ (m : ℕ). 32 ≤ m) (sym long) high in
-      bind_goes _ found.1 ∙ require_holds (leb most_jobs (length list)) 20 0 _ (le-leb _ _ wide))
-      (λ i. record { number = 0; place = 0; jobs = (found.2.list i).count })
-      (λ i. (found.2.list i).jobs)
-      (jobs_few (file_accepted f found.1).is_timed)
-      high
+    -- the file is accepted
+    pub lists_accepted : 32 ≤ length list → passed x.list ≡ mapped job_list_of (listed f list)
+    unfolding mapped listed
+    lists_accepted wide =
+        let found = accepted_passed (accept f) e in
+        ap passed found.2.list
+        ∙ sym (ap (mapped job_list_of)
+        (bind_goes _ found.1 ∙ require_holds (leb most_jobs (length list)) 20 0 _ (le-leb _ _ wide)))
+
+  -- ---- what the entry answers and stores
+
+  -- a refusal stores nothing
+  module _ {n p : ℕ} (e : refused n p ≡ mapped job_list_of (listed f list)) where
+    pub refused_answer : record { number = n; place = p; jobs = 0 } ≡ list_answer f list
+    unfolding list_answer list_answer_of
+    refused_answer = sym (ap list_answer_of (mapped_refused job_list_of (listed f list) e))
+
+    pub refused_after : list ≡ list_after f list
+    unfolding list_after list_after_of
+    refused_after = sym (ap (λ (c : Checked ℕ (List JobRecord)). list_after_of c list) (mapped_refused job_list_of (listed f list) e))
+
+  -- the jobs are at most 32, and there is room for them
+  jobs_fit : {jobs : List JobRecord} → listed f list ≡ passed jobs → (length jobs ≤ 32) × (32 ≤ length list)
+  unfolding listed
+  jobs_fit e =
+      let room = require (leb most_jobs (length list)) 20 0 in
+      let found = bind_passed (accept f) _ e in
+      let wide = then_passed room (passed found.0.jobs) found.2 in (
+        subst (λ (l : List JobRecord). length l ≤ 32) (passed_same wide.2) (jobs_few (file_accepted f found.1).is_timed),
+        leb→le most_jobs (length list) (require_passed (leb most_jobs (length list)) 20 0 wide.1),
+      )
+
+  -- they are stored
+  module _ {x : JobList} (e : passed x ≡ mapped job_list_of (listed f list)) where
+    abbrev found : (jobs : List JobRecord) × (listed f list ≡ passed jobs) × (x ≡ job_list_of jobs)
+    found = mapped_passed job_list_of (listed f list) e
+
+    count : x.count ≡ length found.0
+    unfolding job_list_of
+    count = ap (λ (y : JobList). y.count) found.2
+
+    pub jobs_most : x.count ≤ 32
+    jobs_most = omega (arith, count, jobs_fit found.1)
+
+    pub jobs_within : x.count ≤ length list
+    jobs_within = omega (arith, count, jobs_fit found.1)
+
+    pub passed_answer : record { number = 0; place = 0; jobs = x.count } ≡ list_answer f list
+    unfolding list_answer list_answer_of
+    passed_answer = (λ i. record { number = 0; place = 0; jobs = count i }) ∙ sym (ap list_answer_of found.1)
+
+    pub passed_after : take x.count x.jobs ++ drop x.count list ≡ list_after f list
+    unfolding list_after list_after_of
+    passed_after =
+        ap (λ (y : JobList). take y.count y.jobs ++ drop y.count list) found.2
+        ∙ filled_whole found.0 list (jobs_fit found.1).0
+        ∙ sym (ap (λ (c : Checked ℕ (List JobRecord)). list_after_of c list) found.1)

@@ -1,7 +1,7 @@
 -- `timing_jobs::jobs_of` meets its contract: the list holds the jobs of the tasks passed, and has room for those to come,
 -- since all are at most 32.
 -- Assumes nothing.
-use Prim.Native.Nat.{◌+◌, ◌-◌, ◌≤◌}
+use Prim.Native.Nat.{◌+◌}
 use mathlib.Core.Path.{◌≡◌}
 use mathlib.Core.List.{map}
 use lib.ListN.{drop}
@@ -14,9 +14,5 @@ use Rattle.timing_jobs.proofs.jobs_of.Given as goal
 
 abbrev pub invariant-loop-i : goal.invariant-loop-i
 invariant-loop-i l =
-    (l.i ≤ l.t.tasks)
-    × (l.list.count + sum (map (jobs_within l.t.window) (drop l.i (tasks_of l.t))) ≡ job_count l.t)
+    (l.list.count + sum (map (jobs_within l.t.window) (drop l.i (tasks_of l.t))) ≡ job_count l.t)
     × (l.list ≡ job_list_of (jobs_below l.t l.times l.i))
-
-abbrev pub decreases-loop-i : goal.decreases-loop-i
-decreases-loop-i l = l.t.tasks - l.i

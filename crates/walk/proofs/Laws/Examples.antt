@@ -4,7 +4,8 @@ use Rattle.std.specs.Prelude.{◌≡◌, refl, ℕ, List, [], ◌∷◌, map}
 use Rattle.std.proofs.Math.Option.{Option, none, some}
 use Rattle.notation.specs.Checked.{refused, passed}
 use Rattle.timing.specs.Accepted.{Accepted}
-use Rattle.machine.specs.Ends.{End, no_store}
+use Rattle.machine.specs.Ends.{no_store}
+use Rattle.machine.specs.declared.End.{End}
 use Rattle.examples.specs.Laws.Opened.{opened}
 use Rattle.examples.specs.Laws.Samples.{nest, pair, pick_up_to, idle, twice, apart, wait, sensor, samples_opened}
 use Rattle.examples.specs.Laws.Samples.{two_set, first_failed}

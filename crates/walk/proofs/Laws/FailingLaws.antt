@@ -16,7 +16,7 @@ use Rattle.notation.specs.Ordered.{Ordered}
 use Rattle.notation.specs.Laws.TestLaws.{not_both}
 use Rattle.timing.specs.Accepted.{Accepted}
 use Rattle.timing.specs.Code.IsAccepted.{IsAccepted}
-use Rattle.machine.specs.Ends.{End}
+use Rattle.machine.specs.declared.End.{End}
 use Rattle.order.specs.Orders.{OrderEnds, most_steps}
 use Rattle.order.specs.States.{initial}
 use Rattle.order.proofs.Laws.StepLaws.{initial_invariant}

@@ -11,7 +11,8 @@ use Rattle.taskfile.specs.Records.{File}
 use Rattle.timing.specs.Accepted.{Accepted, accept}
 use Rattle.timing.proofs.Laws.AcceptedLaws.{file_accepted}
 use Rattle.timing.specs.Code.IsAccepted.{IsAccepted}
-use Rattle.machine.specs.Ends.{Flags, End, no_flags, no_store}
+use Rattle.machine.specs.Ends.{Flags, no_flags, no_store}
+use Rattle.machine.specs.declared.End.{End}
 use Rattle.machine.specs.Buffers.{order_room, run_answer, unwritten}
 use Rattle.machine.specs.Instructions.{Store}
 use Rattle.machine.proofs.Laws.InstructionLaws.{perform_length}

@@ -5,14 +5,11 @@ use Rattle.walk_moves.specs.Laws.PositionLaws.{depth_read, position_read, positi
 use Rattle.walk_moves.proofs.position_of.Goals as goal
 
 pub overflow_sub-s : goal.overflow_sub-s
-overflow_sub-s c = omega (arith, depth_read _ (c.requires.1 c.if-i-top.true))
-
-pub next_in-requires : goal.next_in-requires
-next_in-requires c = omega (arith, c.requires.0.few)
+overflow_sub-s c = omega (arith, depth_read _ (c.requires c.if-i-top.true))
 
 pub returns-then-i-top : goal.returns-then-i-top
 returns-then-i-top c =
-    position_read _ (c.requires.1 c.if-i-top.true) c.requires.0 _ _ c.if-i-top.true c.next_in.ensures
+    position_read _ (c.requires c.if-i-top.true) c.args.s.now.whole _ _ c.if-i-top.true c.next_in.ensures
 
 pub returns : goal.returns
 returns c = position_start _ _ _ c.if-i-top.false

@@ -8,8 +8,8 @@ returns-then-depth-eq0 c = running_flat _ _ c.if-depth-eq0.true
 
 pub returns-then-x-ge-MOST_JOBS : goal.returns-then-x-ge-MOST_JOBS
 returns-then-x-ge-MOST_JOBS c =
-    running_no_job _ _ c.requires c.if-depth-eq0.false c.if-x-ge-MOST_JOBS.true
+    running_no_job _ _ c.args.s.now.whole c.if-depth-eq0.false c.if-x-ge-MOST_JOBS.true
 
 pub returns : goal.returns
 returns c =
-    running_read _ _ c.requires c.if-depth-eq0.false c.if-x-ge-MOST_JOBS.false
+    running_read _ _ c.args.s.now.whole c.if-depth-eq0.false c.if-x-ge-MOST_JOBS.false

@@ -12,8 +12,8 @@ use Rattle.walk_moves.proofs.start_from.Given as goal
 abbrev pub invariant-loop-k : goal.invariant-loop-k
 invariant-loop-k l =
     (l.initial.k ≤ l.k) × (l.k ≤ 8)
-    × ((locks : Ceilings) → l.low ≡ level_in l.program locks (snapshot_in l.s) → l.low ≤ l.initial.k
-    → NoStep l.program l.waits locks (snapshot_in l.s) (16 * l.initial.k) (16 * l.k))
+    × ((locks : Ceilings) → l.low ≡ level_in l.lent.program locks (snapshot_in l.s.bytes) → l.low ≤ l.initial.k
+    → NoStep l.lent.program l.lent.waits locks (snapshot_in l.s.bytes) (16 * l.initial.k) (16 * l.k))
 
 abbrev pub decreases-loop-k : goal.decreases-loop-k
 decreases-loop-k l = 8 - l.k

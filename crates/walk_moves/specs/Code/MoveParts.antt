@@ -1,6 +1,6 @@
 -- The moves of a snapshot, as their functions yield them: the next byte that is a step, and where it is looked for.
 -- Assumes nothing.
-use Rattle.std.specs.Prelude.{◌≡◌, ℕ, ◌+◌, ◌*◌, ◌≤◌, ◌<◌, true, false, ◌&&◌, List, leb, ltb, eqb}
+use Rattle.std.specs.Prelude.{Some, ◌≡◌, ℕ, ◌+◌, ◌*◌, ◌≤◌, ◌<◌, true, false, ◌&&◌, List, leb, ltb, eqb, Option, None}
 use Rattle.taskfile.specs.declared.Ceilings.{Ceilings}
 use Rattle.taskfile.specs.declared.Instruction.{Instruction}
 use Rattle.taskfile.specs.Code.Choices.{lowest, highest}
@@ -8,6 +8,16 @@ use Rattle.std.specs.Prelude.{if◌then◌else◌}
 use Rattle.order_states.specs.declared.Due.{Due}
 use Rattle.order_states.specs.Code.Snapshots.{Snapshot}
 use Rattle.order_states.specs.Code.SnapshotSteps.{owner_in, level_in, top_of, turn_in, step_in}
+
+-- a number below the limit that is found, or the limit where none is
+abbrev pub FoundBelow : ℕ → (ℕ → Type 0) → Option ℕ → Type 0
+FoundBelow limit Is None = Is limit
+FoundBelow limit Is (Some m) = (m < limit) × Is m
+
+-- the byte of a move, or 128 where there is none
+abbrev pub move_byte : Option ℕ → ℕ
+move_byte None = 128
+move_byte (Some m) = m
 
 -- no byte from `first` up to `last` is a step
 abbrev pub NoStep : List ℕ → List ℕ → Ceilings → Snapshot → ℕ → ℕ → Type 0
@@ -29,8 +39,8 @@ FirstStart program waits locks p start = NextStep program waits locks p (16 * le
 -- is a step, or none is
 abbrev pub StepOf : List ℕ → ℕ → ℕ → ℕ → ℕ → Type 0
 StepOf program i position v m =
-    (waits : List ℕ) (locks : Ceilings) (p : Snapshot) (d : Due) → d ≡ turn_in program waits locks p i
-    → d.due ≡ true → position ≡ d.frame.local.next
+    (waits : List ℕ) (locks : Ceilings) (p : Snapshot) (d : Due) → Some d ≡ turn_in program waits locks p i
+    → position ≡ d.frame.local.next
     → (m < 128 → NextStep program waits locks p (16 * i + v) m)
     × (128 ≤ m → NoStep program waits locks p (16 * i + v) (16 * (i + 1)))
 

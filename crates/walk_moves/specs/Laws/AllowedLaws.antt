@@ -1,5 +1,6 @@
 -- Laws of a byte that is a step: whose turn that is, and that its value is on offer.
 -- Assumes nothing.
+use Rattle.std.specs.Prelude.{Option, Some, None}
 use Rattle.order.specs.OrderBytes.{task_of_byte, value_of_byte}
 use Rattle.std.specs.Prelude.{◌≡◌, refl, ℕ, ◌≤◌, ◌<◌, true, ◌&&◌, List, ltb}
 use Rattle.std.proofs.Common.{sym, ◌∙◌, inl, inr, arith, true≢false, ltb-true}
@@ -31,33 +32,34 @@ level_bounded program locks p = elim (dec_lt 0 p.depth) [
 module _ (program waits : List ℕ) (locks : Ceilings) (p : Snapshot) (byte : ℕ)
     (allowed : (step_in program waits locks p byte).allowed ≡ true) where
   -- the turn of its task is due
-  pub allowed_due : {d : Due} → d ≡ turn_in program waits locks p (task_of_byte byte) → d.due ≡ true
-  allowed_due {d} is =
-      elim (test_decided d.due) [
-        | inl h ↦ h
-        | inr h ↦
-            absurd (true≢false (sym allowed ∙ next.idle_refused program waits locks p (task_of_byte byte) is h byte refl))
-      ]
+  pub allowed_due : (d : Due) × (Some d ≡ turn_in program waits locks p (task_of_byte byte))
+  allowed_due = turned (turn_in program waits locks p (task_of_byte byte)) refl
+    where
+      turned : (o : Option Due) → turn_in program waits locks p (task_of_byte byte) ≡ o
+          → (d : Due) × (Some d ≡ turn_in program waits locks p (task_of_byte byte))
+      turned None e =
+          absurd (true≢false (sym allowed ∙ next.idle_refused program waits locks p (task_of_byte byte) (sym e) byte refl))
+      turned (Some d) e = (d, sym e)
 
   -- its value is on offer
-  pub allowed_offered : {d : Due} → d ≡ turn_in program waits locks p (task_of_byte byte)
+  pub allowed_offered : {d : Due} → Some d ≡ turn_in program waits locks p (task_of_byte byte)
       → offered_in program d.frame (task_of_byte byte) (value_of_byte byte) ≡ true
   allowed_offered is =
-      sym (next.due_allowed program waits locks p (task_of_byte byte) is (allowed_due is) byte refl) ∙ allowed
+      sym (next.due_allowed program waits locks p (task_of_byte byte) is byte refl) ∙ allowed
 
   module _ (small : byte < 128) {top : ℕ} (running : top ≡ running_task program p) where
     -- the running job's task has that job's turn, and that job is active
-    pub allowed_top : task_of_byte byte ≡ top → top_turn p ≡ turn_in program waits locks p (task_of_byte byte)
+    pub allowed_top : task_of_byte byte ≡ top → Some (top_turn p) ≡ turn_in program waits locks p (task_of_byte byte)
     allowed_top here = due.turn_top program p (task_of_byte byte) (omega arith) running waits locks here
 
     pub allowed_deep : task_of_byte byte ≡ top → 1 ≤ p.depth
     allowed_deep here = due.top_deep program p (task_of_byte byte) (omega arith) running here
 
     -- another task has a start, and is not below the level
-    pub allowed_start : (task_of_byte byte ≡ top → ⊥) → start_turn p (task_of_byte byte) ≡ turn_in program waits locks p (task_of_byte byte)
+    pub allowed_start : (task_of_byte byte ≡ top → ⊥) → Some (start_turn p (task_of_byte byte)) ≡ turn_in program waits locks p (task_of_byte byte)
     allowed_start other =
-        due.due_start program p (task_of_byte byte) (omega arith) running waits locks other (allowed_due refl)
+        due.due_start program p (task_of_byte byte) (omega arith) running waits locks other allowed_due.1
 
     pub allowed_above : (task_of_byte byte ≡ top → ⊥) → level_in program locks p ≤ task_of_byte byte
     allowed_above other =
-        due.due_above program p (task_of_byte byte) (omega arith) running waits locks other (allowed_due refl)
+        due.due_above program p (task_of_byte byte) (omega arith) running waits locks other allowed_due.1

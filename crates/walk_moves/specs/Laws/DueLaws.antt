@@ -1,20 +1,20 @@
 -- Laws of a task's turn, by the running job's task and the level: the running job's task has that job's turn, another
 -- below the level none, and any other a start or none.
 -- Assumes nothing.
+use Rattle.std.specs.Prelude.{Option, Some, None}
 use Rattle.std.specs.Prelude.{◌≡◌, ℕ, ◌≤◌, ◌<◌, Bool, true, false, ◌&&◌, List}
 use Rattle.std.proofs.Math.Path.{refl, ap}
-use Rattle.std.proofs.Common.{sym, ◌∙◌, arith, true≢false}
+use Rattle.std.proofs.Common.{sym, ◌∙◌, arith}
 use Rattle.std.proofs.Math.Logic.{inl, inr}
 use Rattle.std.proofs.Math.Dec.{ltb}
 use Rattle.std.proofs.Math.ListN.{take}
 use borrow.Author.Tests.{ltb-true, eqb-true, eq-eqb, lt-ltb}
 use Rattle.taskfile.specs.declared.Ceilings.{Ceilings}
-use Rattle.std.specs.Prelude.{if◌then◌else◌}
 use Rattle.notation.specs.Laws.TestLaws.{and_both, and_holds, test_decided}
 use Rattle.machine.proofs.Laws.HeldLaws.{priority_base}
 use Rattle.order_states.specs.declared.Due.{Due}
 use Rattle.order_states.specs.Code.Snapshots.{Snapshot}
-use Rattle.order_states.specs.Code.SnapshotSteps.{owner_in, owned_by, bar_in, level_in, nobody, starts_above, starts_in}
+use Rattle.order_states.specs.Code.SnapshotSteps.{owner_in, owned_by, bar_in, level_in, starts_above, starts_in}
 use Rattle.order_states.specs.Code.SnapshotSteps.{start_turn, start_in, top_of, runs_in, top_turn, turn_in}
 use Rattle.order_states.proofs.Laws.StartLaws as start
 use Rattle.order_states.proofs.Laws.TurnLaws.{runs_says, turn_runs, turn_starts}
@@ -46,15 +46,6 @@ module _ (program : List ℕ) (p : Snapshot) where
 
 -- ---- whose turn it is
 
--- a turn of the running job is due, and so is one of a job that starts
-pub top_due : (p : Snapshot) {d : Due} → d ≡ top_turn p → d.due ≡ true
-unfolding top_turn
-top_due p is = ap (λ (e : Due). e.due) is
-
-pub start_due : (p : Snapshot) (i : ℕ) {d : Due} → d ≡ start_turn p i → d.due ≡ true
-unfolding start_turn
-start_due p i is = ap (λ (e : Due). e.due) is
-
 module _ (program : List ℕ) (p : Snapshot) (i : ℕ) (small : i < 8) {top : ℕ} (is : top ≡ running_task program p) where
   pub top_deep : i ≡ top → 1 ≤ p.depth
   top_deep here = (running_says program p (omega (arith, is))).0
@@ -79,40 +70,38 @@ module _ (program : List ℕ) (p : Snapshot) (i : ℕ) (small : i < 8) {top : �
   ]
 
   module _ (waits : List ℕ) (locks : Ceilings) where
-    pub turn_top : i ≡ top → top_turn p ≡ turn_in program waits locks p i
+    pub turn_top : i ≡ top → Some (top_turn p) ≡ turn_in program waits locks p i
     turn_top here = turn_runs program waits locks p i (sym (runs_here here)) refl
 
     start_here : (i ≡ top → ⊥) → start_in program waits locks p i ≡ turn_in program waits locks p i
     start_here other = turn_starts program waits locks p i (sym (runs_not other)) refl refl
 
-    idle : (i ≡ top → ⊥) → starts_in program waits locks p i ≡ false → (turn_in program waits locks p i).due ≡ false
-    unfolding nobody
-    idle other none =
-        ap (λ (d : Due). d.due) (sym (start_here other) ∙ start.start_none program waits locks p i none)
+    idle : (i ≡ top → ⊥) → starts_in program waits locks p i ≡ false → None ≡ turn_in program waits locks p i
+    idle other none = sym (start.start_none program waits locks p i none) ∙ start_here other
 
     module _ (other : i ≡ top → ⊥) {low : ℕ} (level : low ≡ level_in program locks p) {b : Bool} (starts : b ≡ starts_above program waits low p i) where
       starts_at : starts_in program waits locks p i ≡ b
       starts_at = ap (λ (n : ℕ). starts_above program waits n p i) (sym level) ∙ sym starts
 
-      pub turn_start : b ≡ true → start_turn p i ≡ turn_in program waits locks p i
+      pub turn_start : b ≡ true → Some (start_turn p i) ≡ turn_in program waits locks p i
       turn_start h = sym (start.start_due program waits locks p i (starts_at ∙ h)) ∙ start_here other
 
-      pub turn_idle : b ≡ false → (turn_in program waits locks p i).due ≡ false
+      pub turn_idle : b ≡ false → None ≡ turn_in program waits locks p i
       turn_idle h = idle other (starts_at ∙ h)
 
     -- no task below the level has a turn, the running job's apart
-    pub low_idle : (i ≡ top → ⊥) → i < level_in program locks p → (turn_in program waits locks p i).due ≡ false
+    pub low_idle : (i ≡ top → ⊥) → i < level_in program locks p → None ≡ turn_in program waits locks p i
     low_idle other low = idle other (start.starts_low program waits (level_in program locks p) p i low)
 
     -- a turn that is due and not the running job's is the start of a task that is not below the level
-    module _ (other : i ≡ top → ⊥) (due : (turn_in program waits locks p i).due ≡ true) where
+    module _ (other : i ≡ top → ⊥) {d : Due} (due : Some d ≡ turn_in program waits locks p i) where
       due_starts : starts_in program waits locks p i ≡ true
       due_starts = elim (test_decided (starts_in program waits locks p i)) [
         | inl h ↦ h
-        | inr h ↦ absurd (true≢false (sym due ∙ idle other h))
+        | inr h ↦ absurd (let clash : ◌≡◌ {A = Option Due} None (Some d) = idle other h ∙ sym due in cc)
       ]
 
-      pub due_start : start_turn p i ≡ turn_in program waits locks p i
+      pub due_start : Some (start_turn p i) ≡ turn_in program waits locks p i
       due_start = turn_start other refl refl due_starts
 
       pub due_above : level_in program locks p ≤ i

@@ -10,7 +10,7 @@ use Rattle.notation.specs.Laws.TestLaws.{test_decided}
 use Rattle.order_states.specs.Code.Snapshots.{Snapshot}
 use Rattle.order_states.specs.Code.SnapshotSteps.{level_in, starts_above, step_in}
 use Rattle.walk_moves.specs.Laws.AllowedLaws.{level_bounded, allowed_top, allowed_start}
-use Rattle.walk_moves.specs.Laws.DueLaws.{top_due, start_due, turn_top, turn_start, turn_idle, low_idle, high_other}
+use Rattle.walk_moves.specs.Laws.DueLaws.{turn_top, turn_start, turn_idle, low_idle, high_other}
 use Rattle.walk_moves.specs.Laws.NextLaws.{idle_refused, idle_none, none_joined, next_joined}
 use Rattle.walk_moves.specs.Laws.PositionLaws.{at_top, at_start_lem, start_first}
 use Rattle.walk_moves.specs.Code.MoveParts.{NoStep, NextStep, FirstStart, StepOf, position_in, running_task}
@@ -32,7 +32,7 @@ module _ (program waits : List ℕ) (locks : Ceilings) (p : Snapshot) {low : ℕ
   pub starts_passed : b ≡ false → NoStep program waits locks p (16 * i) (16 * (k + 1))
   starts_passed h =
       none_joined program waits locks p (16 * i) (16 * k) before (16 * (k + 1))
-      (idle_none program waits locks p k refl (turn_idle program p k small refl waits locks other level starts h))
+      (idle_none program waits locks p k (turn_idle program p k small refl waits locks other level starts h))
 
   -- it may, and its first byte that is a step is known
   module _ (h : b ≡ true) {m : ℕ} (found : StepOf program k 0 0 m) where
@@ -40,7 +40,7 @@ module _ (program waits : List ℕ) (locks : Ceilings) (p : Snapshot) {low : ℕ
         × (128 ≤ m → NoStep program waits locks p (16 * k + 0) (16 * (k + 1)))
     of_start =
         found waits locks p _ (turn_start program p k small refl waits locks other level starts h)
-        (start_due p k refl) (start_first p k)
+        (start_first p k)
 
     pub starts_refused : 128 ≤ m → NoStep program waits locks p (16 * i) (16 * (k + 1))
     starts_refused none =
@@ -61,7 +61,7 @@ module _ (program waits : List ℕ) (locks : Ceilings) (p : Snapshot) {top : ℕ
       → (step_in program waits locks p k).allowed ≡ false
   low_refused k lt other =
       let small : k / 16 < 8 = omega (arith, level_bounded program locks p) in
-      idle_refused program waits locks p (k / 16) refl
+      idle_refused program waits locks p (k / 16)
       (low_idle program p (k / 16) small running waits locks other (omega arith)) k refl
 
   -- the running job's task is below the level
@@ -93,7 +93,7 @@ module _ (program waits : List ℕ) (locks : Ceilings) (p : Snapshot) {top : ℕ
     of_top : (m < 128 → NextStep program waits locks p (16 * top + 0) m)
         × (128 ≤ m → NoStep program waits locks p (16 * top + 0) (16 * (top + 1)))
     of_top =
-        found waits locks p _ (turn_top program p top near running waits locks refl) (top_due p refl)
+        found waits locks p _ (turn_top program p top near running waits locks refl)
         (at_top p top top refl at)
 
     -- no byte of a task below the running job's is a step
@@ -129,11 +129,11 @@ module _ (program waits : List ℕ) (locks : Ceilings) (p : Snapshot) {top : ℕ
           | inl e ↦
               let here = eqb-true (task_of_byte byte) top e in
               found waits locks p _ (allowed_top program waits locks p byte allowed small running here)
-              (top_due p refl) (at_top p top (task_of_byte byte) here at)
+              (at_top p top (task_of_byte byte) here at)
           | inr e ↦
               let other = eqb-false (task_of_byte byte) top e in
               found waits locks p _ (allowed_start program waits locks p byte allowed small running other)
-              (start_due p (task_of_byte byte) refl) (at_start_lem p top (task_of_byte byte) other at)
+              (at_start_lem p top (task_of_byte byte) other at)
         ])
 
     pub after_found : m < 128 → NextStep program waits locks p (byte + 1) m

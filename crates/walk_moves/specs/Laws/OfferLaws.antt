@@ -1,6 +1,6 @@
 -- Laws of the values that a job may take: the first from one on.
 -- Assumes nothing.
-use Rattle.std.specs.Prelude.{◌≡◌, refl, ℕ, ◌≤◌, ◌<◌, Bool, ◌&&◌, List, leb}
+use Rattle.std.specs.Prelude.{◌≡◌, refl, ℕ, ◌≤◌, ◌<◌, Bool, ◌&&◌, List, leb, max}
 use Rattle.std.proofs.Common.{sym, ◌∙◌, arith}
 use Rattle.std.proofs.Math.Path.{ap, subst}
 use Rattle.std.proofs.Math.Logic.{inl, inr}
@@ -41,6 +41,13 @@ raised_up v least lt = rw (lt-ltb v least lt) refl
 pub raised_kept : (v least : ℕ) → least ≤ v → v ≡ raised v least
 unfolding raised
 raised_kept v least le = rw (le-ltb v least le) refl
+
+pub raised_max : (v least : ℕ) → max v least ≡ raised v least
+raised_max v least =
+    elim (dec_lt v least) [
+      | yes lt ↦ let is : max v least ≡ least = omega arith in is ∙ raised_up v least lt
+      | no ge ↦ let is : max v least ≡ v = omega arith in is ∙ raised_kept v least (omega arith)
+    ]
 
 raised_larger : (v least : ℕ) → Larger v least (raised v least)
 raised_larger v least =

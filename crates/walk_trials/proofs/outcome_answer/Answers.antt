@@ -5,14 +5,14 @@ use native.Mathlib.Omega.{arith}
 use Rattle.walk_trials.specs.Laws.OutcomeLaws.{answer_stopped, answer_found, answer_held}
 use Rattle.walk_trials.proofs.outcome_answer.Goals as goal
 
-pub returns-then-r : goal.returns-then-r
-returns-then-r c = c.refused_walk.ensures ∙ answer_stopped _ c.if-r.true
+pub returns-in-Stopped : goal.returns-in-Stopped
+returns-in-Stopped c = rw c.at.ensures at c.refused_walk.ensures ∙ answer_stopped _ c.in-Stopped.is
+
+pub returns-in-Held : goal.returns-in-Held
+returns-in-Held c = answer_held _ c.in-Held.is
 
 pub overflow_cast-result : goal.overflow_cast-result
-overflow_cast-result c = omega (arith, c.requires c.if-r-2.true)
+overflow_cast-result c = let short = rw c.in-Found.is at c.requires in omega (arith, short)
 
-pub returns-then-r-2 : goal.returns-then-r-2
-returns-then-r-2 c = answer_found _ c.if-r.false c.if-r-2.true
-
-pub returns : goal.returns
-returns c = answer_held _ c.if-r.false c.if-r-2.false
+pub returns-in-Found : goal.returns-in-Found
+returns-in-Found c = answer_found _ c.in-Found.is

@@ -1,6 +1,6 @@
 -- The walk and the trial on snapshots, as their functions yield them: what each came to within its allowance.
 -- Assumes nothing.
-use Rattle.std.specs.Prelude.{◌≡◌, ℕ, ◌+◌, ◌-◌, ◌≤◌, ◌<◌, true, false, List, ◌++◌, length, take}
+use Rattle.std.specs.Prelude.{◌≡◌, ℕ, ◌+◌, ◌-◌, ◌≤◌, ◌<◌, List, ◌++◌, length, take}
 use Rattle.std.proofs.Math.Option.{Option, none, some}
 use Rattle.taskfile.specs.declared.Ceilings.{Ceilings}
 use Rattle.timing.specs.Accepted.{Accepted}
@@ -13,10 +13,7 @@ use Rattle.walk.specs.Moves.{moves}
 use Rattle.walk.specs.Code.FromState.{walk_from, trial}
 use Rattle.walk.specs.Walks.{EndedOrder, Walked}
 use Rattle.walk_trials.specs.declared.Outcome.{Outcome}
-
--- the locks' ceilings, of which the first so many are there
-abbrev pub ceilings_of : List ℕ → ℕ → Ceilings
-ceilings_of ceilings count = record { ceilings = ceilings; count = count }
+use Rattle.walk_trials.specs.declared.Outcome.TheVariants.{Stopped, Held, Found}
 
 -- the path so far: its bytes up to the state are as they were
 pub record Path (at : ℕ) (before now : List ℕ) : Type 0 where
@@ -24,31 +21,21 @@ pub record Path (at : ℕ) (before now : List ℕ) : Type 0 where
 
 -- how the walk ended that made `total` moves in all, on a path of `at` bytes
 abbrev pub WalkEndsAs : Option EndedOrder → ℕ → ℕ → List ℕ → Outcome → Type 0
-WalkEndsAs none total at buffer r = (r.found ≡ false) × (r.count ≡ total)
+WalkEndsAs none total at buffer r = r ≡ Held total
 WalkEndsAs (some f) total at buffer r =
-    (r.found ≡ true) × (r.count ≡ total) × (r.length ≡ at + length f.bytes)
+    (r ≡ Found total (at + length f.bytes) f.ending)
     × (take (at + length f.bytes) buffer ≡ take at buffer ++ f.bytes)
-    × (r.store ≡ f.ending.store) × (r.failed ≡ f.ending.failed)
 
 -- what a walk came to that had made `count` moves before and may make `allowance` in all, where the free walk comes to
 -- `walked`
 pub record Came (walked : Walked) (count allowance at : ℕ) (before after : List ℕ) (r : Outcome) : Type 0 where
   pub kept : take at after ≡ take at before
-  pub cut : allowance < count + walked.count → (r.stopped ≡ true) × (r.found ≡ false)
-  pub whole : count + walked.count ≤ allowance
-      → (r.stopped ≡ false) × WalkEndsAs walked.failing (count + walked.count) at after r
+  pub cut : allowance < count + walked.count → r ≡ Stopped
+  pub whole : count + walked.count ≤ allowance → WalkEndsAs walked.failing (count + walked.count) at after r
 
--- no order failed, after so many moves
-abbrev pub Held : ℕ → Outcome → Type 0
-Held made r = (r.found ≡ false) × (r.stopped ≡ false) × (r.count ≡ made)
-
--- the allowance did not suffice, after so many moves
-abbrev pub Stopped : ℕ → Outcome → Type 0
-Stopped made r = (r.found ≡ false) × (r.stopped ≡ true) × (r.count ≡ made)
-
--- what a trial leaves beside its outcome
-abbrev pub Left : ℕ → ℕ → List ℕ → List ℕ → Outcome → Type 0
-Left at allowance before after r = (length after ≡ length before) × (r.count ≤ allowance) × Path at before after
+-- what a trial leaves beside its outcome: the moves made in all, and the path
+abbrev pub Left : ℕ → ℕ → List ℕ → List ℕ → ℕ → Type 0
+Left at allowance before after count = (length after ≡ length before) × (count ≤ allowance) × Path at before after
 
 -- ---- what the walk and the trial come to, for every table and state that the arrays and the snapshot hold
 

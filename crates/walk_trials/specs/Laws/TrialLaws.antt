@@ -1,7 +1,7 @@
 -- The trial of the moves of a state, one after the other: what is left of it at a byte, and what it comes to by what
 -- the walk below finds.
 -- Assumes nothing.
-use Rattle.std.specs.Prelude.{◌≡◌, refl, true, false, set}
+use Rattle.std.specs.Prelude.{◌≡◌, refl, set}
 use Rattle.std.proofs.Common.{sym, ◌∙◌, add-one, take-suc-set, length-take-le, take-take, take_at}
 use Rattle.std.proofs.Math.Path.{ap, subst}
 use Prim.Native.Nat.{ℕ, suc, ◌+◌, ◌-◌, ◌≤◌, ◌<◌}
@@ -10,16 +10,17 @@ use native.Mathlib.Omega.{arith}
 use mathlib.Core.List.{List, [], ◌∷◌, ◌++◌, append_assoc}
 use Rattle.std.proofs.Math.Option.{Option, none, some}
 use Rattle.std.proofs.Math.ListN.{length, take}
-use Rattle.notation.specs.Laws.TestLaws.{not_both}
 use Rattle.timing.specs.Accepted.{Accepted}
 use Rattle.timing.specs.Code.IsAccepted.{IsAccepted}
 use Rattle.order.specs.Code.Invariant.{Invariant}
 use Rattle.order.specs.Orders.{step}
 use Rattle.order.specs.States.{State}
 use Rattle.walk.proofs.Laws.ByteLaws.{steps_from, moves_steps, steps_skip, steps_some}
+use Rattle.machine.specs.declared.End.{End}
 use Rattle.walk_trials.specs.declared.Outcome.{Outcome}
+use Rattle.walk_trials.specs.declared.Outcome.TheVariants.{Stopped, Held, Found}
 use Rattle.walk.specs.Moves.{Move, moves}
-use Rattle.walk_trials.specs.Code.Trials.{Path, WalkEndsAs, Came, Held, Stopped}
+use Rattle.walk_trials.specs.Code.Trials.{Path, WalkEndsAs, Came}
 use Rattle.walk.specs.Code.FromState.{walk_from, trial}
 use Rattle.walk.specs.Walks.{EndedOrder, Walked, starting, after_move}
 
@@ -122,7 +123,7 @@ module _ {a : Accepted} {s : State} {left count made allowance byte : ℕ} (few 
   whole = trial (walk_from a left) (moves a s)
 
   -- no byte is left
-  pub trial_ends : 128 ≤ byte → {r : Outcome} → Held made r → Came whole count allowance (511 - left) before now r
+  pub trial_ends : 128 ≤ byte → {r : Outcome} → r ≡ Held made → Came whole count allowance (511 - left) before now r
   unfolding trial steps_from
   trial_ends past {r} is =
       let none_left : 128 - byte ≡ 0 = omega arith in
@@ -131,12 +132,10 @@ module _ {a : Accepted} {s : State} {left count made allowance byte : ℕ} (few 
       record {
         kept = path.kept;
         cut = λ over. absurd (omega arith);
-        whole = λ fits. (
-          is.1,
-          subst
-              (λ (o : Option EndedOrder). WalkEndsAs o (count + whole.count) (511 - left) now r) (sym nothing)
-              (is.0, omega (arith, is.2)),
-        );
+        whole = λ fits.
+            let all : made ≡ count + whole.count = omega arith in
+            subst (λ (o : Option EndedOrder). WalkEndsAs o (count + whole.count) (511 - left) now r) (sym nothing)
+            (is ∙ ap (λ (n : ℕ). Held n) all);
       }
 
   module _ (lt : byte < 128) {after : State} (steps : step a s byte ≡ some after) where
@@ -154,11 +153,11 @@ module _ {a : Accepted} {s : State} {left count made allowance byte : ℕ} (few 
     counts = move_counts byte below others below.failing refl
 
     -- the allowance is spent
-    pub trial_stops : allowance ≤ made → {r : Outcome} → Stopped made r
+    pub trial_stops : allowance ≤ made → {r : Outcome} → r ≡ Stopped
         → Came whole count allowance (511 - left) before now r
     trial_stops spent is = record {
       kept = path.kept;
-      cut = λ over. (is.1, is.0);
+      cut = λ over. is;
       whole = λ fits. absurd (omega (arith, here.1, counts));
     }
 
@@ -172,44 +171,51 @@ module _ {a : Accepted} {s : State} {left count made allowance byte : ℕ} (few 
 
       -- the order found below goes on from the byte
       found_on : (o : Option EndedOrder) → below.failing ≡ o → made + 1 + below.count ≤ allowance
-          → WalkEndsAs o (made + 1 + below.count) (512 - left) out r → r.found ≡ true
+          → WalkEndsAs o (made + 1 + below.count) (512 - left) out r → {n l : ℕ} {end : End} → r ≡ Found n l end
           → (count + whole.count ≡ made + 1 + below.count) × WalkEndsAs whole.failing (count + whole.count)
           (511 - left) out r
       unfolding starting
-      found_on none e fits ends found = absurd (not_both _ found ends.0)
+      found_on none e fits ends {n} {l} {end} found =
+          let clash : Held (made + 1 + below.count) ≡ Found n l end = sym ends ∙ found in cc
       found_on (some f) e fits ends found =
           let moved = move_fails byte below others e in
           let total : count + whole.count ≡ made + 1 + below.count = omega (arith, here.1, moved.1) in
           let longer : (512 - left) + length f.bytes ≡ (511 - left) + suc (length f.bytes) = omega arith in
           let shown : take ((511 - left) + suc (length f.bytes)) out ≡ take (511 - left) out ++ (byte ∷ f.bytes) =
-          ap (λ (n : ℕ). take n out) (sym longer) ∙ ends.3 ∙ ap (λ (n : ℕ). take n out ++ f.bytes) (place left few)
+          ap (λ (n : ℕ). take n out) (sym longer) ∙ ends.1 ∙ ap (λ (n : ℕ). take n out ++ f.bytes) (place left few)
           ∙ ap (λ (xs : List ℕ). xs ++ f.bytes)
           (path_on left byte few room path child_path ∙ ap (λ (xs : List ℕ). xs ++ (byte ∷ []))
           (sym (path_front left byte few room path child_path)))
           ∙ append_assoc (take (511 - left) out) (byte ∷ []) f.bytes in (
             total,
             subst (λ (o : Option EndedOrder). WalkEndsAs o (count + whole.count) (511 - left) out r) (sym (here.0 ∙ moved.0))
-                (ends.0, omega (arith, ends.1), omega (arith, ends.2), shown, ends.4, ends.5),
+                (ends.0 ∙ (λ t. Found (sym total t) (longer t) f.ending), shown),
           )
 
-      pub trial_finds : r.found ≡ true → Came whole count allowance (511 - left) before out r
-      trial_finds found =
+      pub trial_finds : {n l : ℕ} {end : End} → r ≡ Found n l end → Came whole count allowance (511 - left) before out r
+      trial_finds {n} {l} {end} found =
           elim (dec_le (made + 1 + below.count) allowance) [
             | yes fits ↦
                 let ended = child.whole fits in
-                let on = found_on below.failing refl fits ended.1 found in
+                let on = found_on below.failing refl fits ended found in
                 record {
                   kept = onward.kept;
                   cut = λ over. absurd (omega (arith, on.0));
-                  whole = λ within-it. (ended.0, on.1);
+                  whole = λ within-it. on.1;
                 }
-            | no over ↦ absurd (not_both _ found (child.cut (omega arith)).1)
+            | no over ↦ let clash : Stopped ≡ Found n l end = sym (child.cut (omega arith)) ∙ found in cc
           ]
 
-      pub trial_cut : r.stopped ≡ true → Came whole count allowance (511 - left) before out r
+      -- a walk that the allowance sufficed for was not stopped
+      ends_whole : (o : Option EndedOrder) (total at : ℕ) → WalkEndsAs o total at out r → r ≡ Stopped → ⊥
+      ends_whole none total at ends stopped = let clash : Held total ≡ Stopped = sym ends ∙ stopped in cc
+      ends_whole (some f) total at ends stopped =
+          let clash : Found total (at + length f.bytes) f.ending ≡ Stopped = sym ends.0 ∙ stopped in cc
+
+      pub trial_cut : r ≡ Stopped → Came whole count allowance (511 - left) before out r
       trial_cut stopped =
           elim (dec_le (made + 1 + below.count) allowance) [
-            | yes fits ↦ absurd (not_both _ stopped (child.whole fits).0)
+            | yes fits ↦ absurd (ends_whole below.failing _ _ (child.whole fits) stopped)
             | no over ↦
                 record {
                   kept = onward.kept;
@@ -219,17 +225,21 @@ module _ {a : Accepted} {s : State} {left count made allowance byte : ℕ} (few 
           ]
 
       held_on : (o : Option EndedOrder) → below.failing ≡ o → made + 1 + below.count ≤ allowance
-          → WalkEndsAs o (made + 1 + below.count) (512 - left) out r → r.found ≡ false
-          → Rest a s left count r.count (byte + 1)
-      held_on none e fits ends lost =
+          → WalkEndsAs o (made + 1 + below.count) (512 - left) out r → {n : ℕ} → r ≡ Held n
+          → Rest a s left count n (byte + 1)
+      held_on none e fits ends {n} held =
           let moved = move_holds byte below others e in
-          record { failing = here.0 ∙ moved.0; total = omega (arith, here.1, moved.1, ends.1) }
-      held_on (some f) e fits ends lost = absurd (not_both _ ends.0 lost)
+          let same : Held n ≡ Held (made + 1 + below.count) = sym held ∙ ends in
+          let all : n ≡ made + 1 + below.count = cc in
+          record { failing = here.0 ∙ moved.0; total = omega (arith, here.1, moved.1, all) }
+      held_on (some f) e fits ends {n} held =
+          let clash : Held n ≡ Found (made + 1 + below.count) ((512 - left) + length f.bytes) f.ending =
+          sym held ∙ ends.0 in cc
 
       -- nothing failed below: the moves after it are left
-      pub trial_on : r.found ≡ false → r.stopped ≡ false → Rest a s left count r.count (byte + 1)
-      trial_on lost going =
+      pub trial_on : {n : ℕ} → r ≡ Held n → Rest a s left count n (byte + 1)
+      trial_on {n} held =
           elim (dec_le (made + 1 + below.count) allowance) [
-            | yes fits ↦ held_on below.failing refl fits (child.whole fits).1 lost
-            | no over ↦ absurd (not_both _ (child.cut (omega arith)).0 going)
+            | yes fits ↦ held_on below.failing refl fits (child.whole fits) held
+            | no over ↦ let clash : Stopped ≡ Held n = sym (child.cut (omega arith)) ∙ held in cc
           ]

@@ -1,6 +1,6 @@
 -- The trial as it goes over the bytes of a snapshot: how it starts, goes on, stops and ends.
 -- Assumes nothing.
-use Rattle.std.specs.Prelude.{◌≡◌, refl, ℕ, ◌+◌, ◌-◌, ◌≤◌, ◌<◌, true, false, List, length, set}
+use Rattle.std.specs.Prelude.{◌≡◌, refl, ℕ, ◌+◌, ◌-◌, ◌≤◌, ◌<◌, true, List, length, set}
 use Rattle.std.proofs.Math.Option.{some}
 use Rattle.taskfile.specs.declared.Ceilings.{Ceilings}
 use Rattle.timing.specs.Accepted.{Accepted}
@@ -13,9 +13,11 @@ use Rattle.order_states.proofs.Laws.SnapshotLaws.{step_agreed}
 use Rattle.order_states.specs.Code.SnapshotSteps.{step_in}
 use Rattle.order.specs.States.{State}
 use Rattle.order.proofs.Laws.StepLaws.{step_keeps}
+use Rattle.machine.specs.declared.End.{End}
 use Rattle.walk_trials.specs.declared.Outcome.{Outcome}
+use Rattle.walk_trials.specs.declared.Outcome.TheVariants.{Stopped, Held, Found}
 use Rattle.walk_trials.specs.Laws.TrialLaws.{Rest, rest_all, rest_skip, trial_ends, trial_stops, trial_finds, trial_cut, trial_on}
-use Rattle.walk_trials.specs.Code.Trials.{Path, Came, Held, Stopped, Left, WalksAs, TriesAs}
+use Rattle.walk_trials.specs.Code.Trials.{Path, Came, Left, WalksAs, TriesAs}
 use Rattle.walk_moves.specs.Code.MoveParts.{NoStep}
 use Rattle.walk.specs.Code.FromState.{walk_from}
 
@@ -27,6 +29,12 @@ pub record Trying (program waits : List ℕ) (locks : Ceilings) (p : Snapshot) (
   pub path : Path (511 - left) before now
   pub rest : (a : Accepted) (s : State) → IsAccepted a → Lends a program waits locks → Invariant a s → Shows a p s
       → Rest a s left count made byte
+
+-- and the byte, if there is one, is a step
+abbrev pub TryingAt : List ℕ → List ℕ → Ceilings → Snapshot → ℕ → ℕ → ℕ → ℕ → List ℕ → List ℕ → ℕ → Type 0
+TryingAt program waits locks p left count made allowance before now byte =
+    Trying program waits locks p left count made allowance byte before now
+    × (byte < 128 → (step_in program waits locks p byte).allowed ≡ true)
 
 module _ {program waits : List ℕ} {locks : Ceilings} {p : Snapshot} {left count allowance : ℕ} where
   -- it starts at the first byte
@@ -55,7 +63,7 @@ module _ {program waits : List ℕ} {locks : Ceilings} {p : Snapshot} {left coun
   module _ {made byte : ℕ} {before now : List ℕ} (few : left < 512)
       (trying : Trying program waits locks p left count made allowance byte before now) where
     -- it ends where no byte is left
-    pub trying_ends : 128 ≤ byte → {r : Outcome} → Held made r
+    pub trying_ends : 128 ≤ byte → {r : Outcome} → r ≡ Held made
         → TriesAs program waits locks p left count allowance before now r
     trying_ends past is a s ok lends inv shows =
         trial_ends few trying.within (trying.rest a s ok lends inv shows) trying.path past is
@@ -72,7 +80,7 @@ module _ {program waits : List ℕ} {locks : Ceilings} {p : Snapshot} {left coun
       moved a s ok lends inv shows = (step_agreed ok lends inv shows byte).0 allowed
 
       -- it stops where the allowance is spent
-      pub trying_stops : allowance ≤ made → {r : Outcome} → Stopped made r
+      pub trying_stops : allowance ≤ made → {r : Outcome} → r ≡ Stopped
           → TriesAs program waits locks p left count allowance before now r
       trying_stops spent is a s ok lends inv shows =
           trial_stops few trying.within (trying.rest a s ok lends inv shows) trying.path lt
@@ -91,25 +99,25 @@ module _ {program waits : List ℕ} {locks : Ceilings} {p : Snapshot} {left coun
             child a to.0 ok lends (step_keeps ok inv byte to.1) to.2
 
         -- it ends with the order found below
-        pub trying_finds : r.found ≡ true → TriesAs program waits locks p left count allowance before out r
+        pub trying_finds : {n l : ℕ} {end : End} → r ≡ Found n l end → TriesAs program waits locks p left count allowance before out r
         trying_finds found a s ok lends inv shows =
             trial_finds few trying.within (trying.rest a s ok lends inv shows) trying.path lt
             (moved a s ok lends inv shows).1 room (below_came a s ok lends inv shows) found
 
         -- it stops where the walk below did
-        pub trying_cut : r.stopped ≡ true → TriesAs program waits locks p left count allowance before out r
+        pub trying_cut : r ≡ Stopped → TriesAs program waits locks p left count allowance before out r
         trying_cut stopped a s ok lends inv shows =
             trial_cut few trying.within (trying.rest a s ok lends inv shows) trying.path lt
             (moved a s ok lends inv shows).1 room (below_came a s ok lends inv shows) stopped
 
         -- else it goes on at the next byte
-        pub trying_on : r.found ≡ false → r.stopped ≡ false → Left (511 - left) allowance before out r
-            → Trying program waits locks p left count r.count allowance (byte + 1) before out
-        trying_on lost going leaves = record {
+        pub trying_on : {n : ℕ} → r ≡ Held n → Left (511 - left) allowance before out n
+            → Trying program waits locks p left count n allowance (byte + 1) before out
+        trying_on held leaves = record {
           within = leaves.1;
           same = leaves.0;
           path = leaves.2;
           rest = λ a s ok lends inv shows.
               trial_on few trying.within (trying.rest a s ok lends inv shows) trying.path lt
-              (moved a s ok lends inv shows).1 room (below_came a s ok lends inv shows) lost going;
+              (moved a s ok lends inv shows).1 room (below_came a s ok lends inv shows) held;
         }

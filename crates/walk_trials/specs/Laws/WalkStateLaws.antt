@@ -4,11 +4,8 @@
 use Rattle.std.specs.Prelude.{◌≡◌, refl, ◌⊎◌, ℕ, suc, ◌+◌, ◌-◌, ◌≤◌, true, false, List, [], ◌++◌, take}
 use Rattle.std.proofs.Common.{sym, ap, subst, ◌∙◌, arith, append-nil}
 use Rattle.std.proofs.Math.Logic.{inl, inr}
-use Rattle.std.proofs.Math.Decide.{dec_lt}
 use Rattle.std.proofs.Math.Option.{Option, none, some}
-use borrow.Author.Tests.{lt-ltb, le-ltb}
 use Rattle.taskfile.specs.declared.Ceilings.{Ceilings}
-use Rattle.std.specs.Prelude.{if◌then◌else◌}
 use Rattle.notation.specs.Lists.{any}
 use Rattle.notation.specs.Laws.TestLaws.{test_decided}
 use Rattle.order_states.specs.Code.Snapshots.{Snapshot}
@@ -18,71 +15,71 @@ use Rattle.order_states.specs.Code.SnapshotSteps.{finished_in}
 use Rattle.order.specs.States.{State}
 use Rattle.walk.proofs.Laws.CaseLaws.{walk_end, walk_cut, walk_on}
 use Rattle.walk_trials.specs.declared.Outcome.{Outcome}
+use Rattle.walk_trials.specs.declared.Outcome.TheVariants.{Stopped, Held, Found}
+use Rattle.walk_trials.specs.declared.Trial as trying
+use Rattle.walk_trials.specs.declared.Trial.{Trial}
 use Rattle.walk.specs.Moves.{moves}
-use Rattle.walk_trials.specs.Code.Outcomes.{none_failed, ended_at, outcome_of}
-use Rattle.walk_trials.specs.Code.Trials.{WalkEndsAs, Came, Held, Stopped, WalksAs, TriesAs}
+use Rattle.walk_trials.specs.Code.Outcomes.{end_in, ended_at, outcome_of}
+use Rattle.walk_trials.specs.Code.Trials.{WalkEndsAs, Came, WalksAs, TriesAs}
 use Rattle.walk.specs.Code.FromState.{walk_from, trial}
 use Rattle.walk.specs.Walks.{EndedOrder, Walked, fails, at_end}
 
--- what the numbers of an answer come to
+-- what the walk comes to whose trial came to this
 module _ (count : ℕ) (p : Snapshot) where
   -- no order failed
-  pub outcome_held : {r : ℕ} → r ≡ none_failed → Held count (outcome_of r count p)
-  unfolding outcome_of
-  outcome_held {r} is = (le-ltb r none_failed (omega arith), le-ltb none_failed r (omega arith), refl)
+  pub outcome_held : {r : Trial} → r ≡ trying.TheVariants.Held → outcome_of r count p ≡ Held count
+  outcome_held is = ap (λ (r : Trial). outcome_of r count p) is
 
   -- the allowance did not suffice
-  pub outcome_stopped : {r : ℕ} → r ≡ none_failed + 1 → Stopped count (outcome_of r count p)
-  unfolding outcome_of
-  outcome_stopped {r} is = (le-ltb r none_failed (omega arith), lt-ltb none_failed r (omega arith), refl)
+  pub outcome_stopped : {r : Trial} → r ≡ trying.TheVariants.Stopped → outcome_of r count p ≡ Stopped
+  outcome_stopped is = ap (λ (r : Trial). outcome_of r count p) is
 
-  -- every other number says that an order was found, or that the allowance did not suffice
-  pub outcome_other : (r : ℕ) → (r ≡ none_failed → ⊥)
-      → ((outcome_of r count p).found ≡ true) ⊎ ((outcome_of r count p).stopped ≡ true)
-  unfolding outcome_of
-  outcome_other r other = elim (dec_lt r none_failed) [
-    | yes lt ↦ inl (lt-ltb r none_failed lt)
-    | no ge ↦ inr (lt-ltb none_failed r (omega arith))
-  ]
+  -- else an order was found, or the allowance did not suffice
+  pub outcome_other : (r : Trial) → (r ≡ trying.TheVariants.Held → ⊥)
+      → ((n : ℕ) × (outcome_of r count p ≡ Found count n (end_in p))) ⊎ (outcome_of r count p ≡ Stopped)
+  outcome_other trying.TheVariants.Held other = absurd (other refl)
+  outcome_other trying.TheVariants.Stopped other = inr refl
+  outcome_other (trying.TheVariants.Found n) other = inl (n, refl)
 
 -- nothing found, and nothing changed
 came_held : (count allowance at : ℕ) (buffer : List ℕ) → count ≤ allowance → (walked : Walked)
-    → walked.failing ≡ none → walked.count ≡ 0 → {r : Outcome} → Held count r
+    → walked.failing ≡ none → walked.count ≡ 0 → {r : Outcome} → r ≡ Held count
     → Came walked count allowance at buffer buffer r
 came_held count allowance at buffer le walked nothing zero-moves {r} is =
     record {
       kept = refl;
       cut = λ over. absurd (omega arith);
-      whole = λ within. (
-        is.1,
-        subst (λ (o : Option EndedOrder). WalkEndsAs o (count + walked.count) at buffer r)
-            (sym nothing) (is.0, omega (arith, is.2)),
-      );
+      whole = λ within.
+          let all : count ≡ count + walked.count = omega arith in
+          subst (λ (o : Option EndedOrder). WalkEndsAs o (count + walked.count) at buffer r) (sym nothing)
+          (is ∙ ap (λ (n : ℕ). Held n) all);
     }
 
 -- a complete order fails if a job has
 ended_came : (p : Snapshot) (s : State) → p.store ≡ s.store → p.failed ≡ s.failed
-    → (count allowance at : ℕ) (buffer : List ℕ) → count ≤ allowance → at ≤ 512
+    → (count allowance at : ℕ) (buffer : List ℕ) → count ≤ allowance
     → Came (at_end s) count allowance at buffer buffer (outcome_of (ended_at p at) count p)
-unfolding ended_at at_end fails order_end outcome_of
-ended_came p s store failed count allowance at buffer le short =
+unfolding ended_at at_end fails order_end
+ended_came p s store failed count allowance at buffer le =
     elim (test_decided (any (λ flag. flag) s.failed)) [
       | inl bad ↦
           let ended : at_end s ≡ record { failing = some (record { bytes = []; ending = order_end s }); count = 0 } = rw bad refl in
-          let is : ended_at p at ≡ at = rw (ap (any (λ flag. flag)) failed ∙ bad) refl in
+          let is : ended_at p at ≡ trying.TheVariants.Found at = rw (ap (any (λ flag. flag)) failed ∙ bad) refl in
           let none_more : at + 0 ≡ at = omega arith in
           let same : take (at + 0) buffer ≡ take at buffer ++ [] = ap (λ (n : ℕ). take n buffer) none_more ∙ sym (append-nil (take at buffer)) in
           subst (λ (w : Walked). Came w count allowance at buffer buffer (outcome_of (ended_at p at) count p)) (sym ended)
-          (subst (λ (r : ℕ). Came (record { failing = some (record { bytes = []; ending = order_end s }); count = 0 })
+          (subst (λ (r : Trial). Came (record { failing = some (record { bytes = []; ending = order_end s }); count = 0 })
           count allowance at buffer buffer (outcome_of r count p)) (sym is)
           (record {
             kept = refl;
             cut = λ over. absurd (omega arith);
-            whole = λ within. (le-ltb none_failed at (omega arith), (lt-ltb at none_failed (omega arith), omega arith, omega arith, same, store, failed));
+            whole = λ within.
+                let all : count ≡ count + 0 = omega arith in
+                ((λ t. Found (all t) (sym none_more t) (record { store = store t; failed = failed t })), same);
           }))
       | inr good ↦
-          let is : ended_at p at ≡ none_failed = rw (ap (any (λ flag. flag)) failed ∙ good) refl in
-          came_held count allowance at buffer le (at_end s) (rw good refl) refl (outcome_held count p is)
+          let is : ended_at p at ≡ trying.TheVariants.Held = rw (ap (any (λ flag. flag)) failed ∙ good) refl in
+          came_held count allowance at buffer le (at_end s) (rw good refl) refl (ap (λ (r : Trial). outcome_of r count p) is)
     ]
 
 module _ {program waits : List ℕ} {locks : Ceilings} {p : Snapshot} (left count allowance : ℕ) (buffer : List ℕ) (le : count ≤ allowance) where
@@ -92,9 +89,9 @@ module _ {program waits : List ℕ} {locks : Ceilings} {p : Snapshot} (left coun
   walk_ended finished a s ok lends inv shows =
       let ended = sym (finished_agreed ok lends inv shows) ∙ finished in
       subst (λ (w : Walked). Came w count allowance (512 - left) buffer buffer (outcome_of (ended_at p (512 - left)) count p)) (sym (walk_end a s left ended))
-      (ended_came p s shows.store shows.failed count allowance (512 - left) buffer le (omega arith))
+      (ended_came p s shows.store shows.failed count allowance (512 - left) buffer le)
 
-  pub walk_none_left : finished_in program p ≡ false → left ≡ 0 → {r : Outcome} → Held count r
+  pub walk_none_left : finished_in program p ≡ false → left ≡ 0 → {r : Outcome} → r ≡ Held count
       → WalksAs program waits locks p left count allowance buffer buffer r
   walk_none_left going empty {r} held a s ok lends inv shows =
       let unended = sym (finished_agreed ok lends inv shows) ∙ going in

@@ -7,9 +7,10 @@ use Rattle.taskfile.specs.declared.TaskEntry.{TaskEntry}
 use Rattle.writer.specs.Claims.{claimed_tasks, claimed_body, claimed_locks}
 use Rattle.writer.specs.Sites.{locks_at}
 use Rattle.writer.specs.Layout.{link_to, instruction_record, body_records, task_record, after_task, task_records}
-use Rattle.writer.specs.Layout.{lock_record, lock_records, header_record, layout, layout_room}
-use Rattle.notation_buffers.specs.Laws.WritingLaws.{appends_none, appends_more, appends_length}
-use Rattle.writer_layout.specs.Laws.RecordBytes.{Lays, lays_same}
+use Rattle.writer.specs.Layout.{lock_record, lock_records, header_record, layout}
+use Rattle.notation_buffers.specs.declared.pages.Page.{Page}
+use Rattle.notation_buffers.specs.Code.Pages.{Puts}
+use Rattle.notation_buffers.specs.Laws.PageLaws.{puts_same, puts_none, puts_more}
 use Rattle.writer_layout.specs.Code.ClaimedParts.{link_at}
 use Rattle.writer_layout.specs.Laws.CountedLaws.{link_from}
 use Rattle.writer_layout.specs.Code.Layouts.{task_part}
@@ -17,41 +18,35 @@ use Rattle.writer_layout.specs.Code.Layouts.{task_part}
 -- ---- a part is written, and the rest is left
 
 -- of the bytes `whole`, those before `rest` were written
-pub record Laying (before : List ℕ) (at : ℕ) (whole now : List ℕ) (next : ℕ) (rest : List ℕ) : Type 0 where
+pub record Laying (before : Page) (whole : List ℕ) (now : Page) (rest : List ℕ) : Type 0 where
   pub done : List ℕ
-  pub is : Lays before at done now next
+  pub is : Puts before done now
   pub joins : done ++ rest ≡ whole
 
-pub laying_whole : (before : List ℕ) (at : ℕ) {whole rest : List ℕ} → rest ≡ whole
-    → Laying before at whole before at rest
-laying_whole before at e = record { done = []; is = appends_none layout_room before at; joins = e }
+pub laying_whole : (page : Page) {whole rest : List ℕ} → rest ≡ whole → Laying page whole page rest
+laying_whole page e = record { done = []; is = puts_none page; joins = e }
 
-pub laying_more : {before : List ℕ} {at : ℕ} {whole now : List ℕ} {next : ℕ} {rest part left after : List ℕ} {n : ℕ}
-    → layout_room ≤ length before → rest ≡ part ++ left → Laying before at whole now next rest → Lays now next part after n
-    → Laying before at whole after n left
-laying_more {part = part} {left} enough split laying more =
+pub laying_more : {before now after : Page} {whole rest part left : List ℕ} → rest ≡ part ++ left
+    → Laying before whole now rest → Puts now part after → Laying before whole after left
+laying_more {part = part} {left} split laying more =
     record {
       done = laying.done ++ part;
-      is = appends_more enough laying.is more;
+      is = puts_more laying.is more;
       joins =
           append_assoc laying.done part left
           ∙ ap (λ (l : List ℕ). laying.done ++ l) (sym split)
           ∙ laying.joins;
     }
 
-pub laying_all : {before : List ℕ} {at : ℕ} {whole now : List ℕ} {next : ℕ} {rest : List ℕ} → rest ≡ []
-    → Laying before at whole now next rest → Lays before at whole now next
+pub laying_all : {before now : Page} {whole rest : List ℕ} → rest ≡ [] → Laying before whole now rest
+    → Puts before whole now
 laying_all none laying =
-    lays_same
+    puts_same
     (sym (append-nil laying.done) ∙ ap (λ (l : List ℕ). laying.done ++ l) (sym none) ∙ laying.joins)
     laying.is
 
-pub laying_length : {before : List ℕ} {at : ℕ} {whole now : List ℕ} {next : ℕ} {rest : List ℕ}
-    → Laying before at whole now next rest → layout_room ≤ length before → length now ≡ length before
-laying_length laying enough = appends_length laying.is enough
-
 -- the link to what comes after part p
-link_after_lem : {A : Type 0} (r p : ℕ) (xs : List A) {count link : ℕ} → count ≡ length xs → link ≡ link_at r (p + 1) count
+pub link_after_lem : {A : Type 0} (r p : ℕ) (xs : List A) {count link : ℕ} → count ≡ length xs → link ≡ link_at r (p + 1) count
     → link ≡ link_to r (drop (suc p) xs)
 link_after_lem r p xs counted is =
     is ∙ ap (link_at r (p + 1)) counted ∙ sym (link_from r (p + 1) xs) ∙ ap (λ (k : ℕ). link_to r (drop k xs)) (add-one p)
@@ -71,46 +66,6 @@ body_linked = record { one = λ r i others. refl; none = λ r. refl }
 pub locks_linked : Linked lock_record lock_records
 unfolding lock_records
 locks_linked = record { one = λ r lock others. refl; none = λ r. refl }
-
--- the records from part p on, where the first part is at index r
-unfoldable pub parts_left : {A : Type 0} → (ℕ → List A → List ℕ) → ℕ → List A → ℕ → List ℕ
-parts_left recordsFrom r parts p = recordsFrom (r + p) (drop p parts)
-
--- none is written yet
-pub parts_whole : {A : Type 0} (recordsFrom : ℕ → List A → List ℕ) (r : ℕ) (parts : List A) (before : List ℕ) (at : ℕ)
-    → Laying before at (recordsFrom r parts) before at (parts_left recordsFrom r parts 0)
-unfolding parts_left
-parts_whole recordsFrom r parts before at =
-    let same : r + 0 ≡ r = omega arith in
-    laying_whole before at (ap (λ (k : ℕ). recordsFrom k parts) same)
-
--- part p is written next
-pub parts_more : {A : Type 0} {record_of : A → ℕ → List ℕ} {recordsFrom : ℕ → List A → List ℕ}
-    → Linked record_of recordsFrom → (r : ℕ) (parts : List A) (p : ℕ) {x : A} {count link : ℕ}
-    {before : List ℕ} {at : ℕ} {whole now : List ℕ} {next : ℕ} {after : List ℕ} {n : ℕ}
-    → layout_room ≤ length before → drop p parts ≡ x ∷ drop (suc p) parts → count ≡ length parts
-    → link ≡ link_at (r + p + 1) (p + 1) count → Laying before at whole now next (parts_left recordsFrom r parts p)
-    → Lays now next (record_of x link) after n → Laying before at whole after n (parts_left recordsFrom r parts (p + 1))
-unfolding parts_left
-parts_more {record_of = record_of} {recordsFrom} linked r parts p {x} {link = link} enough here counted is laying lays =
-    let same : link ≡ link_to (suc (r + p)) (drop (suc p) parts) =
-    link_after_lem (r + p + 1) p parts counted is ∙ ap (λ (k : ℕ). link_to k (drop (suc p) parts)) (add-one (r + p)) in
-    let later : suc (r + p) ≡ r + (p + 1) = omega arith in
-    let split : recordsFrom (r + p) (drop p parts)
-    ≡ record_of x link ++ recordsFrom (r + (p + 1)) (drop (p + 1) parts) =
-    ap (recordsFrom (r + p)) here
-    ∙ linked.one (r + p) x (drop (suc p) parts)
-    ∙ (λ j. record_of x (sym same j) ++ recordsFrom (later j) (drop (sym (add-one p) j) parts)) in
-    laying_more enough split laying lays
-
--- all are written
-pub parts_all : {A : Type 0} {record_of : A → ℕ → List ℕ} {recordsFrom : ℕ → List A → List ℕ}
-    → Linked record_of recordsFrom → (r : ℕ) (parts : List A) (p : ℕ) → length parts ≤ p
-    → {before : List ℕ} {at : ℕ} {whole now : List ℕ} {next : ℕ}
-    → Laying before at whole now next (parts_left recordsFrom r parts p) → Lays before at whole now next
-unfolding parts_left
-parts_all {recordsFrom = recordsFrom} linked r parts p all laying =
-    laying_all (ap (recordsFrom (r + p)) (drop_of_length-le parts all) ∙ linked.none (r + p)) laying
 
 -- ---- the tasks
 
@@ -144,27 +99,25 @@ tasks_left_none tasks r i all = ap (task_records r) (drop_of_length-le tasks all
 
 -- ---- a task's part, and the whole layout
 
-pub task_laid : (e : TaskEntry) (r link : ℕ) {count first : ℕ} {before : List ℕ} {at : ℕ} {mid : List ℕ} {m : ℕ}
-    {after : List ℕ} {n : ℕ} → layout_room ≤ length before → count ≡ length (claimed_body e) → first ≡ link_at (r + 1) 0 count
-    → Lays before at (task_record e link first) mid m → Lays mid m (body_records (r + 1) (claimed_body e)) after n
-    → Lays before at (task_part e r link) after n
+pub task_laid : (e : TaskEntry) (r link : ℕ) {count first : ℕ} {before mid after : Page} → count ≡ length (claimed_body e)
+    → first ≡ link_at (r + 1) 0 count → Puts before (task_record e link first) mid
+    → Puts mid (body_records (r + 1) (claimed_body e)) after → Puts before (task_part e r link) after
 unfolding task_part
-task_laid e r link {count} {first} enough counted linked one two =
+task_laid e r link {count} {first} counted linked one two =
     let body = claimed_body e in
     let same : first ≡ link_to (r + 1) body =
     linked ∙ ap (link_at (r + 1) 0) counted ∙ sym (link_from (r + 1) 0 body) in
-    lays_same
+    puts_same
     (ap (λ (k : ℕ). task_record e link k ++ body_records (r + 1) body) same
-    ∙ ap (λ (k : ℕ). task_record e link (link_to k body) ++ body_records k body) (add-one r)) (appends_more enough one two)
+    ∙ ap (λ (k : ℕ). task_record e link (link_to k body) ++ body_records k body) (add-one r)) (puts_more one two)
 
-pub layout_laid : (t : Table) {index tasks locks task lock : ℕ} {before mid : List ℕ} {m : ℕ} {later : List ℕ} {k : ℕ}
-    {after : List ℕ} {n : ℕ} → layout_room ≤ length before → index ≡ locks_at t
+pub layout_laid : (t : Table) {index tasks locks task lock : ℕ} {before mid later after : Page} → index ≡ locks_at t
     → tasks ≡ length (claimed_tasks t) → locks ≡ length (claimed_locks t)
     → task ≡ link_at 1 0 tasks → lock ≡ link_at index 0 locks
-    → Lays before 0 (header_record t task lock) mid m → Lays mid m (task_records 1 (claimed_tasks t)) later k
-    → Lays later k (lock_records index (claimed_locks t)) after n → Lays before 0 (layout t) after n
+    → Puts before (header_record t task lock) mid → Puts mid (task_records 1 (claimed_tasks t)) later
+    → Puts later (lock_records index (claimed_locks t)) after → Puts before (layout t) after
 unfolding layout
-layout_laid t {index} {tasks} {locks} {task} {lock} enough is many few to-task to-lock one two three =
+layout_laid t {index} {tasks} {locks} {task} {lock} is many few to-task to-lock one two three =
     let first : task ≡ link_to 1 (claimed_tasks t) =
     to-task ∙ ap (link_at 1 0) many ∙ sym (link_from 1 0 (claimed_tasks t)) in
     let second : lock ≡ link_to index (claimed_locks t) =
@@ -173,8 +126,8 @@ layout_laid t {index} {tasks} {locks} {task} {lock} enough is many few to-task t
     let to : ℕ = link_to 1 (claimed_tasks t) in
     let named : header_record t task lock ≡ header_record t to (link_to index (claimed_locks t)) =
     λ j. header_record t (first j) (second j) in
-    lays_same
+    puts_same
     (ap (λ (l : List ℕ). l ++ tasks-part ++ lock_records index (claimed_locks t)) named
     ∙ ap
     (λ (k : ℕ). header_record t to (link_to k (claimed_locks t)) ++ tasks-part ++ lock_records k (claimed_locks t))
-    is) (appends_more enough (appends_more enough one two) three)
+    is) (puts_more (puts_more one two) three)

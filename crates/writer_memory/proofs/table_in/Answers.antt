@@ -1,25 +1,15 @@
--- What `writer_memory::table_in` owes and the search does not find.
-use native.Mathlib.Omega.{arith}
-use Rattle.writer.specs.Memory.{table_in}
-use Rattle.writer_memory.specs.Laws.TabulatedLaws.{tabulated_none, tabulated_more, tabulated_all}
+-- `writer_memory::table_in` meets its contract: each part is the definition's, and each call gives the entry of its task.
+-- Assumes nothing.
+use Rattle.std.specs.Prelude.{ℕ, ◌+◌, ◌*◌, refl}
+use Rattle.std.proofs.Common.{rules}
+use Rattle.taskfile.specs.Tables.{no_task}
+use Rattle.writer.specs.Memory.{entries_at, entry_size, byte_in, entry_in, table_in}
+use Rattle.writer_memory.specs.Laws.TabulatedLaws.{made_of_values}
 use Rattle.writer_memory.proofs.table_in.Goals as goal
 
-pub loop-i-init : goal.loop-i-init
-loop-i-init c = tabulated_none _ 8 _
-
-pub loop-i-preserved : goal.loop-i-preserved
-loop-i-preserved c = tabulated_more _ 8 c.loop-i.invariant (omega arith) c.entry_in.ensures
-
 pub returns : goal.returns
-unfolding table_in
+unfolding byte_in table_in
 returns c =
-    let stored = tabulated_all _ 8 c.loop-i.invariant (omega arith) in
-    λ i. record {
-      window = c.wide_in.ensures i;
-      store = c.eight_in.ensures i;
-      tasks = c.byte_in.ensures i;
-      entries = stored i;
-      locks = c.byte_in-2.ensures i;
-      ceilings = c.eight_in-2.ensures i;
-      holdings = c.holdings_in.ensures i;
-    }
+    let entry = λ (i : ℕ). entry_in c.args.memory.now (entries_at + entry_size * i) in
+    let entries = made_of_values _ _ entry (λ i y f' k. search rules) 8 no_task c.from_fn.ensures.items in
+    rw (c.wide_in.ensures, c.bytes_at.ensures, entries, c.bytes_at-2.ensures, c.holdings_in.ensures) refl

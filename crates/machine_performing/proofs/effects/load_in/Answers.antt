@@ -7,4 +7,4 @@ use Rattle.machine_performing.proofs.effects.load_in.Goals as goal
 pub returns : goal.returns
 unfolding load_variable
 returns c =
-    record { failed = refl; made = rw c.variable_in-x.ensures at c.take_register.ensures }
+    record { failed = refl; made = rw c.variable_in.ensures at c.take_register.ensures }

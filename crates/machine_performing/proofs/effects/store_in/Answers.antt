@@ -14,4 +14,4 @@ unfolding store
 returns c =
     let stored = store_performed _ c.put_variable.ensures in
     let made = performed_then stored (skipping 0) c.go_on.ensures in
-    record { failed = refl; made = rw c.register_in-x.ensures at made }
+    record { failed = refl; made = rw c.register_in.ensures at made }

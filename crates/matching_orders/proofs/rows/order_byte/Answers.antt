@@ -1,21 +1,14 @@
--- `matching_orders::rows::order_byte` meets its contract. Assumes nothing.
-use mathlib.Core.Path.{sym}
-use native.Mathlib.Omega.{arith}
-use Rattle.matching_orders.specs.Laws.RowLaws.{byte_no_task, byte_no_value, byte_small}
+-- The byte of a task and a value that are both below 16, or 0.
+-- Assumes nothing.
+use Rattle.std.proofs.Common.{arith}
+use Rattle.std.proofs.lemmas.Bool.Decides.{nat_tests}
+use Rattle.matching_orders.specs.Code.Rows.{written_byte}
 use Rattle.matching_orders.proofs.rows.order_byte.Goals as goal
-use Rattle.matching_orders.proofs.rows.order_byte.Goals.{then-task-ge-VALUES-via-then-task-ge-VALUES}
-use Rattle.matching_orders.proofs.rows.order_byte.Goals.{then-task-ge-VALUES-via-else-task-ge-VALUES+then-value-ge-VALUES}
 
-pub returns-then-task-ge-VALUES : goal.returns-then-task-ge-VALUES
-returns-then-task-ge-VALUES c =
-    elim c.then-task-ge-VALUES.branch [
-      | then-task-ge-VALUES-via-then-task-ge-VALUES w ↦ sym (byte_no_task _ _ w.if-task-ge-VALUES.true)
-      | then-task-ge-VALUES-via-else-task-ge-VALUES+then-value-ge-VALUES w ↦
-          sym (byte_no_value _ _ w.if-value-ge-VALUES.true)
-    ]
+pub returns-then-value-lt-VALUES : goal.returns-then-value-lt-VALUES
+unfolding written_byte
+returns-then-value-lt-VALUES c = grind (arith, nat_tests)
 
-pub overflow_add-result : goal.overflow_add-result
-overflow_add-result c = omega (arith, c.if-value-ge-VALUES.false)
-
-pub returns : goal.returns
-returns c = sym (byte_small _ _ c.if-task-ge-VALUES.false c.if-value-ge-VALUES.false)
+pub returns-else-task-lt-VALUES : goal.returns-else-task-lt-VALUES
+unfolding written_byte
+returns-else-task-lt-VALUES c = grind (arith, nat_tests)

@@ -1,20 +1,18 @@
 -- What `order_lending::first::first_unended` owes and the search does not find.
-use mathlib.Core.Path.{refl}
-use native.Mathlib.Omega.{arith}
+use Rattle.std.proofs.Common.{◌≡◌, ◌∙◌, arith}
 use Rattle.order_states.proofs.Laws.ReplayLoopLaws.{first_found, first_later, first_missing}
 use Rattle.order_states.specs.Code.SnapshotSteps.{owner_in}
 use Rattle.order_lending.proofs.first.first_unended.Goals as goal
 
-pub loop-x-init : goal.loop-x-init
-loop-x-init c = (omega arith, refl)
-
-pub returns-then-i-owner : goal.returns-then-i-owner
+pub returns-then-i-program : goal.returns-then-i-program
 unfolding owner_in
-returns-then-i-owner c = first_found _ _ _ c.loop-x.invariant.1 c.loop-x-test.true c.if-i-owner.true
+returns-then-i-program c = first_found _ _ _ c.loop-x.invariant c.loop-x-test.true c.if-i-program.true
 
 pub loop-x-preserved : goal.loop-x-preserved
 unfolding owner_in
-loop-x-preserved c = (omega arith, first_later _ _ _ c.loop-x.invariant.1 c.loop-x-test.true c.if-i-owner.false)
+loop-x-preserved c = first_later _ _ _ c.loop-x.invariant c.loop-x-test.true c.if-i-program.false
 
 pub returns : goal.returns
-returns c = first_missing _ _ _ c.loop-x.invariant.1 c.loop-x-test.false
+returns c =
+    let last : 32 ≡ c.loop-x.x = omega arith in
+    last ∙ first_missing _ _ _ c.loop-x.invariant c.loop-x-test.false

@@ -1,13 +1,10 @@
 -- `order_lending::first::first_unended` meets its contract. The loop's invariant: the first job looked for is the first
--- from x on. The measure is the number of jobs left.
+-- from x on.
 -- Assumes nothing.
 use mathlib.Core.Path.{◌≡◌}
-use Prim.Native.Nat.{◌≤◌, ◌-◌}
+use Prim.Native.Nat.{◌-◌}
 use Rattle.order_states.specs.Code.SnapshotSteps.{first_from}
 use Rattle.order_lending.proofs.first.first_unended.Given as goal
 
 abbrev pub invariant-loop-x : goal.invariant-loop-x
-invariant-loop-x l = (l.x ≤ 32) × (first_from l.program l.i.0 0 32 ≡ first_from l.program l.i.0 l.x (32 - l.x))
-
-abbrev pub decreases-loop-x : goal.decreases-loop-x
-decreases-loop-x l = 32 - l.x
+invariant-loop-x l = first_from l.program l.i.0 0 32 ≡ first_from l.program l.i.0 l.x (32 - l.x)

@@ -1,35 +1,13 @@
--- `order_replay::entries::replay` meets its contract: the answer of a refused file, of an order at fault, and of a complete
--- order.
+-- `order_replay::entries::replay` meets its contract: its answer is that of what the order comes to.
 -- Assumes nothing.
-use mathlib.Core.Path.{◌∙◌}
-use native.Mathlib.Omega.{arith}
-use Rattle.order_states.proofs.Laws.ReplayEntryLaws.{entry_refused, answers_place, answers_fault, answers_ended}
-use Rattle.order_lending.specs.Laws.LendLaws.{parts_lent}
+use Rattle.std.proofs.Common.{ap, ◌∙◌}
+use Rattle.notation.specs.Checked.{Checked}
+use Rattle.machine.specs.declared.End.{End}
+use Rattle.machine.specs.Buffers.{run_answer, unwritten}
+use Rattle.order.specs.Replay.{replay_answer}
 use Rattle.order_replay.proofs.entries.replay.Goals as goal
-
-pub returns-in-Refused : goal.returns-in-Refused
-returns-in-Refused c =
-    c.refused_run.ensures
-    ∙ entry_refused _ _ c.accept_file-accepted.ensures _ c.in-Refused.is
-
-pub replay_table-r-requires : goal.replay_table-r-requires
-replay_table-r-requires c = parts_lent _ _ c.accept_file-accepted.ensures c.in_default.is
-
-pub overflow_cast-r : goal.overflow_cast-r
-overflow_cast-r c =
-    omega (
-      arith,
-      answers_place _ _ c.accept_file-accepted.ensures
-          c.in_default.is _ _ c.replay_table-r.ensures c.if-r-ne0.true,
-    )
-
-pub returns-then-r-ne0 : goal.returns-then-r-ne0
-returns-then-r-ne0 c =
-    c.refused_run-then-r-ne0.ensures
-    ∙ answers_fault _ _ c.accept_file-accepted.ensures c.in_default.is _ _
-    c.replay_table-r.ensures c.if-r-ne0.true
+use Prim.Native.Nat.{ℕ}
 
 pub returns : goal.returns
-returns c =
-    c.ended_run.ensures
-    ∙ answers_ended _ _ c.accept_file-accepted.ensures c.in_default.is _ _ c.replay_table-r.ensures c.if-r-ne0.false
+unfolding replay_answer
+returns c = c.ended_answer.ensures ∙ ap (λ (k : Checked ℕ End). run_answer (unwritten k)) c.replay_file.ensures

@@ -4,9 +4,5 @@
 use Rattle.order_replay.specs.Laws.ReplayTableLaws.{replay_lent}
 use Rattle.order_replay.proofs.entries.replay_table.Goals as goal
 
-pub replay_from-requires : goal.replay_from-requires
-replay_from-requires c =
-    let lent = c.lend-l.ensures in (lent.few, lent.whole)
-
 pub returns : goal.returns
-returns c = replay_lent _ c.lend-l.ensures c.replay_from.ensures
+returns c = replay_lent _ _ c.lend-lent.ensures c.replay_from.ensures

@@ -1,4 +1,4 @@
--- `order_replay::replaying::slip` meets its contract: each number is one case of the definition.
+-- `order_replay::replaying::slip` meets its contract: each refusal is one case of the definition.
 -- Assumes nothing.
 use Rattle.order_replay.specs.Laws.SlipNumbers.{slip_outside, slip_unturned, slip_unoffered}
 use Rattle.order_replay.proofs.replaying.slip.Goals as goal
@@ -6,10 +6,8 @@ use Rattle.order_replay.proofs.replaying.slip.Goals as goal
 pub returns-then-tasks-i : goal.returns-then-tasks-i
 returns-then-tasks-i c = slip_outside _ _ _ _ _ _ c.if-tasks-i.true
 
-pub returns-then-not-d : goal.returns-then-not-d
-returns-then-not-d c =
-    slip_unturned _ _ _ _ _ _ c.if-tasks-i.false c.turn_of-d.ensures.turn c.if-not-d.true
+pub returns-in-None : goal.returns-in-None
+returns-in-None c = slip_unturned _ _ _ _ _ _ c.if-tasks-i.false c.in-None.ensures.turn
 
-pub returns : goal.returns
-returns c =
-    slip_unoffered _ _ _ _ _ _ c.if-tasks-i.false c.turn_of-d.ensures.turn c.if-not-d.false
+pub returns-in-Some : goal.returns-in-Some
+returns-in-Some c = slip_unoffered _ _ _ _ _ _ c.if-tasks-i.false c.in-Some.ensures.turn

@@ -1,20 +1,27 @@
--- `order_turns::programs::may_preempt` meets its contract: each return is one case of the definition's test.
+-- `order_turns::programs::may_preempt` meets its contract: each end of the test is one case of the definition's.
 -- Assumes nothing.
-use mathlib.Core.Path.{sym}
+use Rattle.std.proofs.Common.{sym, ◌∙◌}
 use borrow.Author.Tests.{lt-ltb, le-ltb}
-use Rattle.notation.specs.Laws.TestLaws.{and_holds, and_first, and_second}
+use Rattle.notation.specs.Laws.TestLaws.{and_first, and_second}
 use Rattle.order_states.specs.Code.SnapshotSteps.{owner_in, arrival_in, latest_in, preempts_in}
-use Rattle.order_states.proofs.Laws.ShowLaws.{preempts_early}
 use Rattle.order_turns.proofs.programs.may_preempt.Goals as goal
+use Rattle.order_turns.proofs.programs.may_preempt.Goals.{then-program-lower, else-program-lower}
 
-pub returns-then-program-upper : goal.returns-then-program-upper
-unfolding preempts_in owner_in
-returns-then-program-upper c = sym (and_first _ _ (and_first _ _ (le-ltb _ _ c.if-program-upper.true)))
-
-pub returns-then-arrival-times : goal.returns-then-arrival-times
-unfolding arrival_in
-returns-then-arrival-times c = sym (preempts_early _ _ _ _ c.if-arrival-times.true)
-
-pub returns : goal.returns
+pub returns-then-times-lower : goal.returns-then-times-lower
 unfolding preempts_in owner_in arrival_in latest_in
-returns c = sym (and_second _ _ (and_holds _ _ (lt-ltb _ _ c.if-program-upper.false) (lt-ltb _ _ c.if-arrival-times.false)))
+returns-then-times-lower c = elim c.if-program-lower.branch [
+  | then-program-lower w ↦
+      sym (and_second _ _ (and_second _ _ (lt-ltb _ _ w.if-program-lower.true) ∙ sym w.value-is ∙ c.if-times-lower.true))
+  | else-program-lower w ↦
+      sym (and_second _ _
+      (and_first _ _ (le-ltb _ _ w.if-program-lower.false) ∙ sym (le-ltb _ _ w.if-program-lower.false)
+      ∙ sym w.value-is ∙ c.if-times-lower.true))
+]
+
+pub returns-else-times-lower : goal.returns-else-times-lower
+unfolding preempts_in owner_in arrival_in latest_in
+returns-else-times-lower c = c.if-times-lower.false ∙ elim c.if-program-lower.branch [
+  | then-program-lower w ↦
+      sym (and_first _ _ (and_second _ _ (lt-ltb _ _ w.if-program-lower.true) ∙ sym w.value-is ∙ c.if-times-lower.false))
+  | else-program-lower w ↦ sym (and_first _ _ (and_first _ _ (le-ltb _ _ w.if-program-lower.false)))
+]

@@ -7,12 +7,12 @@ use Rattle.order_turns.proofs.turns.top_turn.Goals as goal
 
 pub overflow_sub-top : goal.overflow_sub-top
 unfolding snapshot_in
-overflow_sub-top c = c.requires.1
+overflow_sub-top c = c.requires
 
 pub frame_at-requires : goal.frame_at-requires
 unfolding snapshot_in
-frame_at-requires c = omega (arith, c.requires.0.few, c.requires.1)
+frame_at-requires c = omega (arith, c.args.s.now.whole.few, c.requires)
 
 pub returns : goal.returns
 unfolding snapshot_in
-returns c = top_turn_read _ c.requires.0 c.requires.1 c.frame_at.ensures
+returns c = top_turn_read _ c.args.s.now.whole c.requires c.frame_at.ensures

@@ -1,8 +1,11 @@
 -- `plan_check::legality::guess_of` meets its contract: the eight bytes read are the guess.
 -- Assumes nothing.
-use Rattle.plan_check.specs.Laws.GuessLaws.{guess_read}
+use native.Mathlib.Omega.{arith}
+use Rattle.std.proofs.Common.{◌∙◌}
+use Rattle.plan.specs.Runs.{guess}
+use Rattle.plan_marks.specs.Laws.StoreLaws.{bytes_at_part}
 use Rattle.plan_check.proofs.legality.guess_of.Goals as goal
 
 pub returns : goal.returns
-returns c =
-    guess_read _ c.args.r c.requires.1
+unfolding guess
+returns c = c.bytes_at.ensures ∙ rw c.from.ensures (bytes_at_part _ _ _ (omega arith))

@@ -1,14 +1,13 @@
--- What `plan_marks::rounds::put_store` owes and the search does not find.
+-- `plan_marks::rounds::put_store` meets its contract: eight bytes from the store's place on are those of the store.
+-- Assumes nothing.
 use native.Mathlib.Omega.{arith}
-use Rattle.plan_marks.specs.Laws.RoundLaws.{putting_none, putting_more, putting_all}
+use Rattle.std.proofs.Common.{◌*◌}
+use Rattle.std.proofs.lemmas.Slice.{put_mid-paste}
+use Rattle.plan_marks.specs.Code.Marks.{with_store}
 use Rattle.plan_marks.proofs.rounds.put_store.Goals as goal
 
-pub loop-v-init : goal.loop-v-init
-loop-v-init c = putting_none _ _ _
-
-pub loop-v-preserved : goal.loop-v-preserved
-loop-v-preserved c =
-    putting_more _ _ c.args.store _ _ c.loop-v.invariant (omega arith) (omega arith) (omega arith)
-
 pub returns : goal.returns
-returns c = putting_all _ _ _ _ _ c.loop-v.invariant (omega arith)
+unfolding with_store
+returns c =
+    rw c.from-at.ensures
+    (put_mid-paste (8 * c.args.r.0) _ c.args.stores.now _ c.args.store 8 c.copy_from_slice.ensures.after (omega arith) (omega arith))

@@ -1,7 +1,10 @@
 -- `plan_marks::rounds::store_of` meets its contract.
 -- Assumes nothing.
-use Rattle.plan_marks.specs.Laws.RoundLaws.{store_read}
+use Rattle.std.proofs.Common.{◌∙◌}
+use mathlib.Core.Path.{refl}
+use Rattle.plan_marks.specs.Code.Marks.{store_at}
 use Rattle.plan_marks.proofs.rounds.store_of.Goals as goal
 
 pub returns : goal.returns
-returns c = store_read _ _
+unfolding store_at
+returns c = c.bytes_at.ensures ∙ rw c.from.ensures refl

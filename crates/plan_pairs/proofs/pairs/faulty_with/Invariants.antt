@@ -1,13 +1,11 @@
--- `plan_pairs::pairs::faulty_with` meets its contract. The loop's invariant: some pair of x has the fault if one with a job from y
--- on has. The measure is the number of jobs left.
+-- `plan_pairs::pairs::faulty_with` meets its contract. The loop's invariant: by any test that the function judges the pairs by, some
+-- pair of x has the fault if one with a job from y on has.
 -- Assumes nothing.
-use Prim.Native.Nat.{suc, ◌-◌}
-use Rattle.plan_marks.specs.Code.PairParts.{pair_faulty}
+use Rattle.std.proofs.Common.{ℕ, suc, Bool}
+use Rattle.plan_marks.specs.Code.PairParts.{JudgesPairs}
 use Rattle.plan_pairs.specs.Laws.PairLaws.{SomeFrom}
 use Rattle.plan_pairs.proofs.pairs.faulty_with.Given as goal
 
 abbrev pub invariant-loop-y : goal.invariant-loop-y
-invariant-loop-y l = SomeFrom (pair_faulty l.number l.program l.times l.marks l.x.0) (suc l.x.0) l.k l.y
-
-abbrev pub decreases-loop-y : goal.decreases-loop-y
-decreases-loop-y l = l.k - l.y
+invariant-loop-y g l =
+    (test : ℕ → ℕ → Bool) → JudgesPairs (goal.F-post g l.faulty) test l.k → SomeFrom (test l.x.number) (suc l.x.number) l.k l.y

@@ -4,20 +4,18 @@ use Rattle.plan_pairs.specs.Laws.PairLaws.{fault_starts, fault_found, fault_late
 use Rattle.plan_pairs.proofs.pairs.pair_fault.Goals as goal
 
 pub loop-x-init : goal.loop-x-init
-loop-x-init c = fault_starts _ _ _ _ _
-
-pub faulty_with-requires : goal.faulty_with-requires
-faulty_with-requires c = (c.requires.0, omega arith, omega arith)
+loop-x-init g c = λ test judged. fault_starts _ _ _
 
 pub returns-then-faulty_with : goal.returns-then-faulty_with
-returns-then-faulty_with c =
-    fault_found _ _ _ _ _ _ c.loop-x.invariant c.loop-x-test.true
-    c.faulty_with.ensures c.if-faulty_with.true
+returns-then-faulty_with g c = λ test judged.
+    rw (c.at.ensures, c.from.ensures)
+    (fault_found _ _ _ _ (c.loop-x.invariant test judged) c.loop-x-test.true (c.faulty_with.ensures test judged)
+    c.if-faulty_with.true)
 
 pub loop-x-preserved : goal.loop-x-preserved
-loop-x-preserved c =
-    fault_later _ _ _ _ _ _ c.loop-x.invariant c.loop-x-test.true
-    c.faulty_with.ensures c.if-faulty_with.false
+loop-x-preserved g c = λ test judged.
+    fault_later _ _ _ _ (c.loop-x.invariant test judged) c.loop-x-test.true (c.faulty_with.ensures test judged)
+    c.if-faulty_with.false
 
 pub returns : goal.returns
-returns c = fault_ends _ _ _ _ _ _ c.loop-x.invariant c.loop-x-test.false
+returns g c = λ test judged. fault_ends _ _ _ _ (c.loop-x.invariant test judged) (omega arith)

@@ -1,102 +1,68 @@
 -- What `plan_runs::job_runs::run_job` owes and the search does not find.
 use native.Mathlib.Omega.{arith}
 use mathlib.Core.Path.{refl}
+use Rattle.std.proofs.lemmas.Result.{err_from_is_err_and}
 use Rattle.order_states.specs.Code.SnapshotSteps.{owner_in}
 use Rattle.plan_runs.specs.Laws.ByteLaws.{bytes_there, bytes_round}
-use Rattle.plan_runs.specs.Laws.JobLaws.{run_starts, run_over, run_refused_lem, run_ended, run_goes}
+use Rattle.plan_runs.specs.Laws.JobLaws.{run_starts, run_over, run_used, run_refused_lem, run_ended, run_goes}
 use Rattle.plan_runs.specs.Laws.StepLaws.{may_bounds}
 use Rattle.plan_runs.proofs.job_runs.run_job.Goals as goal
 
-pub fresh_local-local-requires : goal.fresh_local-local-requires
-fresh_local-local-requires c = tt
-
-pub loop-locks-init : goal.loop-locks-init
+pub loop-n-init : goal.loop-n-init
 unfolding owner_in
-loop-locks-init c =
-    run_starts _ _ _ _ _ _ _ _ c.requires.arrays.0 c.requires.arrays.1 refl c.fresh_local-local.ensures
-
-pub may_step-requires : goal.may_step-requires
-may_step-requires c = tt
+loop-n-init c =
+    rw c.from.ensures
+    (run_starts _ _ _ _ _ _ _ _ (omega arith) refl c.fresh_local-local.ensures)
 
 pub instruction_at-i-requires : goal.instruction_at-i-requires
-instruction_at-i-requires c =
-    let bounds = may_bounds _ _ _ c.may_step.ensures c.loop-locks-test.true in
-    (bounds.1, bounds.2)
+instruction_at-i-requires c = may_bounds _ _ c.may_step.ensures c.if-not-may_step.false
 
-pub step_fault-fault-requires : goal.step_fault-fault-requires
-step_fault-fault-requires c =
-    omega (arith, c.loop-locks.invariant.near, c.loop-locks.invariant.few, c.requires.bounds)
+pub step_fault-requires : goal.step_fault-requires
+step_fault-requires c =
+    omega (arith, c.loop-n.invariant.near, c.loop-n.invariant.few, c.requires)
 
-pub job_ran-requires : goal.job_ran-requires
-job_ran-requires c = tt
-
-pub returns-in_default : goal.returns-in_default
-returns-in_default c =
-    let bounds = may_bounds _ _ _ c.may_step.ensures c.loop-locks-test.true in
-    rw c.job_ran.ensures
-    (run_refused_lem c.loop-locks.invariant c.requires.arrays.0 c.instruction_at-i.ensures c.step_fault-fault.ensures
-    bounds.0 c.in_default.is)
+pub returns-in_err-step_fault : goal.returns-in_err-step_fault
+returns-in_err-step_fault c =
+    let p = err_from_is_err_and c.from_residual.result c.from_residual.ensures.1 in
+    rw (p.1, p.2)
+    (run_refused_lem c.loop-n.invariant (omega arith) c.instruction_at-i.ensures c.loop-n-test.true
+    c.in_err-step_fault.ensures)
 
 pub make_step-effect-requires : goal.make_step-effect-requires
 make_step-effect-requires c =
-    let bounds = may_bounds _ _ _ c.may_step.ensures c.loop-locks-test.true in
-    let few = bytes_round _ _ _ _ _ c.step_fault-fault.ensures c.in-Nothing.is in record {
-      bytes = (
-        bytes_there _ _ _ _ _ c.step_fault-fault.ensures c.in-Nothing.is,
-        omega (arith, few, c.requires.bounds),
-      );
-      bounds = (bounds.2, c.loop-locks.invariant.within, c.loop-locks.invariant.room);
+    let bounds = may_bounds _ _ c.may_step.ensures c.if-not-may_step.false in
+    let few = bytes_round _ _ _ _ _ c.in_ok-step_fault.ensures in record {
+      bytes = (bytes_there _ _ _ _ _ c.in_ok-step_fault.ensures, omega (arith, few, c.requires));
+      bounds = (bounds.1, c.loop-n.invariant.within);
     }
 
 pub mark_step-previous-requires : goal.mark_step-previous-requires
-mark_step-previous-requires c =
-    let bounds = may_bounds _ _ _ c.may_step.ensures c.loop-locks-test.true in
-    record {
-      bytes = bytes_there _ _ _ _ _ c.step_fault-fault.ensures c.in-Nothing.is;
-      bounds = (c.requires.bounds.0, c.requires.bounds.2, bounds.0, c.loop-locks.invariant.is_marks.whole);
-    }
-
-pub either-failed-requires : goal.either-failed-requires
-either-failed-requires c = tt
+mark_step-previous-requires c = record {
+  bytes = bytes_there _ _ _ _ _ c.in_ok-step_fault.ensures;
+  bounds = c.loop-n-test.true;
+}
 
 pub overflow_add-offset : goal.overflow_add-offset
 overflow_add-offset c =
-    omega (arith, c.loop-locks.invariant.near, c.loop-locks.invariant.few, c.requires.bounds)
-
-pub job_ran-requires-then-effect : goal.job_ran-requires-then-effect
-job_ran-requires-then-effect c = tt
+    omega (arith, c.loop-n.invariant.near, c.loop-n.invariant.few, c.requires)
 
 pub returns-then-effect : goal.returns-then-effect
 returns-then-effect c =
-    let bounds = may_bounds _ _ _ c.may_step.ensures c.loop-locks-test.true in
-    rw c.job_ran-then-effect.ensures
-    (run_ended c.loop-locks.invariant c.requires.arrays.0 c.instruction_at-i.ensures c.step_fault-fault.ensures
-    bounds.0 c.in-Nothing.is c.requires.bounds.2 c.requires.bounds.1
+    run_ended c.loop-n.invariant (omega arith) c.instruction_at-i.ensures c.loop-n-test.true
+    c.in_ok-step_fault.ensures c.args.x.below c.requires.0
     c.make_step-effect.ensures.effect c.make_step-effect.ensures.stores c.mark_step-previous.ensures.marks
-    c.either-failed.ensures c.if-effect.true)
+    refl c.if-effect.true
 
-pub overflow_add-n : goal.overflow_add-n
-overflow_add-n c =
-    let bounds = may_bounds _ _ _ c.may_step.ensures c.loop-locks-test.true in
-    omega (arith, bounds.0)
-
-pub loop-locks-smaller : goal.loop-locks-smaller
-loop-locks-smaller c =
-    let bounds = may_bounds _ _ _ c.may_step.ensures c.loop-locks-test.true in
-    omega (arith, bounds.0)
-
-pub loop-locks-preserved : goal.loop-locks-preserved
-loop-locks-preserved c =
-    let bounds = may_bounds _ _ _ c.may_step.ensures c.loop-locks-test.true in
-    run_goes c.loop-locks.invariant c.requires.arrays.0 c.instruction_at-i.ensures c.step_fault-fault.ensures
-    bounds.0 c.in-Nothing.is c.requires.bounds.2 c.requires.bounds.1
+pub loop-n-preserved : goal.loop-n-preserved
+loop-n-preserved c =
+    run_goes c.loop-n.invariant (omega arith) c.instruction_at-i.ensures c.loop-n-test.true
+    c.in_ok-step_fault.ensures c.args.x.below c.requires.0
     c.make_step-effect.ensures.effect c.make_step-effect.ensures.stores c.mark_step-previous.ensures.marks
-    c.either-failed.ensures c.mark_step-previous.ensures.round c.if-effect.false
+    refl c.mark_step-previous.ensures.round c.if-effect.false
 
-pub job_ran-requires-2 : goal.job_ran-requires-2
-job_ran-requires-2 c = tt
+pub returns-after-loop-n : goal.returns-after-loop-n
+returns-after-loop-n c = run_used c.loop-n.invariant (omega arith) (omega arith)
 
-pub returns : goal.returns
-returns c =
-    rw c.job_ran-2.ensures
-    (run_over c.loop-locks.invariant c.requires.arrays.0 c.may_step.ensures c.loop-locks-test.false)
+pub returns-then-not-may_step : goal.returns-then-not-may_step
+returns-then-not-may_step c =
+    run_over c.loop-n.invariant (omega arith) c.may_step.ensures c.if-not-may_step.true

@@ -1,13 +1,9 @@
 -- `plan_runs::job_runs::run_jobs` meets its contract. The loop's invariant: the arrays hold what the runs of the jobs before x
--- made, and the whole run is what is left of it after them. The measure is the number of jobs left.
+-- made, and the whole run is what is left of it after them.
 -- Assumes nothing.
-use Prim.Native.Nat.{◌-◌}
 use Rattle.plan_runs.specs.Laws.JobsLaws.{JobsRunning}
 use Rattle.plan_runs.proofs.job_runs.run_jobs.Given as goal
 
 abbrev pub invariant-loop-x : goal.invariant-loop-x
 invariant-loop-x l =
-    JobsRunning l.program l.locks l.plan l.k l.initial.stores l.stores l.marks l.failed l.offset l.x
-
-abbrev pub decreases-loop-x : goal.decreases-loop-x
-decreases-loop-x l = l.k - l.x
+    JobsRunning l.lent.program l.lent.locks l.plan l.k l.initial.stores l.stores l.marks l.failed l.offset l.x

@@ -6,4 +6,4 @@ use Rattle.plan_runs.proofs.plan_steps.mark_step.Goals as goal
 
 pub returns : goal.returns
 returns c =
-    record { round = refl; marks = c.put_mark.ensures ∙ mark_noted _ _ _ _ _ c.priority_of-priority.ensures }
+    record { round = refl; marks = c.put.ensures ∙ mark_noted _ _ _ _ _ c.priority_of-priority.ensures }

@@ -4,7 +4,8 @@ use Rattle.taskfile.proofs.Laws.ChainReading.{body_empty, body_follows}
 use Rattle.taskfile_chains.proofs.chains.read_body.Goals as goal
 
 pub returns-then-first-eq0 : goal.returns-then-first-eq0
-returns-then-first-eq0 c reached marked = body_empty _ _ _ c.index_at-first.ensures _ reached c.if-first-eq0.true
+returns-then-first-eq0 c reached marked =
+    rw c.at.ensures (body_empty _ _ _ c.index_at-first.ensures _ reached c.if-first-eq0.true)
 
 pub returns : goal.returns
 returns c reached marked =

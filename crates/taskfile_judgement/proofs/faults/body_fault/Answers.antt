@@ -1,27 +1,20 @@
--- `taskfile_judgement::faults::body_fault` meets its contract. Each way through the tests is one case of the fault of 7 by the
--- body's array.
+-- `taskfile_judgement::faults::body_fault` meets its contract. Each arm is one case of the fault of 7 by the body's array.
 -- Assumes nothing.
-use mathlib.Core.Bool.{false, not}
-use mathlib.Core.Logic.{⊎_elim}
-use mathlib.Core.Path.{◌≡◌, ap}
-use borrow.Author.Tests.{eq-eqb, ne_eqb}
-use Rattle.taskfile.proofs.Laws.JudgingLaws.{ends_badly, not_last_lem, ends_well, skip_6, skip_7, last_not_end, no_skip, a_skip}
+use native.Mathlib.Omega.{arith}
+use Rattle.taskfile.proofs.Laws.JudgingLaws.{end_sound, skip_between, skip_beyond, other_last}
 use Rattle.taskfile_judgement.proofs.faults.body_fault.Goals as goal
+use Rattle.taskfile_judgement.proofs.faults.body_fault.Goals.{in_default-via-then-here-lt6, in_default-via-else-here-lt6+else-here-lt8}
 
-pub returns-then-here-ne-END : goal.returns-then-here-ne-END
-returns-then-here-ne-END c =
-    last_not_end _ _ c.requires c.if-p-e.true (ap not (ne_eqb _ _ c.if-here-ne-END.true))
+pub returns-in-0 : goal.returns-in-0
+returns-in-0 c = end_sound _ _ c.requires c.in-0.is
 
--- past the first test the instruction is not the last, or it is End
-pub returns-then-here-ne-SKIP_EQUAL : goal.returns-then-here-ne-SKIP_EQUAL
-returns-then-here-ne-SKIP_EQUAL c =
-    let well : ends_badly c.args.e c.args.p ≡ false =
-    ⊎_elim (λ w. ends_well _ _ (ap not (eq-eqb _ _ w.1))) (λ w. not_last_lem _ _ w) c.else-p-e.either in
-    no_skip _ _ c.requires well c.if-here-ne-SKIP_LESS.true (ap not (ne_eqb _ _ c.if-here-ne-SKIP_EQUAL.true))
+pub returns-in-6 : goal.returns-in-6
+returns-in-6 c = skip_beyond _ _ c.requires (skip_between _ (omega arith) (omega arith))
 
-pub returns : goal.returns
-returns c =
-    let well : ends_badly c.args.e c.args.p ≡ false =
-    ⊎_elim (λ w. ends_well _ _ (ap not (eq-eqb _ _ w.1))) (λ w. not_last_lem _ _ w) c.else-p-e.either in
-    a_skip _ _ c.requires well
-    (⊎_elim (λ w. skip_7 _ (ap not (eq-eqb _ _ w.1))) (λ w. skip_6 _ w) c.else-here-ne-SKIP_LESS.either)
+pub returns-in_default : goal.returns-in_default
+returns-in_default c =
+    elim c.in_default.branch [
+      | in_default-via-then-here-lt6 w ↦ other_last _ _ c.requires (λ e. omega arith) (λ e. omega arith) (λ e. omega arith)
+      | in_default-via-else-here-lt6+else-here-lt8 w ↦
+          other_last _ _ c.requires (λ e. omega arith) (λ e. omega arith) (λ e. omega arith)
+    ]

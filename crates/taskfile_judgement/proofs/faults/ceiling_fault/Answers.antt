@@ -1,32 +1,24 @@
--- `taskfile_judgement::faults::ceiling_fault` meets its contract. Each way through the tests is one case of the fault of 9 by the
--- array of ceilings.
+-- `taskfile_judgement::faults::ceiling_fault` meets its contract. Each arm is one case of the fault of 9.
 -- Assumes nothing.
-use mathlib.Core.Bool.{true, not}
-use mathlib.Core.Logic.{⊎_elim}
-use mathlib.Core.Path.{◌≡◌, ap}
-use borrow.Author.Tests.{eq-eqb, ne_eqb}
-use Rattle.taskfile.proofs.Laws.JudgingLaws.{names_lock, acquire_9, release_10, no_lock_lem, lock_unknown, release_known, acquire_known}
+use native.Mathlib.Omega.{arith}
+use borrow.Author.Tests.{le-leb, lt-leb, ne_eqb}
+use Rattle.std.proofs.Math.Bool.{or-false}
+use Rattle.taskfile.specs.Code.JudgingParts.{ceiling_fault_in}
+use Rattle.taskfile.specs.Judgement.{is_acquire, is_release}
 use Rattle.taskfile_judgement.proofs.faults.ceiling_fault.Goals as goal
 
-pub returns-then-here-ne-RELEASE : goal.returns-then-here-ne-RELEASE
-returns-then-here-ne-RELEASE c =
-    no_lock_lem _ _ _ _ c.requires c.if-here-ne-ACQUIRE.true (ap not (ne_eqb _ _ c.if-here-ne-RELEASE.true))
+pub returns-then-ceilings-lock : goal.returns-then-ceilings-lock
+unfolding ceiling_fault_in is_acquire is_release
+returns-then-ceilings-lock c = rw (c.in-9.is, le-leb _ _ c.if-ceilings-lock.true)
 
--- past the first test the instruction names a lock
-pub returns-then-locks-here : goal.returns-then-locks-here
-returns-then-locks-here c =
-    let named : names_lock c.args.here ≡ true =
-    ⊎_elim (λ w. release_10 _ (ap not (eq-eqb _ _ w.1))) (λ w. acquire_9 _ w) c.else-here-ne-ACQUIRE.either in
-    lock_unknown _ _ _ _ c.requires named c.if-locks-here.true
+pub returns-else-ceilings-lock : goal.returns-else-ceilings-lock
+unfolding ceiling_fault_in is_acquire is_release
+returns-else-ceilings-lock c = rw (c.in-9.is, lt-leb _ _ c.if-ceilings-lock.false)
 
-pub returns-then-here-eq-RELEASE : goal.returns-then-here-eq-RELEASE
-returns-then-here-eq-RELEASE c =
-    let named : names_lock c.args.here ≡ true =
-    ⊎_elim (λ w. release_10 _ (ap not (eq-eqb _ _ w.1))) (λ w. acquire_9 _ w) c.else-here-ne-ACQUIRE.either in
-    release_known _ _ _ _ c.requires named c.if-locks-here.false c.if-here-eq-RELEASE.true
+pub returns-in-10 : goal.returns-in-10
+unfolding ceiling_fault_in is_acquire is_release
+returns-in-10 c = rw (c.in-10.is, or-false)
 
-pub returns : goal.returns
-returns c =
-    let named : names_lock c.args.here ≡ true =
-    ⊎_elim (λ w. release_10 _ (ap not (eq-eqb _ _ w.1))) (λ w. acquire_9 _ w) c.else-here-ne-ACQUIRE.either in
-    acquire_known _ _ _ _ c.requires named c.if-locks-here.false c.if-here-eq-RELEASE.false
+pub returns-in_default : goal.returns-in_default
+unfolding ceiling_fault_in is_acquire is_release
+returns-in_default c = rw (ne_eqb c.args.here.operation 9 (λ e. omega arith), ne_eqb c.args.here.operation 10 (λ e. omega arith))

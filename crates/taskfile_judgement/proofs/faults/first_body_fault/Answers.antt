@@ -1,24 +1,21 @@
--- What `taskfile_judgement::faults::first_body_fault` owes and the search does not find.
-use mathlib.Core.Path.{sym, ap, ◌∙◌}
-use Rattle.taskfile.specs.Code.JudgingParts.{found_of}
-use Rattle.notation.specs.Laws.SearchLaws.{search_starts, search_goes_on, search_finds, search_ends}
+-- `taskfile_judgement::faults::first_body_fault` meets its contract: a range yields the positions of the body.
+-- Assumes nothing.
+use mathlib.Core.Path.{◌≡◌, refl, sym, ap, ◌∙◌}
+use borrow.Author.Tests.{tests}
+use Rattle.std.proofs.Common.{rules, arith}
+use Rattle.std.proofs.lemmas.Iterator.{YieldsList-from_range}
+use Rattle.std.proofs.lemmas.Iterator.Adapters.{option_map_id}
+use Rattle.std.proofs.lemmas.Iterator.Search.{find_from_yields_List}
+use Rattle.std.specs.List.{find, range_with_len}
+use Rattle.std.specs.Option.{option_map}
+use Rattle.taskfile.proofs.Laws.JudgingLaws.{range_up_to}
+use Rattle.taskfile.specs.Code.JudgingParts.{body_fault_in}
 use Rattle.taskfile_judgement.proofs.faults.first_body_fault.Goals as goal
 
-pub loop-p-init : goal.loop-p-init
-loop-p-init c = search_starts _ _
-
-pub returns-then-body_fault : goal.returns-then-body_fault
-unfolding found_of
-returns-then-body_fault c =
-    ap found_of
-    (sym (search_finds _ _ _ c.loop-p.invariant c.loop-p-test.true
-    (sym c.body_fault.ensures ∙ c.if-body_fault.true)))
-
-pub loop-p-preserved : goal.loop-p-preserved
-loop-p-preserved c =
-    search_goes_on _ _ _ c.loop-p.invariant c.loop-p-test.true
-    (sym c.body_fault.ensures ∙ c.if-body_fault.false)
-
 pub returns : goal.returns
-unfolding found_of
-returns c = ap found_of (sym (search_ends _ _ _ c.loop-p.invariant c.loop-p-test.false))
+returns c =
+    let e = c.args.e.now in
+    let found : option_map (λ x. x) c.find.result ≡ find (body_fault_in e) (range_with_len 0 e.length) =
+    find_from_yields_List (body_fault_in e) _ _ c.find.result c.find.ensures.ran
+    (YieldsList-from_range 0 e.length e.length refl (omega arith)) (λ x b q k. search (rules, tests)) in
+    sym (option_map_id c.find.result) ∙ found ∙ ap (find (body_fault_in e)) (range_up_to e.length)

@@ -1,27 +1,27 @@
--- What `taskfile_judgement::faults::first_ceiling_fault` owes and the search does not find.
-use mathlib.Core.Path.{sym, ap, ◌∙◌}
-use Rattle.taskfile.proofs.Laws.JudgingLaws.{body_at_lem}
-use Rattle.taskfile.specs.Code.JudgingParts.{found_of, ceiling_fault_in}
-use Rattle.notation.specs.Laws.SearchLaws.{search_starts, search_goes_on, search_finds, search_ends}
+-- `taskfile_judgement::faults::first_ceiling_fault` meets its contract: a range yields the positions of the body, whose
+-- instructions are the first of its array.
+-- Assumes nothing.
+use Prim.Native.Nat.{ℕ}
+use mathlib.Core.Bool.{Bool}
+use mathlib.Core.Path.{◌≡◌, refl, sym, ap, ◌∙◌}
+use borrow.Author.Tests.{tests}
+use Rattle.std.proofs.Common.{rules, arith}
+use Rattle.std.proofs.lemmas.Iterator.{YieldsList-from_range}
+use Rattle.std.proofs.lemmas.Iterator.Adapters.{option_map_id}
+use Rattle.std.proofs.lemmas.Iterator.Search.{find_from_yields_List}
+use Rattle.std.specs.List.{find, range_with_len}
+use Rattle.std.specs.Option.{option_map}
+use Rattle.taskfile.proofs.Laws.JudgingLaws.{here_in, body_at_lem, range_up_to, find_agree}
+use Rattle.taskfile.specs.Code.JudgingParts.{ceiling_fault_in}
 use Rattle.taskfile_judgement.proofs.faults.first_ceiling_fault.Goals as goal
 
-pub loop-p-init : goal.loop-p-init
-loop-p-init c = search_starts _ _
-
-pub returns-then-ceiling_fault : goal.returns-then-ceiling_fault
-unfolding found_of
-returns-then-ceiling_fault c =
-    let below = c.loop-p-test.true in
-    ap found_of
-    (sym (search_finds _ _ _ c.loop-p.invariant below
-    (ap (ceiling_fault_in _ _) (body_at_lem _ _ below) ∙ sym c.ceiling_fault.ensures ∙ c.if-ceiling_fault.true)))
-
-pub loop-p-preserved : goal.loop-p-preserved
-loop-p-preserved c =
-    let below = c.loop-p-test.true in
-    search_goes_on _ _ _ c.loop-p.invariant below
-    (ap (ceiling_fault_in _ _) (body_at_lem _ _ below) ∙ sym c.ceiling_fault.ensures ∙ c.if-ceiling_fault.false)
-
 pub returns : goal.returns
-unfolding found_of
-returns c = ap found_of (sym (search_ends _ _ _ c.loop-p.invariant c.loop-p-test.false))
+returns c =
+    let e = c.args.e.now in
+    let fault = ceiling_fault_in c.args.ceilings.now c.args.i.0 in
+    let test : ℕ → Bool = λ p. fault (here_in e p) in
+    let found : option_map (λ x. x) c.find.result ≡ find test (range_with_len 0 e.length) =
+    find_from_yields_List test _ _ c.find.result c.find.ensures.ran
+    (YieldsList-from_range 0 e.length e.length refl (omega arith)) (λ x b q k. search (rules, tests)) in
+    sym (option_map_id c.find.result) ∙ found ∙ ap (find test) (range_up_to e.length)
+    ∙ find_agree _ _ e.length (λ p below. ap fault (sym (body_at_lem e p below)))

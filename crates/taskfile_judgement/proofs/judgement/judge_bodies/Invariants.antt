@@ -1,7 +1,5 @@
--- `taskfile_judgement::judgement::judge_bodies` meets its contract. The loop keeps how far the check of the tasks' bodies for faults of 7
--- has come, and the measure is what is left of the tasks.
+-- The loop of `taskfile_judgement::judgement::judge_bodies` keeps how far the check of the tasks' bodies for faults of 7 has come.
 -- Assumes nothing.
-use Prim.Native.Nat.{◌-◌}
 use Rattle.taskfile.specs.Judgement.{instruction_sites, of_instruction, body_fault}
 use Rattle.taskfile.proofs.Laws.JudgingLaws.{body_sites}
 use Rattle.notation.specs.Laws.SearchLaws.{CheckedTo}
@@ -10,6 +8,3 @@ use Rattle.taskfile_judgement.proofs.judgement.judge_bodies.Given as goal
 abbrev pub invariant-loop-i : goal.invariant-loop-i
 invariant-loop-i l =
     CheckedTo 7 (of_instruction (body_fault l.t)) (instruction_sites l.t) (body_sites l.t) l.t.tasks l.i
-
-abbrev pub decreases-loop-i : goal.decreases-loop-i
-decreases-loop-i l = l.t.tasks - l.i

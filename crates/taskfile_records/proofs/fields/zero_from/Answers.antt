@@ -1,30 +1,34 @@
--- What `taskfile_records::fields::zero_from` owes and the search does not find.
-use native.Mathlib.Omega.{arith}
-use mathlib.Core.Path.{refl, sym, ◌∙◌}
-use Rattle.taskfile.proofs.Laws.RecordLaws.{zero_from_none, zero_from_other, zero_from_more}
+-- What `taskfile_records::fields::zero_from` owes: the test of the bytes that the file has is that of all.
+-- Assumes nothing.
+use Prim.Native.Nat.{ℕ, ◌+◌, ◌-◌, ◌≤◌, min}
+use mathlib.Core.Bool.{Bool}
+use mathlib.Core.List.{List}
+use mathlib.Core.Path.{◌≡◌, sym, ap, ◌∙◌}
+use borrow.Author.Tests.{tests}
+use lib.Dec.{eqb}
+use lib.ListN.{take, drop, length}
+use Rattle.std.proofs.Common.{rules, arith, take_all, length-drop}
+use Rattle.std.proofs.Math.Decide.{dec_lt}
+use Rattle.std.proofs.lemmas.Iterator.{YieldsList-from_slice}
+use Rattle.std.proofs.lemmas.Iterator.Search.{all_from_yields_List}
+use Rattle.taskfile.proofs.Laws.RecordLaws.{zero_from_file}
 use Rattle.taskfile_records.proofs.fields.zero_from.Goals as goal
 
-pub zero_within-requires : goal.zero_within-requires
-zero_within-requires c = (c.requires, c.if-r-k.true)
-
-pub returns-then-r-k : goal.returns-then-r-k
-returns-then-r-k c = c.zero_within.ensures
-
-pub loop-left-init : goal.loop-left-init
-loop-left-init c = (refl, c.requires)
-
-pub returns-then-byte_at-ne0 : goal.returns-then-byte_at-ne0
-returns-then-byte_at-ne0 c =
-    sym
-    (c.loop-left.invariant.0
-    ∙ zero_from_other _ _ _ _ c.loop-left-test.true (λ e. c.if-byte_at-ne0.true (c.byte_at.ensures ∙ e)))
-
-pub loop-left-preserved : goal.loop-left-preserved
-loop-left-preserved c = (
-  c.loop-left.invariant.0
-      ∙ zero_from_more _ _ _ _ c.loop-left-test.true (sym c.byte_at.ensures ∙ c.if-byte_at-ne0.false),
-  omega arith,
-)
+-- the n bytes from s on, as far as the file has them
+clipped : (f : List ℕ) (s n : ℕ) → s ≤ length f → take (min (s + n) (length f) - s) (drop s f) ≡ take n (drop s f)
+clipped f s n inside =
+    elim (dec_lt (s + n) (length f)) [
+      | yes whole ↦ let all : min (s + n) (length f) - s ≡ n = omega arith in ap (λ k. take k (drop s f)) all
+      | no cut ↦
+          take_all _ (drop s f) (omega (arith, length-drop s f)) ∙ sym (take_all n (drop s f) (omega (arith, length-drop s f)))
+    ]
 
 pub returns : goal.returns
-returns c = sym (c.loop-left.invariant.0 ∙ zero_from_none _ _ _ _ c.loop-left-test.false)
+returns c =
+    let f = c.args.file.now in
+    let zero : ℕ → Bool = λ byte. eqb byte 0 in
+    let rest = take c.args.n (drop c.min-start.result f) in
+    rw (← zero_from_file f c.args.r c.args.k c.args.n, ← c.min-start.ensures)
+    (all_from_yields_List zero _ _ _ c.all.ensures.ran
+    (YieldsList-from_slice rest (c.iter.ensures.rest ∙ rw c.min-end.ensures (clipped f _ c.args.n (omega arith))))
+    (λ x b q k. search (rules, tests)))

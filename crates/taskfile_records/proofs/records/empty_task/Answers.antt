@@ -7,4 +7,4 @@ use Rattle.taskfile_records.proofs.records.empty_task.Goals as goal
 
 pub returns : goal.returns
 unfolding no_task padded
-returns c = rw c.end_instruction-end.ensures refl
+returns c = rw c.end_instruction.ensures refl

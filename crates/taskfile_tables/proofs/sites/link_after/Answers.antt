@@ -1,26 +1,24 @@
 -- What `taskfile_tables::sites::link_after` owes and the search does not find.
-use Prim.Native.Nat.{ℕ, ◌≤◌, ◌<◌, ◌-◌}
+use Prim.Native.Nat.{◌+◌, ◌-◌}
 use native.Mathlib.Omega.{arith}
-use mathlib.Core.Path.{◌≡◌, refl, sym, ap, ◌∙◌}
+use mathlib.Core.Path.{◌≡◌, sym, ap, ◌∙◌}
 use Rattle.taskfile.proofs.Laws.LinkedLaws.{link_more, link_none}
 use Rattle.taskfile.specs.Code.ReadingParts.{link_after}
-use Rattle.taskfile.specs.Records.{File, next}
 use Rattle.taskfile_tables.proofs.sites.link_after.Goals as goal
 
-link-turn : (f : File) (index n at left onward : ℕ) → link_after f at left ≡ link_after f index n → 0 < left → onward ≡ next f at
-    → link_after f onward (left - 1) ≡ link_after f index n
-link-turn f index n at left onward h below e = ap (λ k. link_after f k (left - 1)) e ∙ sym (link_more f at left below) ∙ h
+pub loop-i-init : goal.loop-i-init
+loop-i-init c = let all : c.args.n - 0 ≡ c.args.n = omega arith in ap (link_after c.args.file.now c.args.index) all
 
-link-done : (f : File) (index n at left : ℕ) → link_after f at left ≡ link_after f index n → left ≤ 0 → at ≡ link_after f index n
-link-done f index n at left h none =
-    let e : 0 ≡ left = omega arith in
-    sym (link_none f at) ∙ ap (link_after f at) e ∙ h
-
-pub loop-left-init : goal.loop-left-init
-loop-left-init c = refl
-
-pub loop-left-preserved : goal.loop-left-preserved
-loop-left-preserved c = link-turn _ _ _ _ _ _ c.loop-left.invariant c.loop-left-test.true c.next_at-at.ensures
+pub loop-i-preserved : goal.loop-i-preserved
+loop-i-preserved c =
+    let f = c.args.file.now in
+    let onward = c.next_at-at.result in
+    let left : c.args.n - (c.loop-i.i + 1) ≡ c.args.n - c.loop-i.i - 1 = omega arith in
+    ap (link_after f onward) left ∙ ap (λ k. link_after f k (c.args.n - c.loop-i.i - 1)) c.next_at-at.ensures
+    ∙ sym (link_more f c.loop-i.at (c.args.n - c.loop-i.i) (omega arith)) ∙ c.loop-i.invariant
 
 pub returns : goal.returns
-returns c = link-done _ _ _ _ _ c.loop-left.invariant c.loop-left-test.false
+returns c =
+    let f = c.args.file.now in
+    let none : 0 ≡ c.args.n - c.loop-i.i = omega arith in
+    sym (link_none f c.loop-i.at) ∙ ap (link_after f c.loop-i.at) none ∙ c.loop-i.invariant

@@ -5,16 +5,16 @@ use Rattle.taskfile.specs.Code.ReadingParts.{body_at}
 use Rattle.taskfile_tables.proofs.tables.body_at.Goals as goal
 
 pub loop-n-init : goal.loop-n-init
-loop-n-init c = rw c.end_instruction-end.ensures (filled_none _ _ 16 _ _)
+loop-n-init c = rw c.end_instruction-items.ensures (filled_none _ _ 16 _ _)
 
-pub bounds-records-at : goal.bounds-records-at
-bounds-records-at c = omega (arith, chain_few _ _ _ c.chain_at-chain.ensures)
+pub bounds-chain-n : goal.bounds-chain-n
+bounds-chain-n c = omega (arith, chain_few _ _ _ c.chain_at-chain.ensures)
 
-pub offset_bounds-body-at : goal.offset_bounds-body-at
-offset_bounds-body-at c = omega (arith, chain_few _ _ _ c.chain_at-chain.ensures)
+pub offset_bounds-items-n : goal.offset_bounds-items-n
+offset_bounds-items-n c = omega (arith, chain_few _ _ _ c.chain_at-chain.ensures)
 
-pub bounds-body-at : goal.bounds-body-at
-bounds-body-at c = omega (arith, chain_few _ _ _ c.chain_at-chain.ensures)
+pub bounds-items-n : goal.bounds-items-n
+bounds-items-n c = omega (arith, chain_few _ _ _ c.chain_at-chain.ensures)
 
 pub loop-n-preserved : goal.loop-n-preserved
 loop-n-preserved c =
@@ -27,4 +27,4 @@ returns c =
     let read = c.chain_at-chain.ensures in
     let counted = chain_count _ _ _ read in
     let stored = filled_end _ _ _ _ _ _ _ read c.loop-n.invariant c.loop-n-test.false in
-    λ i. record { length = counted i; body = stored i }
+    λ i. record { count = counted i; items = stored i }

@@ -6,7 +6,7 @@ use Rattle.taskfile.proofs.Laws.LinkedLaws.{Followed}
 use Rattle.taskfile_tables.proofs.tables.chain_at.Given as goal
 
 abbrev pub invariant-loop-index : goal.invariant-loop-index
-invariant-loop-index l = Followed l.file l.most l.first l.records l.n l.index
+invariant-loop-index l = Followed l.file l.most l.first l.items l.count l.index
 
 abbrev pub decreases-loop-index : goal.decreases-loop-index
-decreases-loop-index l = l.most - l.n
+decreases-loop-index l = l.most - l.count

@@ -7,20 +7,20 @@ use Rattle.taskfile_tables.proofs.tables.locks_at.Goals as goal
 pub loop-n-init : goal.loop-n-init
 loop-n-init c = (filled_none _ _ 8 _ _, filled_none _ _ 8 _ _)
 
-pub bounds-records-at : goal.bounds-records-at
-bounds-records-at c = omega (arith, chain_few _ _ _ c.chain_at-chain.ensures)
+pub bounds-chain-n : goal.bounds-chain-n
+bounds-chain-n c = omega (arith, chain_few _ _ _ c.chain_at-chain.ensures)
 
-pub bounds-ceilings-at : goal.bounds-ceilings-at
-bounds-ceilings-at c = omega (arith, chain_few _ _ _ c.chain_at-chain.ensures)
+pub bounds-ceilings-n : goal.bounds-ceilings-n
+bounds-ceilings-n c = omega (arith, chain_few _ _ _ c.chain_at-chain.ensures)
 
-pub bounds-records-at-in-loop-n : goal.bounds-records-at-in-loop-n
-bounds-records-at-in-loop-n c = omega (arith, chain_few _ _ _ c.chain_at-chain.ensures)
+pub bounds-chain-n-in-loop-n : goal.bounds-chain-n-in-loop-n
+bounds-chain-n-in-loop-n c = omega (arith, chain_few _ _ _ c.chain_at-chain.ensures)
 
-pub offset_bounds-holdings-at : goal.offset_bounds-holdings-at
-offset_bounds-holdings-at c = omega (arith, chain_few _ _ _ c.chain_at-chain.ensures)
+pub offset_bounds-holdings-n : goal.offset_bounds-holdings-n
+offset_bounds-holdings-n c = omega (arith, chain_few _ _ _ c.chain_at-chain.ensures)
 
-pub bounds-holdings-at : goal.bounds-holdings-at
-bounds-holdings-at c = omega (arith, chain_few _ _ _ c.chain_at-chain.ensures)
+pub bounds-holdings-n : goal.bounds-holdings-n
+bounds-holdings-n c = omega (arith, chain_few _ _ _ c.chain_at-chain.ensures)
 
 pub loop-n-preserved : goal.loop-n-preserved
 loop-n-preserved c =

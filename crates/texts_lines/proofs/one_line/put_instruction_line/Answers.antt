@@ -13,14 +13,14 @@ unfolding used_of
 slice_bounds-fields-end c =
     omega (arith, used_few c.args.i.operation, c.field_count-used.ensures)
 
-pub slice_bounds-then_bytes-end : goal.slice_bounds-then_bytes-end
+pub slice_bounds-then_numbers-end : goal.slice_bounds-then_numbers-end
 unfolding used_of
-slice_bounds-then_bytes-end c =
+slice_bounds-then_numbers-end c =
     sym
     (length-take-le _ _
     (omega (arith, used_few c.args.i.operation, c.field_count-used.ensures)))
 
 pub returns : goal.returns
 returns c =
-    instruction_line_put _ c.field_count-used.ensures c.put_name-name.ensures
-    c.then_bytes-next.ensures c.end_line.ensures
+    instruction_line_put _ c.field_count-used.ensures c.put_name.ensures
+    c.then_numbers.ensures c.end_line.ensures

@@ -3,7 +3,7 @@
 use Rattle.texts.specs.Grammar.{line_text, row_of}
 use Rattle.texts.specs.TextTables.{lock_line}
 use Rattle.texts.specs.Words.{lock_word}
-use Rattle.sheets_printing.specs.Laws.LineLaws.{line_begun, line_more, line_ended}
+use Rattle.notation_buffers.specs.Laws.LineLaws.{line_begun, line_more, line_ended}
 use Rattle.texts_lines.proofs.one_line.put_lock_line.Goals as goal
 
 pub returns : goal.returns
@@ -12,7 +12,7 @@ returns c =
     line_ended
     (line_more
     (line_more
-    (line_begun c.put_word-word.ensures)
-    c.then_byte-first.ensures)
-    c.then_number-second.ensures)
+    (line_begun c.put_word.ensures)
+    (rw c.from.ensures at c.then_number.ensures))
+    (rw c.from-2.ensures at c.then_number-2.ensures))
     c.end_line.ensures

@@ -2,7 +2,7 @@
 -- Assumes nothing.
 use Rattle.sheets.specs.SheetWords.{task_word}
 use Rattle.texts.specs.Grammar.{line_text, row_of}
-use Rattle.sheets_printing.specs.Laws.LineLaws.{line_begun, line_more, line_ended}
+use Rattle.notation_buffers.specs.Laws.LineLaws.{line_begun, line_more, line_ended}
 use Rattle.texts_lines.proofs.one_line.put_task_line.Goals as goal
 
 pub returns : goal.returns
@@ -12,8 +12,8 @@ returns c =
     (line_more
     (line_more
     (line_more
-    (line_begun c.put_word-word.ensures)
-    c.then_number-first.ensures)
-    c.then_number-second.ensures)
-    c.then_number-third.ensures)
+    (line_begun c.put_word.ensures)
+    (rw c.from.ensures at c.then_number.ensures))
+    (rw c.from-2.ensures at c.then_number-2.ensures))
+    (rw c.from-3.ensures at c.then_number-3.ensures))
     c.end_line.ensures

@@ -1,8 +1,5 @@
 -- `texts_reading::line_forms::field_count` meets its contract: each arm has the number of its row's fields.
 -- Assumes nothing.
-use mathlib.Core.Path.{sym, ap, ◌∙◌}
-use lib.ListN.{length}
-use Rattle.texts.specs.declared.Form.{Form}
 use Rattle.texts.specs.Grammar.{row_of}
 use Rattle.texts_reading.proofs.line_forms.field_count.Goals as goal
 
@@ -17,11 +14,6 @@ returns-in-StartLine c = rw c.in-StartLine.is
 pub returns-in-TaskLine : goal.returns-in-TaskLine
 unfolding row_of
 returns-in-TaskLine c = rw c.in-TaskLine.is
-
-pub returns-in-InstructionLine : goal.returns-in-InstructionLine
-returns-in-InstructionLine c =
-    c.operation_fields.ensures
-    ∙ sym (ap (λ (f : Form). length (row_of f).fields) c.in-InstructionLine.is)
 
 pub returns-in-LockLine : goal.returns-in-LockLine
 unfolding row_of

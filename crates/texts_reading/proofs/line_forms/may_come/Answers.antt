@@ -1,10 +1,14 @@
 -- `texts_reading::line_forms::may_come` meets its contract.
 -- Assumes nothing.
-use Rattle.texts_reading.specs.Laws.RowOfLaws.{come_early, come_late}
+use Rattle.std.proofs.Common.{arith}
+use Rattle.std.proofs.lemmas.Grind.{common_steps}
+use Rattle.texts.specs.Grammar.{may_come}
 use Rattle.texts_reading.proofs.line_forms.may_come.Goals as goal
 
-pub returns-then-stage-earliest : goal.returns-then-stage-earliest
-returns-then-stage-earliest c = come_early _ _ c.earliest.ensures c.if-stage-earliest.true
+pub returns-then-le : goal.returns-then-le
+unfolding may_come
+returns-then-le c = grind (arith, common_steps)
 
-pub returns : goal.returns
-returns c = come_late _ _ c.earliest.ensures c.if-stage-earliest.false c.latest.ensures
+pub returns-else-le : goal.returns-else-le
+unfolding may_come
+returns-else-le c = grind (arith, common_steps)

@@ -1,37 +1,25 @@
--- What `texts_reading::line_forms::numbers_fit` owes and the search does not find.
-use native.Mathlib.Omega.{arith}
+-- `texts_reading::line_forms::numbers_fit` meets its contract: each number is held against its field's limit.
+-- Assumes nothing.
+use Rattle.std.proofs.Common.{◌<◌, ◌≤◌, ◌∙◌, refl, length, arith, rules, tests}
+use Rattle.std.proofs.lemmas.Iterator.{YieldsList-from_range, serves_from_Range}
+use Rattle.std.proofs.lemmas.Iterator.Search.{all_from_yields_List}
+use Rattle.texts.specs.Grammar.{row_of}
 use Rattle.texts_reading.specs.Laws.RowOfLaws.{fields_few}
-use Rattle.texts_reading.specs.Laws.FieldFitLaws.{fields_none, fields_more, fields_burst, fields_all}
+use Rattle.texts_reading.specs.Laws.FieldFitLaws.{fits_at, fits_listed}
 use Rattle.texts_reading.proofs.line_forms.numbers_fit.Goals as goal
 
-pub field_count-count-requires : goal.field_count-count-requires
-field_count-count-requires c = tt
-
-pub loop-k-init : goal.loop-k-init
-loop-k-init c = fields_none _ _
-
-pub field_limit-requires : goal.field_limit-requires
-field_limit-requires c = omega (arith, c.field_count-count.ensures)
-
-pub offset_bounds-values-k : goal.offset_bounds-values-k
-offset_bounds-values-k c = omega (arith, c.field_count-count.ensures, fields_few c.args.form)
-
-pub bounds-values-k : goal.bounds-values-k
-bounds-values-k c = omega (arith, c.field_count-count.ensures, fields_few c.args.form)
-
-pub returns-then-field_limit-values : goal.returns-then-field_limit-values
-returns-then-field_limit-values c =
-    fields_burst _ _ c.well_formed.1.0.1.0.1 _ c.loop-k.invariant _ c.field_limit.ensures
-    (omega (arith, c.field_count-count.ensures)) c.if-field_limit-values.true
-
-pub overflow_add-k : goal.overflow_add-k
-overflow_add-k c = omega (arith, c.field_count-count.ensures, fields_few c.args.form)
-
-pub loop-k-preserved : goal.loop-k-preserved
-loop-k-preserved c =
-    fields_more _ _ c.well_formed.1.0.1.0.1 _ c.loop-k.invariant _ c.field_limit.ensures
-    (omega (arith, c.field_count-count.ensures)) c.if-field_limit-values.false
+pub all-requires-clause-callable : goal.all-requires-clause-callable
+all-requires-clause-callable c =
+    serves_from_Range (λ x q k. search rules)
+    (λ x low high.
+    let inside : x < length (row_of c.args.form).fields = omega (arith, c.field_count.ensures) in
+    let small : x < 8 = omega (arith, fields_few c.args.form) in
+    (λ κs p g e r. record { fits = omega arith }, λ κs p g e r full. small, λ κs p g e r full u v w z. inside))
 
 pub returns : goal.returns
 returns c =
-    fields_all _ _ c.well_formed.1.0.1.0.1 _ c.loop-k.invariant (omega (arith, c.field_count-count.ensures))
+    let limits = (row_of c.args.form).fields in
+    let enough : length limits ≤ length c.args.values = omega (arith, fields_few c.args.form, c.well_formed) in
+    all_from_yields_List (fits_at limits c.args.values enough) _ _ _ c.all.ensures.ran
+    (YieldsList-from_range 0 c.field_count.result (length limits) refl (omega (arith, c.field_count.ensures))) (λ x b q k. search (rules, tests))
+    ∙ fits_listed limits c.args.values enough

@@ -1,44 +1,36 @@
--- What `texts_reading::line_forms::operation_named` owes and the search does not find.
-use mathlib.Core.Path.{sym, ◌∙◌}
-use native.Mathlib.Omega.{arith}
-use Rattle.texts_reading.specs.Laws.FormNamedLaws.{operations_none, operations_more}
-use Rattle.texts_reading.specs.Laws.FormNamedLaws.{operation_found, operation_missing}
-use Rattle.texts_reading.specs.Laws.OperationNameLaws.{names_opened, name_short, name_tested}
+-- `texts_reading::line_forms::operation_named` meets its contract: the table's names are those of the rows, in their order.
+-- Assumes nothing.
+use Rattle.std.proofs.Common.{◌≡◌, sym, ap, ◌∙◌, refl, Bool, rules, tests, eqb}
+use Rattle.std.specs.Prelude.{option_map}
+use Rattle.std.specs.Cmp.Lexicographic.{pointwise}
+use Rattle.std.proofs.lemmas.Iterator.{YieldsList-from_slice}
+use Rattle.std.proofs.lemmas.Iterator.Search.{position_from_yields_List}
+use Rattle.texts.specs.declared.Form.TheVariants.{InstructionLine}
+use Rattle.texts_reading.specs.declared.line_forms.OperationLine.{OperationLine}
+use Rattle.texts_reading.specs.Laws.FormNamedLaws.{operation_found}
+use Rattle.texts_reading.specs.Laws.OperationNameLaws.{names_opened, names_of, row_names}
 use Rattle.texts_reading.proofs.line_forms.operation_named.Goals as goal
 
-pub loop-operation-init : goal.loop-operation-init
-loop-operation-init c = operations_none _
-
-pub overflow_cast-end : goal.overflow_cast-end
+pub returns-in-Some : goal.returns-in-Some
 unfolding names_opened
-overflow_cast-end c = omega (arith, name_short c.loop-operation.operation)
+returns-in-Some c =
+    let named : OperationLine → Bool = λ line. pointwise eqb line.name.now c.args.word.now in
+    let lines = c.iter.result.rest.now in
+    let is : names_of lines ≡ row_names = ap names_of c.iter.ensures.rest in
+    ap (option_map (λ o. InstructionLine o))
+    (sym c.in-Some.is
+    ∙ position_from_yields_List named _ _ _ c.position.ensures.ran
+    (YieldsList-from_slice lines refl) (λ x b q k. search (rules, tests)))
+    ∙ operation_found c.args.word.now lines is
 
-pub overflow_add-end : goal.overflow_add-end
+pub returns-in-None : goal.returns-in-None
 unfolding names_opened
-overflow_add-end c = omega (arith, name_short c.loop-operation.operation)
-
-pub slice_bounds-is_word-end : goal.slice_bounds-is_word-end
-unfolding names_opened
-slice_bounds-is_word-end c = omega (arith, name_short c.loop-operation.operation)
-
-pub is_word-requires : goal.is_word-requires
-is_word-requires c = tt
-
-pub returns-then-is_word : goal.returns-then-is_word
-unfolding names_opened
-returns-then-is_word c =
-    let tried = c.is_word in
-    let at = c.loop-operation in
-    operation_found _ _ at.invariant (omega arith)
-    (sym c.if-is_word.true ∙ tried.ensures ∙ name_tested at.operation _ (omega arith))
-
-pub loop-operation-preserved : goal.loop-operation-preserved
-unfolding names_opened
-loop-operation-preserved c =
-    let tried = c.is_word in
-    let at = c.loop-operation in
-    operations_more _ _ at.invariant (omega arith)
-    (sym c.if-is_word.false ∙ tried.ensures ∙ name_tested at.operation _ (omega arith))
-
-pub returns : goal.returns
-returns c = operation_missing _ _ c.loop-operation.invariant (omega arith)
+returns-in-None c =
+    let named : OperationLine → Bool = λ line. pointwise eqb line.name.now c.args.word.now in
+    let lines = c.iter.result.rest.now in
+    let is : names_of lines ≡ row_names = ap names_of c.iter.ensures.rest in
+    ap (option_map (λ o. InstructionLine o))
+    (sym c.in-None.is
+    ∙ position_from_yields_List named _ _ _ c.position.ensures.ran
+    (YieldsList-from_slice lines refl) (λ x b q k. search (rules, tests)))
+    ∙ operation_found c.args.word.now lines is

@@ -1,16 +1,14 @@
 -- `texts_reading::numerals::capped_value` meets its contract.
 -- Assumes nothing.
-use mathlib.Core.Path.{sym, ◌∙◌}
-use Rattle.texts_reading.specs.Laws.DigitLaws.{capped_other, capped_numeral}
+use Rattle.std.proofs.Common.{arith}
+use Rattle.std.proofs.lemmas.Grind.{common_steps}
+use Rattle.texts.specs.Code.LineParts.{numeral_of}
 use Rattle.texts_reading.proofs.numerals.capped_value.Goals as goal
 
-pub returns-then-not-is_numeral : goal.returns-then-not-is_numeral
-returns-then-not-is_numeral c =
-    let tested = c.is_numeral in
-    capped_other _ (sym c.if-not-is_numeral.true ∙ tested.ensures)
+pub returns-then-is_numeral : goal.returns-then-is_numeral
+unfolding numeral_of
+returns-then-is_numeral c = grind (arith, common_steps)
 
-pub returns : goal.returns
-returns c =
-    let tested = c.is_numeral in
-    c.value_of.ensures
-    ∙ capped_numeral _ (sym c.if-not-is_numeral.false ∙ tested.ensures)
+pub returns-else-is_numeral : goal.returns-else-is_numeral
+unfolding numeral_of
+returns-else-is_numeral c = grind (arith, common_steps)

@@ -39,5 +39,5 @@ returns c =
       period = get_or numbers 1 0;
       arrival = get_or numbers 2 0;
       length = 0;
-      body = (c.empty_task-none.ensures i).body;
+      body = (c.empty_task.ensures i).body;
     }

@@ -1,88 +1,69 @@
 -- What `timing_iteration::quotients::kept_interference` owes and the search does not find.
 use mathlib.Core.Path.{refl}
-use Prim.Native.Nat.{◌<◌, ◌+◌, ◌*◌, ◌^◌}
+use Prim.Native.Nat.{◌<◌, ◌^◌}
 use native.Mathlib.Numerals.{add-one}
 use native.Mathlib.Omega.{arith}
 use lib.ListN.{get_or}
-use Rattle.timing.proofs.Laws.LentTimesLaws.{lent_fits, lent_step_lem, lent_end}
+use Rattle.timing.proofs.Laws.LentTimesLaws.{lent_times, lent_fits, lent_step_lem, lent_end}
+use Rattle.timing.specs.Code.BoundedTimes.{no_timing}
 use Rattle.timing.specs.Response.{tasks_above}
-use Rattle.timing_iteration.specs.Laws.KeptLaws.{Reached, reached_kept, reached_anew, ends_fit, kept_more, more_fits}
+use Rattle.timing_iteration.specs.Laws.KeptLaws.{Reached, reached_kept, reached_anew, ends_fit, kept_more, more_fits, kept_set}
 use Rattle.timing_iteration.proofs.quotients.kept_interference.Goals as goal
-use Rattle.timing_iteration.proofs.quotients.kept_interference.Goals.{After-passed-more, After-rounded_up-n, Joined-ends-k, then-ends-k, else-ends-k}
-
--- with one period more, what is kept of task k fits
-more : (c : After-passed-more)
-    → (get_or c.loop-k.ends c.loop-k.k 0 + c.passed-more.result * get_or c.args.periods.now c.loop-k.k 0 < 2 ^ 34)
-    × (get_or c.loop-k.busy c.loop-k.k 0 + c.passed-more.result * get_or c.args.executions.now c.loop-k.k 0 < 2 ^ 34)
-more c = more_fits c.requires.0 _ c.loop-k-test.true c.loop-k.invariant.3 c.requires.2 c.passed-more.ensures.0
+use Rattle.timing_iteration.proofs.quotients.kept_interference.Goals.{Joined-one-r, then-one-r, else-one-r}
 
 -- after the test what is kept of task k is right
-reached : (c : Joined-ends-k)
-    → Reached c.args.executions.now c.args.periods.now c.args.tasks c.args.r c.loop-k.k c.if-ends-k.ends c.if-ends-k.busy
+reached : (c : Joined-one-r) → Reached (get_or c.args.equation.now.times.now.timings c.loop-k.k no_timing) c.args.r c.if-one-r.one
 reached c =
-    let raised = kept_more c.requires.0 _ c.loop-k-test.true c.loop-k.invariant.3 c.passed-more.ensures.0 c.passed-more.ensures.1 in
-    elim c.if-ends-k.branch [
-      | then-ends-k w ↦ reached_anew c.requires.0 _ c.loop-k-test.true raised w.rounded_up-n.ensures w.ends-is w.busy-is
-      | else-ends-k w ↦ reached_kept c.requires.0 _ c.loop-k-test.true raised w.if-ends-k.false w.ends-is w.busy-is
+    let bounded = lent_times c.args.equation.now.times.now.times_of in
+    let below = c.loop-k-test.true in
+    let raised = kept_more bounded _ below (c.loop-k.invariant.2.held _ below) c.passed-more.ensures.0 c.passed-more.ensures.1 in
+    elim c.if-one-r.branch [
+      | then-one-r w ↦ rw w.one-is (reached_anew bounded _ below w.rounded_up-n.ensures)
+      | else-one-r w ↦ rw w.one-is (reached_kept bounded _ below raised w.if-one-r.false)
     ]
 
 -- the term that the turn adds fits
-term : (c : Joined-ends-k) → get_or c.if-ends-k.busy c.loop-k.k 0 < 2 ^ 33
-term c = rw (reached c).right (lent_fits c.requires.0 _ _ c.loop-k-test.true c.requires.2 refl)
+term : (c : Joined-one-r) → c.if-one-r.one.busy < 2 ^ 33
+term c = rw (reached c).right (lent_fits c.args.equation.now.times.now.times_of _ _ c.loop-k-test.true c.requires.0 refl)
 
-pub loop-k-init : goal.loop-k-init
-loop-k-init c = (omega arith, omega arith, λ t times. omega arith, c.requires.3)
-
-pub overflow_mul-ends : goal.overflow_mul-ends
-overflow_mul-ends c = omega (arith, (more (goal.at.overflow_mul-ends c).After-passed-more).0)
-
-pub overflow_add-ends : goal.overflow_add-ends
-overflow_add-ends c = omega (arith, (more (goal.at.overflow_add-ends c).After-passed-more).0)
-
-pub overflow_mul-busy : goal.overflow_mul-busy
-overflow_mul-busy c = omega (arith, (more (goal.at.overflow_mul-busy c).After-passed-more).1)
-
-pub overflow_add-busy : goal.overflow_add-busy
-overflow_add-busy c = omega (arith, (more (goal.at.overflow_add-busy c).After-passed-more).1)
+pub overflow_add-one-in-loop-k : goal.overflow_add-one-in-loop-k
+overflow_add-one-in-loop-k c =
+    let bounded = lent_times c.args.equation.now.times.now.times_of in
+    let below = c.loop-k-test.true in
+    omega (arith, more_fits bounded _ below (c.loop-k.invariant.2.held _ below) c.requires.0 c.passed-more.ensures.0)
 
 pub rounded_up-n-requires : goal.rounded_up-n-requires
 rounded_up-n-requires c =
-    let given = c.requires in
-    let times = given.0 in
+    let times = lent_times c.args.equation.now.times.now.times_of in
     let below = c.loop-k-test.true in
-    (given.2, omega (arith, times.positive _ below, times.within _ below), times.narrow _ below)
+    (c.requires.0, omega (arith, times.positive _ below, times.within _ below), times.narrow _ below)
 
-pub overflow_mul-ends-then-ends-k : goal.overflow_mul-ends-then-ends-k
-overflow_mul-ends-then-ends-k c =
-    omega (arith, ends_fit c.requires.0 _ c.loop-k-test.true _ c.requires.2 c.rounded_up-n.ensures)
+pub overflow_mul-one-then-one-r : goal.overflow_mul-one-then-one-r
+overflow_mul-one-then-one-r c =
+    let bounded = lent_times c.args.equation.now.times.now.times_of in
+    omega (arith, ends_fit bounded _ c.loop-k-test.true _ c.requires.0 c.rounded_up-n.ensures)
 
-pub overflow_mul-busy-then-ends-k : goal.overflow_mul-busy-then-ends-k
-overflow_mul-busy-then-ends-k c =
-    omega (arith, lent_fits c.requires.0 _ _ c.loop-k-test.true c.requires.2 c.rounded_up-n.ensures)
+pub overflow_mul-one-then-one-r-2 : goal.overflow_mul-one-then-one-r-2
+overflow_mul-one-then-one-r-2 c =
+    omega (arith, lent_fits c.args.equation.now.times.now.times_of _ _ c.loop-k-test.true c.requires.0 c.rounded_up-n.ensures)
 
 pub overflow_add-total : goal.overflow_add-total
-overflow_add-total c = omega (arith, term (goal.at.overflow_add-total c).Joined-ends-k)
+overflow_add-total c = omega (arith, term (goal.at.overflow_add-total c).Joined-one-r)
 
 pub loop-k-preserved : goal.loop-k-preserved
 loop-k-preserved c =
-    let joined = (goal.at.loop-k-preserved c).Joined-ends-k in (
-      omega arith,
+    let joined = (goal.at.loop-k-preserved c).Joined-one-r in
+    let times = c.args.equation.now.times.now.times_of in
+    let below = c.loop-k-test.true in (
       omega (arith, term joined),
-      λ t times. omega (
-        arith,
-        lent_step_lem times c.loop-k.k c.args.r c.loop-k-test.true refl,
-        c.loop-k.invariant.2 t times,
-        (reached joined).right,
-      ),
-      (reached joined).kept,
+      omega (arith, lent_step_lem times c.loop-k.k c.args.r below refl, c.loop-k.invariant.1, (reached joined).right),
+      kept_set c.loop-k.invariant.2 (lent_times times).few _ below (reached joined).kept,
     )
 
-pub returns : goal.returns
+pub returns-clause-upper_bound : goal.returns-clause-upper_bound
 unfolding tasks_above
-returns c = record {
-  upper_bound = (
-    omega arith,
-    λ t times. rw (← add-one) (omega (arith, lent_end times c.loop-k.k c.args.r c.loop-k-test.false, c.loop-k.invariant.2 t times)),
-  );
-  kept = c.loop-k.invariant.3;
-}
+returns-clause-upper_bound c =
+    let times = c.args.equation.now.times.now.times_of in (
+      omega arith,
+      rw (← add-one) (omega (arith, lent_end times c.loop-k.k c.args.r c.loop-k-test.false, c.loop-k.invariant.1)),
+    )

@@ -1,14 +1,8 @@
 -- What `timing_iteration::utilisation::common_divisor` owes and the search does not find.
 use mathlib.Core.Path.{◌≡◌}
-use native.Mathlib.Nat.{dvd_refl, dvd-zero, dvd-mod_iff, mod-lt}
+use native.Mathlib.Nat.{dvd_refl, dvd-zero, dvd-mod_iff}
 use native.Mathlib.Omega.{arith}
 use Rattle.timing_iteration.proofs.utilisation.common_divisor.Goals as goal
-
-pub loop-y-init : goal.loop-y-init
-loop-y-init c = (c.requires, λ d first second. (first, second))
-
-pub loop-y-smaller : goal.loop-y-smaller
-loop-y-smaller c = omega (arith, mod-lt c.loop-y.x {m = c.loop-y.y} (omega arith))
 
 pub loop-y-preserved : goal.loop-y-preserved
 loop-y-preserved c =

@@ -15,9 +15,6 @@ group : (c : After-wide_rounded_up-whole)
 group c =
     quotient_grouped _ _ (omega arith) ((le-div_iff_mul-le c.requires.positive).1 (omega arith)) c.wide_rounded_up-unit.ensures c.wide_rounded_up-whole.ensures
 
-pub wide_rounded_up-unit-requires : goal.wide_rounded_up-unit-requires
-wide_rounded_up-unit-requires c = (omega arith, (le-div_iff_mul-le c.requires.positive).1 (omega arith))
-
 pub wide_rounded_up-whole-requires : goal.wide_rounded_up-whole-requires
 wide_rounded_up-whole-requires c = (omega arith, rw c.wide_rounded_up-unit.ensures (rounded_up_positive _ _ (omega arith)))
 

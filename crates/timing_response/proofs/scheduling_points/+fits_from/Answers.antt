@@ -1,108 +1,101 @@
 -- What `timing_response::scheduling_points::fits_from` owes and the search does not find. Each return is one case of the
--- definition, for any table of these times. Nothing overflows, since 1 ≤ C ≤ P makes the windows' executions less than
+-- definition. Nothing overflows, since 1 ≤ C ≤ P makes the windows' executions less than
 -- b + P, and base is at most b where they are added to it.
-use mathlib.Core.Path.{◌≡◌, sym, ◌∙◌}
-use mathlib.Core.List.{List}
+use mathlib.Core.Path.{sym, ap, ◌∙◌}
+use mathlib.Core.Bool.{not}
 use Prim.Native.Nat.{ℕ, ◌+◌, ◌*◌, ◌^◌, ◌≤◌, ◌<◌}
 use native.Mathlib.Nat.{mul-le-mul_right}
 use native.Mathlib.Omega.{arith}
+use borrow.Author.Tests.{eq-eqb}
 use lib.ListN.{get_or}
+use mathlib.Core.Path.{◌≡◌}
+use Rattle.timing.specs.declared.TaskTimes.{TaskTimes}
+use Rattle.timing.specs.declared.Timing.{Timing}
 use Rattle.timing.specs.Response.{rounded_up}
-use Rattle.timing.specs.Code.ResponseParts.{BoundedTimes}
+use Rattle.timing.specs.Code.BoundedTimes.{no_timing}
 use Rattle.timing.proofs.Laws.FitLaws.{from_last, from_whole, from_before, from_short, from_end, from_fits, from_some}
-use Rattle.timing.proofs.Laws.LentTimesLaws.{lent_read}
+use Rattle.timing.proofs.Laws.LentTimesLaws.{lent_read, lent_times}
 use Rattle.timing_response.proofs.scheduling_points.+fits_from.Goals as goal
 
--- task j's period is positive
-positive : {executions periods : List ℕ} {tasks : ℕ} → BoundedTimes executions periods tasks → (j : ℕ) → j < tasks
-    → 1 ≤ get_or periods j 0
-positive times j below = omega (arith, times.positive _ below, times.within _ below)
+-- what task j asks
+abbrev asked : TaskTimes → ℕ → Timing
+asked times j = get_or times.timings j no_timing
+
+-- its period is positive
+positive : (times : TaskTimes) (j : ℕ) → j < times.table.now.tasks → 1 ≤ (asked times j).period
+positive times j below =
+    let bounded = lent_times times.times_of in omega (arith, bounded.positive _ below, bounded.within _ below)
 
 -- what the call works out fits
-sizes : {executions periods : List ℕ} {tasks b n : ℕ} → BoundedTimes executions periods tasks → (j : ℕ) → j < tasks
-    → b < 2 ^ 32 → n ≡ rounded_up b (get_or periods j 0)
-    → (n * get_or executions j 0 < 2 ^ 33) × (n * get_or periods j 0 < b + get_or periods j 0)
+sizes : (times : TaskTimes) {b n : ℕ} (j : ℕ) → j < times.table.now.tasks → b < 2 ^ 32 → n ≡ rounded_up b (asked times j).period
+    → (n * (asked times j).execution < 2 ^ 33) × (n * (asked times j).period < b + (asked times j).period)
 sizes times j below small same =
-    from_fits (positive times j below) (times.within _ below) (times.narrow _ below) small same
+    let bounded = lent_times times.times_of in
+    from_fits (positive times j below) (bounded.within _ below) (bounded.narrow _ below) small same
 
 pub returns-then-b-base : goal.returns-then-b-base
-returns-then-b-base t c = λ table times. from_short _ _ _ c.if-b-base.true
+returns-then-b-base t c = from_short _ _ _ c.if-b-base.true
 
-pub returns-then-j-tasks : goal.returns-then-j-tasks
-returns-then-j-tasks t c = λ table times.
-    from_end times.timeable c.args.j (omega (arith, times.count)) c.if-b-base.false
+pub returns-then-j-times : goal.returns-then-j-times
+returns-then-j-times t c = from_end c.args.times.now.times_of.timeable c.args.j (omega arith) c.if-b-base.false
 
 pub rounded_up-windows-requires : goal.rounded_up-windows-requires
 rounded_up-windows-requires t c =
-    let below : c.args.j < c.args.tasks = omega arith in
-    (c.requires.3, positive c.requires.0 _ below, c.requires.0.narrow _ below)
+    let below : c.args.j < c.args.times.now.table.now.tasks = omega arith in
+    (c.requires.2, positive c.args.times.now _ below, (lent_times c.args.times.now.times_of).narrow _ below)
 
 pub overflow_mul-done : goal.overflow_mul-done
 overflow_mul-done t c =
-    omega (arith, sizes c.requires.0 c.args.j (omega arith) c.requires.3 c.rounded_up-windows.ensures)
+    omega (arith, sizes c.args.times.now c.args.j (omega arith) c.requires.2 c.rounded_up-windows.ensures)
 
 pub overflow_add-done : goal.overflow_add-done
 overflow_add-done t c =
-    omega (arith, sizes c.requires.0 c.args.j (omega arith) c.requires.3 c.rounded_up-windows.ensures)
+    omega (arith, sizes c.args.times.now c.args.j (omega arith) c.requires.2 c.rounded_up-windows.ensures)
 
 pub overflow_mul-whole : goal.overflow_mul-whole
 overflow_mul-whole t c =
-    let below : c.args.j < c.args.tasks = omega arith in
+    let below : c.args.j < c.args.times.now.table.now.tasks = omega arith in
     omega (
       arith,
-      sizes c.requires.0 c.args.j below c.requires.3 c.rounded_up-windows.ensures,
-      c.requires.0.narrow _ below,
+      sizes c.args.times.now c.args.j below c.requires.2 c.rounded_up-windows.ensures,
+      (lent_times c.args.times.now.times_of).narrow _ below,
     )
 
 pub fits_from-requires : goal.fits_from-requires
-fits_from-requires t c = (
-  omega arith,
-  (
-    c.requires.0,
-    omega arith,
-    omega (arith, sizes c.requires.0 c.args.j (omega arith) c.requires.3 c.rounded_up-windows.ensures),
-    omega arith,
-  ),
-)
-
-pub returns-then-whole-b : goal.returns-then-whole-b
-returns-then-whole-b t c = λ table times.
-    from_whole times.timeable (omega (arith, times.count)) (lent_read times _ (omega arith)) (omega arith)
-    c.rounded_up-windows.ensures c.if-whole-b.true (c.fits_from.ensures table times)
-
-pub fits_from-requires-2 : goal.fits_from-requires-2
-fits_from-requires-2 t c = (
-  omega arith,
-  (
-    c.requires.0,
-    omega arith,
-    omega (arith, sizes c.requires.0 c.args.j (omega arith) c.requires.3 c.rounded_up-windows.ensures),
-    omega arith,
-  ),
-)
-
-pub returns-then-fits_from : goal.returns-then-fits_from
-returns-then-fits_from t c = λ table times.
-    from_last times.timeable (omega (arith, times.count)) (lent_read times _ (omega arith)) (omega arith)
-    c.rounded_up-windows.ensures (sym c.if-fits_from.true ∙ c.fits_from-2.ensures table times)
+fits_from-requires t c =
+    let fits = sizes c.args.times.now c.args.j (omega arith) c.requires.2 c.rounded_up-windows.ensures in
+    (omega arith, (omega arith, omega (arith, fits), omega arith))
 
 pub overflow_sub-done : goal.overflow_sub-done
 overflow_sub-done t c =
-    let some = from_some (positive c.requires.0 c.args.j (omega arith)) c.rounded_up-windows.ensures c.if-whole-b.false in
-    omega (arith, mul-le-mul_right (get_or c.args.executions.now c.args.j 0) some)
+    let some = from_some (positive c.args.times.now c.args.j (omega arith)) c.rounded_up-windows.ensures c.if-whole-b.true in
+    omega (arith, mul-le-mul_right (asked c.args.times.now c.args.j).execution some)
 
 pub overflow_sub-whole : goal.overflow_sub-whole
 overflow_sub-whole t c =
-    let some = from_some (positive c.requires.0 c.args.j (omega arith)) c.rounded_up-windows.ensures c.if-whole-b.false in
-    omega (arith, mul-le-mul_right (get_or c.args.periods.now c.args.j 0) some)
+    let some = from_some (positive c.args.times.now c.args.j (omega arith)) c.rounded_up-windows.ensures c.if-whole-b.true in
+    omega (arith, mul-le-mul_right (asked c.args.times.now c.args.j).period some)
 
-pub fits_from-requires-3 : goal.fits_from-requires-3
-fits_from-requires-3 t c =
-    let fits = sizes c.requires.0 c.args.j (omega arith) c.requires.3 c.rounded_up-windows.ensures in
-    (omega arith, (c.requires.0, omega arith, omega (arith, fits), omega (arith, fits)))
+pub fits_from-requires-then-whole-b : goal.fits_from-requires-then-whole-b
+fits_from-requires-then-whole-b t c =
+    let fits = sizes c.args.times.now c.args.j (omega arith) c.requires.2 c.rounded_up-windows.ensures in
+    (omega arith, (omega arith, omega (arith, fits), omega (arith, fits)))
 
-pub returns : goal.returns
-returns t c = λ table times.
-    from_before times.timeable (omega (arith, times.count)) (lent_read times _ (omega arith)) (omega arith)
-    c.rounded_up-windows.ensures c.if-whole-b.false (sym c.if-fits_from.false ∙ c.fits_from-2.ensures table times)
-    (c.fits_from-3.ensures table times)
+pub returns-then-fits_from : goal.returns-then-fits_from
+returns-then-fits_from t c =
+    let times = c.args.times.now.times_of in
+    c.if-fits_from.true ∙ from_last times.timeable (omega arith) (lent_read times _ (omega arith)) (omega arith)
+    c.rounded_up-windows.ensures (sym c.if-fits_from.true ∙ c.fits_from.ensures)
+
+pub returns-then-whole-b : goal.returns-then-whole-b
+returns-then-whole-b t c =
+    let times = c.args.times.now.times_of in
+    from_before times.timeable (omega arith) (lent_read times _ (omega arith)) (omega arith)
+    c.rounded_up-windows.ensures c.if-whole-b.true (sym c.if-fits_from.false ∙ c.fits_from.ensures) c.fits_from-then-whole-b.ensures
+
+pub returns-else-whole-b : goal.returns-else-whole-b
+returns-else-whole-b t c =
+    let times = c.args.times.now.times_of in
+    ap not (eq-eqb _ _ c.if-whole-b.false)
+    ∙ from_whole times.timeable (omega arith) (lent_read times _ (omega arith)) (omega arith)
+    c.rounded_up-windows.ensures c.if-whole-b.false (sym c.if-fits_from.false ∙ c.fits_from.ensures)

@@ -6,23 +6,21 @@ use native.Mathlib.Omega.{arith}
 use Rattle.walk_trials.specs.Laws.AnswerLaws.{ended_answer, tried_answer}
 use Rattle.walk_trials.specs.Laws.WalkEntryLaws.{walk_lent}
 use Rattle.walk_trials.proofs.entries.walk_table.Goals as goal
-
-pub returns-then-finished : goal.returns-then-finished
-returns-then-finished c =
-    let finished = sym c.finished.ensures ∙ c.if-finished.true in
-    let walked = ended_answer 512 {count = 0} {allowance = c.args.allowance} _ (omega arith) finished c.ended.ensures in
-    record { room = c.requires.2; walked = rw c.outcome_of.ensures (walk_lent c.lend-l.ensures walked.1) }
+use Rattle.walk_trials.proofs.entries.walk_table.Goals.{then-finished, else-finished}
 
 pub trial-r-requires : goal.trial-r-requires
 trial-r-requires c =
-    let given = c.lend-l.ensures in
-    (given.few, given.whole, omega arith, omega arith, c.requires.2)
+    (omega arith, omega arith)
 
 pub returns : goal.returns
 returns c =
-    let going = sym c.finished.ensures ∙ c.if-finished.false in
-    let walked = tried_answer {left = 512} going (λ none. omega arith) (omega arith) (c.trial-r.ensures.room, c.trial-r.ensures.came) in
-    record {
-      room = c.trial-r.ensures.room.0 ∙ c.requires.2;
-      walked = rw c.outcome_of-2.ensures (walk_lent c.lend-l.ensures walked.1);
-    }
+    rw c.outcome_of.ensures (elim c.if-finished.branch [
+      | then-finished w ↦
+          let finished = sym c.finished.ensures ∙ w.if-finished.true in
+          let walked = ended_answer 512 {count = 0} {allowance = c.args.allowance} _ (omega arith) finished w.ended-r.ensures in
+          rw (w.r-is, w.count-is, w.start-is, w.path-is) (walk_lent c.lend-lent.ensures walked.1)
+      | else-finished w ↦
+          let going = sym c.finished.ensures ∙ w.if-finished.false in
+          let walked = tried_answer {left = 512} going (λ none. omega arith) (omega arith) (w.trial-r.ensures.room, w.trial-r.ensures.came) in
+          rw (w.r-is, w.count-is, w.start-is, w.path-is) (walk_lent c.lend-lent.ensures walked.1)
+    ])

@@ -4,26 +4,17 @@ use Rattle.writer.proofs.Laws.SiteLaws.{locks_counted}
 use Rattle.writer_layout.specs.Laws.CountedLaws.{tasks_from, total_whole, total_more, total_all}
 use Rattle.writer_layout.proofs.claimed_parts.record_total.Goals as goal
 
-pub task_count-count-requires : goal.task_count-count-requires
-task_count-count-requires c = tt
-
 pub loop-i-init : goal.loop-i-init
-loop-i-init c = (omega arith, omega arith, total_whole _)
-
-pub entry_of-requires : goal.entry_of-requires
-entry_of-requires c = tt
-
-pub body_count-requires : goal.body_count-requires
-body_count-requires c = tt
+loop-i-init c = (omega arith, total_whole _)
 
 pub loop-i-preserved : goal.loop-i-preserved
 loop-i-preserved c =
     let here =
     tasks_from c.args.t c.loop-i.i c.entry_of.ensures
-    (omega (arith, c.task_count-count.ensures)) in
-    (omega arith, omega arith, total_more _ c.loop-i.i _ _ here c.body_count.ensures.0 c.loop-i.invariant.2)
+    (omega (arith, c.task_count-i-end.ensures)) in
+    (omega arith, total_more _ c.loop-i.i _ _ here c.body_count.ensures.0 c.loop-i.invariant.1)
 
 pub returns : goal.returns
 returns c =
-    let all = total_all _ _ _ _ (omega arith) c.loop-i.invariant.2 in
+    let all = total_all _ _ _ _ (omega arith) c.loop-i.invariant.1 in
     (omega (arith, all, locks_counted c.args.t), omega arith)

@@ -1,8 +1,7 @@
 -- `writer_layout::claimed_parts::record_total` meets its contract. The loop's invariant: the records of the first i tasks are counted.
--- The measure is the number of tasks left.
 -- Assumes nothing.
 use mathlib.Core.Path.{◌≡◌}
-use Prim.Native.Nat.{◌+◌, ◌*◌, ◌-◌, ◌≤◌}
+use Prim.Native.Nat.{◌+◌, ◌*◌, ◌≤◌}
 use Rattle.writer.specs.Claims.{claimed_tasks}
 use Rattle.writer.proofs.Laws.SiteLaws.{record_total}
 use Rattle.writer_layout.specs.Laws.CountedLaws.{total_from}
@@ -10,7 +9,4 @@ use Rattle.writer_layout.proofs.claimed_parts.record_total.Given as goal
 
 abbrev pub invariant-loop-i : goal.invariant-loop-i
 invariant-loop-i l =
-    (l.i ≤ l.count) × (l.total ≤ 18 * l.i) × (l.total + total_from (claimed_tasks l.t) l.i ≡ record_total (claimed_tasks l.t))
-
-abbrev pub decreases-loop-i : goal.decreases-loop-i
-decreases-loop-i l = l.count - l.i
+    (l.total ≤ 18 * l.i) × (l.total + total_from (claimed_tasks l.t) l.i ≡ record_total (claimed_tasks l.t))

@@ -5,6 +5,5 @@ use Rattle.writer_layout.proofs.layouts.put_task.Goals as goal
 
 pub returns : goal.returns
 returns c =
-    task_laid c.args.e c.args.r c.args.link c.requires.1
-    c.body_count.ensures.0
-    c.link_at-first.ensures c.put_task_record-body.ensures c.put_body.ensures
+    task_laid c.args.e c.args.r c.args.link c.body_count.ensures.0 c.link_at-first.ensures c.put_task_record.ensures
+    c.put_body.ensures

@@ -3,28 +3,12 @@ use mathlib.Core.Path.{refl}
 use native.Mathlib.Omega.{arith}
 use Rattle.writer.specs.Claims.{claimed_tasks}
 use Rattle.writer_layout.specs.Laws.CountedLaws.{tasks_from}
-use Rattle.writer_layout.specs.Laws.LayingLaws.{laying_whole, laying_more, laying_all, laying_length}
+use Rattle.writer_layout.specs.Laws.LayingLaws.{laying_whole, laying_more, laying_all}
 use Rattle.writer_layout.specs.Laws.LayingLaws.{tasks_left_whole, tasks_left_more, tasks_left_none}
 use Rattle.writer_layout.proofs.layouts.put_tasks.Goals as goal
 
-pub task_count-count-requires : goal.task_count-count-requires
-task_count-count-requires c = tt
-
 pub loop-i-init : goal.loop-i-init
-loop-i-init c = (omega arith, omega arith, laying_whole _ _ (tasks_left_whole _))
-
-pub entry_of-e-requires : goal.entry_of-e-requires
-entry_of-e-requires c = tt
-
-pub body_count-requires : goal.body_count-requires
-body_count-requires c = tt
-
-pub link_at-requires : goal.link_at-requires
-link_at-requires c = tt
-
-pub put_task-next-requires : goal.put_task-next-requires
-put_task-next-requires c =
-    (omega arith, omega (arith, laying_length c.loop-i.invariant.2 c.requires))
+loop-i-init c = (omega arith, laying_whole _ (tasks_left_whole _))
 
 pub loop-i-preserved : goal.loop-i-preserved
 loop-i-preserved c =
@@ -34,12 +18,9 @@ loop-i-preserved c =
     let split =
     tasks_left_more tasks c.loop-i.r c.loop-i.i here
     c.body_count.ensures.0 refl all c.link_at.ensures in
-    (omega arith, omega arith, laying_more c.requires split c.loop-i.invariant.2 c.put_task-next.ensures)
-
-pub shape_of-out : goal.shape_of-out
-shape_of-out c = laying_length c.loop-i.invariant.2 c.requires
+    (omega arith, laying_more split c.loop-i.invariant.1 c.put_task.ensures)
 
 pub returns : goal.returns
 returns c =
     laying_all (tasks_left_none _ _ c.loop-i.i (omega (arith, c.task_count-count.ensures)))
-    c.loop-i.invariant.2
+    c.loop-i.invariant.1

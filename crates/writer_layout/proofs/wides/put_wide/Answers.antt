@@ -1,9 +1,8 @@
--- `writer_layout::wides::put_wide` meets its contract: the four bytes stand one after the other.
+-- `writer_layout::wides::put_wide` meets its contract: the four bytes are the wide field's.
 -- Assumes nothing.
-use borrow.Author.Rules.{rules}
-use Rattle.writer_layout.specs.Laws.WideLaws.{wide_written}
+use Rattle.writer.specs.Layout.{wide_bytes}
 use Rattle.writer_layout.proofs.wides.put_wide.Goals as goal
 
 pub returns : goal.returns
-returns c =
-    search (wide_written c.args.x, rules)
+unfolding wide_bytes
+returns c = rw (← c.to_le_bytes.ensures) c.put_word.ensures

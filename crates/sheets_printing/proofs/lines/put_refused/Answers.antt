@@ -1,0 +1,17 @@
+-- The words of the line stand one after the other.
+-- Assumes nothing.
+use Rattle.sheets.specs.Sheets.{refused_line}
+use Rattle.sheets.specs.SheetWords.{refused_word}
+use Rattle.notation_buffers.specs.Laws.LineLaws.{line_begun, line_more, line_ended}
+use Rattle.sheets_printing.proofs.lines.put_refused.Goals as goal
+
+pub returns : goal.returns
+unfolding refused_line refused_word
+returns c =
+    line_ended
+    (line_more
+    (line_more
+    (line_begun c.put_word.ensures)
+    c.then_number.ensures)
+    c.then_number-2.ensures)
+    c.end_line.ensures

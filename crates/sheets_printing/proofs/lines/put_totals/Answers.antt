@@ -1,0 +1,18 @@
+-- The words of the line stand one after the other.
+-- Assumes nothing.
+use Rattle.sheets.specs.SheetWords.{tasks_word, jobs_word}
+use Rattle.notation_buffers.specs.Laws.LineLaws.{line_begun, line_more, line_ended}
+use Rattle.sheets_printing.proofs.lines.put_totals.Goals as goal
+
+pub returns : goal.returns
+unfolding tasks_word jobs_word
+returns c =
+    line_ended
+    (line_more
+    (line_more
+    (line_more
+    (line_begun c.put_word.ensures)
+    c.then_number.ensures)
+    c.then_word.ensures)
+    c.then_number-2.ensures)
+    c.end_line.ensures
