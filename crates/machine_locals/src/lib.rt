@@ -2,6 +2,7 @@
 // and what runs answer.
 #![tactic(auto)]
 
+pub mod answers;
 pub mod held;
 pub mod registers;
 pub mod run_answers;

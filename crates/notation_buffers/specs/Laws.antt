@@ -1,4 +1,6 @@
+pub mod BytesLaws
 pub mod FrontLaws
 pub mod LineLaws
 pub mod PageLaws
+pub mod PlaceLaws
 pub mod WritingLaws

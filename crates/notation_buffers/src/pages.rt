@@ -1,10 +1,11 @@
-// A page: a lent buffer that is written from its front on. What it has no room for is left out.
-ghost use Rattle.std.specs.Prelude.{◌≡◌, ◌≤◌, [], ◌∷◌, length};
+// A page: a lent buffer that is written from its front or from any place on. What it has no room for is left out.
+ghost use Rattle.std.specs.Prelude.{◌≡◌, ◌≤◌, [], ◌∷◌, min, length};
 ghost use Rattle.notation.specs.Letters.{space, newline};
 ghost use Rattle.notation.specs.Texts.{decimal};
 ghost use Rattle.notation_buffers.specs.Code.Spaced.{spaced_numbers};
 
-use notation::characters::{NEWLINE, SPACE, ZERO};
+use crate::{write_bytes, write_number};
+use notation::characters::{NEWLINE, SPACE};
 
 // A lent buffer, and the place in it of the next byte.
 #[derive(Drop)]
@@ -26,7 +27,17 @@ impl<'a> Page<'a> {
         Page { bytes, at: 0 }
     }
 
-    // How many bytes of the buffer have been written.
+    // A page that begins at any place. Past the buffer's end it has room for nothing.
+    pub fn starting_at(bytes: &'a mut [u8], at: usize) -> Page<'a>
+        ensures same { result.bytes.ghost_name ≡ bytes.entry.ghost_name }
+        ensures holds { result.bytes.now ≡ bytes.old }
+        ensures place { result.at ≡ min at (length bytes.old) }
+    {
+        let place = at.min(bytes.len());
+        Page { bytes, at: place }
+    }
+
+    // The place of the next byte: on a page that began at the front, how many bytes of the buffer have been written.
     pub fn written(&self) -> usize
         ensures counts { result ≡ self.now.at }
         ensures within { result ≤ length self.now.bytes.now }
@@ -58,14 +69,20 @@ impl<'a> Page<'a> {
         }
     }
 
+    // Writes a word of any length byte by byte. A copy of so many bytes calls a function that no library here holds.
+    pub fn put_letters(&mut self, word: &[u8])
+        ensures { Puts self.old word.now self.new }
+    {
+        let room = self.bytes.len();
+        self.at = write_bytes(self.bytes, room, self.at, word);
+    }
+
     // Writes a number in decimal.
     pub fn put_number(&mut self, x: u64)
         ensures { Puts self.old (decimal x) self.new }
     {
-        if 10 <= x {
-            self.put_number(x / 10);
-        }
-        self.put_byte(ZERO + (x % 10) as u8);
+        let room = self.bytes.len();
+        self.at = write_number(self.bytes, room, self.at, x);
     }
 
     // Writes a space and a word.
@@ -82,6 +99,13 @@ impl<'a> Page<'a> {
     {
         self.put_byte(SPACE);
         self.put_number(x);
+    }
+
+    // Writes a space and a byte's number.
+    pub fn then_byte(&mut self, x: u8)
+        ensures { Puts self.old (space ∷ decimal x) self.new }
+    {
+        self.then_number(u64::from(x));
     }
 
     // Writes the numbers of bytes, with a space before each.

@@ -1,5 +1,6 @@
 pub mod FlagLaws
 pub mod FlagsRead
+pub mod ReachLaws
 pub mod ReadLaws
 pub mod ReplayTableLaws
 pub mod SlipNumbers

@@ -17,7 +17,8 @@ pub fn replay_table(listed: &ListedTable, order: &[u8]) -> Result<End, Refused<u
     ensures { ReplayOf listed.now.table listed.now.list order.now result }
 {
     let lent = lend(listed);
-    replay_from(&lent, listed.table.tasks, order)
+    let mut s = lent.start;
+    replay_from(&lent, listed.table.tasks, &mut s, order)
 }
 
 // What an order of a file comes to: the file's refusal, the first fault of the order, or how it ends.

@@ -5,6 +5,7 @@ ghost use Rattle.taskfile.specs.Code.Refusals.{number_of, outcome};
 ghost use Rattle.order_states.specs.Code.ReplayParts.{end_in};
 ghost use Rattle.order_states.specs.Code.SnapshotSteps.{slip_in, replay_in};
 ghost use Rattle.order_states.specs.Code.StateBytes.{snapshot_in};
+ghost use Rattle.order_replay.specs.Code.Reaching.{left_in};
 
 use crate::ends::{failed_in, finished};
 use machine::End;
@@ -20,7 +21,7 @@ fn end_at(s: &State) -> End
     ensures { result ≡ end_in (snapshot_in s.now.bytes) }
 {
     let store = bytes_at(&s.bytes, STORE_AT);
-    let failed = failed_in(s);
+    let failed = failed_in(&s.bytes);
     End { store, failed }
 }
 
@@ -40,22 +41,29 @@ fn slip(lent: &Lent, tasks: u8, s: &State, byte: u8) -> Refusal
     }
 }
 
-// The replay of an order's bytes, in a table with so many tasks.
-pub fn replay_from(lent: &Lent, tasks: u8, order: &[u8]) -> Result<End, Refused<usize>>
-    ensures { outcome result ≡ mapped end_in (replay_in lent.now.program lent.now.waits lent.now.locks tasks
-        (snapshot_in lent.now.start.bytes) 0 order.now) }
+// The replay of an order's bytes from a state on, in a table with so many tasks. It leaves the state that it
+// reached, where the order is at fault too.
+pub fn replay_from(
+    lent: &Lent,
+    tasks: u8,
+    s: &mut State,
+    order: &[u8],
+) -> Result<End, Refused<usize>>
+    ensures came { outcome result ≡ mapped end_in (replay_in lent.now.program lent.now.waits lent.now.locks tasks
+        (snapshot_in s.old.bytes) 0 order.now) }
+    ensures left { snapshot_in s.new.bytes ≡ left_in lent.now.program lent.now.waits lent.now.locks
+        (snapshot_in s.old.bytes) order.now }
 {
-    let mut s = lent.start;
     for (index, byte) in order.iter().enumerate() {
-        if finished(&lent.program, &s) {
+        if finished(&lent.program, &s.bytes) {
             return Err(Refusal::Extra.at(index));
         }
-        if !step(lent, &mut s, *byte) {
-            return Err(slip(lent, tasks, &s, *byte).at(index));
+        if !step(lent, s, *byte) {
+            return Err(slip(lent, tasks, s, *byte).at(index));
         }
     }
-    if finished(&lent.program, &s) {
-        Ok(end_at(&s))
+    if finished(&lent.program, &s.bytes) {
+        Ok(end_at(s))
     } else {
         Err(Refusal::Short.at(order.len()))
     }

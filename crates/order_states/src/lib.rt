@@ -10,7 +10,7 @@ ghost use Rattle.order_states.specs.Code.StateBytes.{IsState};
 
 use order::Frame;
 use taskfile::Ceilings;
-use taskfile::limits::{INSTRUCTIONS, JOBS, MOST_TASKS, TASKS, VARIABLES};
+use taskfile::limits::{INSTRUCTIONS, JOBS, MOST_JOBS, MOST_TASKS, TASKS, VARIABLES};
 
 // ---- An order.
 
@@ -105,6 +105,12 @@ pub struct LentTimes {
 
 // No task's number.
 pub const NO_TASK: u8 = MOST_TASKS;
+
+// No job's number.
+pub const NO_JOB: u8 = MOST_JOBS;
+
+// No move's byte.
+pub const NO_MOVE: u8 = VALUES * MOST_TASKS;
 
 // Whose turn a byte of a task is: the job that steps, and how many active jobs are under it.
 #[derive(Clone, Copy)]

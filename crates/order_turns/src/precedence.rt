@@ -6,20 +6,21 @@ ghost use Rattle.order_states.specs.Code.StateBytes.{snapshot_in};
 use machine_locals::held::priority_of;
 use notation::bytes::bytes_at;
 use order_states::{
-    DEPTH_AT, FRAME_BYTES, HELD_AT, Lent, OWNERS_AT, STACK_AT, State, UNENDED_AT, WAITS,
+    DEPTH_AT, FRAME_BYTES, HELD_AT, Lent, OWNERS_AT, STACK_AT, STATE_BYTES, State, UNENDED_AT,
+    WAITS,
 };
 use taskfile::limits::{MOST_JOBS, MOST_TASKS, TASKS};
 use timing::{Job, ListedJob};
 
 // Must job y wait for a job not yet ended? It must if a task's first such job is below the first that y need not wait
 // for. All tasks are asked, whatever the first says: the compiler then asks the eight at once.
-pub fn must_wait(waits: &[u8; WAITS], s: &State, y: ListedJob) -> bool
-    ensures { result ≡ must_wait waits.now (snapshot_in s.now.bytes).unended y.number }
+pub fn must_wait(waits: &[u8; WAITS], s: &[u8; STATE_BYTES], y: ListedJob) -> bool
+    ensures { result ≡ must_wait waits.now (snapshot_in s.now).unended y.number }
 {
     let row = TASKS * (y.number as usize);
     let mut waiting = false;
     for k in 0..TASKS {
-        if s.bytes[UNENDED_AT + k] < waits[row + k] {
+        if s[UNENDED_AT + k] < waits[row + k] {
             waiting = true;
         }
     }

@@ -1,6 +1,6 @@
 // Which job of a task may start at a state.
 ghost use Rattle.std.specs.Prelude.{◌≡◌, ◌<◌};
-ghost use Rattle.order_states.specs.Code.SnapshotSteps.{starts_above, start_turn, start_in};
+ghost use Rattle.order_states.specs.Code.SnapshotSteps.{nobody, starts_above, start_turn, start_in};
 ghost use Rattle.order_states.specs.Code.StateBytes.{snapshot_in};
 ghost use Rattle.taskfile.specs.Chains.{most_tasks};
 
@@ -8,7 +8,7 @@ use crate::precedence::{level, must_wait};
 use crate::programs::owned_by;
 use machine_locals::registers::fresh_local;
 use order::Frame;
-use order_states::{DEPTH_AT, Due, Lent, State, UNENDED_AT};
+use order_states::{DEPTH_AT, Due, Lent, STATE_BYTES, State, UNENDED_AT};
 use taskfile::Task;
 use taskfile::limits::MOST_TASKS;
 use timing::{Job, ListedJob};
@@ -21,20 +21,27 @@ pub fn may_start(lent: &Lent, s: &State, low: u8, i: Task) -> bool
         return false;
     }
     let y = s.bytes[UNENDED_AT + (i.0 as usize)];
-    owned_by(&lent.program, i, Job(y)) && !must_wait(&lent.waits, s, ListedJob { number: y })
+    owned_by(&lent.program, i, Job(y)) && !must_wait(&lent.waits, &s.bytes, ListedJob { number: y })
+}
+
+// It is nobody's turn.
+pub fn no_turn() -> Option<Due>
+    ensures { result ≡ nobody }
+{
+    None
 }
 
 // The turn of task i's first job not yet ended, which starts.
-pub fn start_turn(s: &State, i: Task) -> Due
+pub fn start_turn(s: &[u8; STATE_BYTES], i: Task) -> Due
     requires { i.0 < most_tasks }
-    ensures { result ≡ start_turn (snapshot_in s.now.bytes) i.0 }
+    ensures { result ≡ start_turn (snapshot_in s.now) i.0 }
 {
     Due {
         frame: Frame {
-            job: Job(s.bytes[UNENDED_AT + (i.0 as usize)]),
+            job: Job(s[UNENDED_AT + (i.0 as usize)]),
             local: fresh_local(),
         },
-        under: s.bytes[DEPTH_AT],
+        under: s[DEPTH_AT],
     }
 }
 
@@ -45,8 +52,8 @@ pub fn start_of(lent: &Lent, s: &State, i: Task) -> Option<Due>
 {
     let low = level(lent, s);
     if may_start(lent, s, low, i) {
-        Some(start_turn(s, i))
+        Some(start_turn(&s.bytes, i))
     } else {
-        None
+        no_turn()
     }
 }

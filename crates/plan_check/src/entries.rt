@@ -27,7 +27,7 @@ pub fn check_table(listed: &ListedTable, plan: &[u8]) -> Result<PlanChecked, Ref
         times: &l.times,
         marks: &ran.marks,
     };
-    legality_fault(&marked, plan, listed.table.store, &ran.stores, k)?;
+    legality_fault(Ok(()), &marked, plan, listed.table.store, &ran.stores, k)?;
     let store = end_store(listed.table.store, &ran.stores, k);
     Ok(PlanChecked {
         end: End {

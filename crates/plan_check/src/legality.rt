@@ -1,5 +1,5 @@
 // Numbers 43 to 45, and how a legal plan ends.
-ghost use Rattle.std.specs.Prelude.{◌≡◌, ◌+◌, ◌*◌, ◌≤◌, ◌<◌, length};
+ghost use Rattle.std.specs.Prelude.{◌≡◌, ◌+◌, ◌*◌, ◌≤◌, ◌<◌, length, Err, IfOk, IfErr};
 ghost use Rattle.notation.specs.Lists.{last_or};
 ghost use Rattle.plan.specs.Runs.{guess};
 ghost use Rattle.plan_marks.specs.Code.Marks.{stores_in};
@@ -53,18 +53,23 @@ pub fn guess_fault(
     Ok(())
 }
 
-// The first of 43, 44 and 45 that a plan earns, whose run left these marks and stores.
+// Refuses where a plan's run does; else at the first of 43, 44 and 45, where the run left these marks and stores.
 pub fn legality_fault(
+    ran: Result<(), Refused<u32>>,
     marked: &Marked<'_>,
     plan: &[u8],
     store: [u8; VARIABLES],
     stores: &[u8; STORES],
     k: u8,
 ) -> Result<(), Refused<u32>>
-    requires { (k ≤ most_jobs) × (1 + 8 * k ≤ length plan.now) }
-    ensures { outcome result ≡ legality_in marked.now.program.now marked.now.times.now plan.now store
-        stores.now marked.now.marks.now k }
+    requires { (k ≤ most_jobs) × IfOk ran (λ _. 1 + 8 * k ≤ length plan.now) }
+    ensures refused { IfErr ran (λ e. result ≡ Err e) }
+    ensures judged { IfOk ran (λ _. outcome result ≡ legality_in marked.now.program.now marked.now.times.now
+        plan.now store stores.now marked.now.marks.now k) }
 {
+    if let Err(e) = ran {
+        return Err(e);
+    }
     pair_fault(k, Refusal::Order, |x, y| marked.order_faulty(x, y))?;
     pair_fault(k, Refusal::Lock, |x, y| marked.lock_faulty(x, y))?;
     guess_fault(plan, store, stores, k)

@@ -1,3 +1,4 @@
 pub mod FaultLaws
 pub mod MarkLaws
+pub mod RoundLaws
 pub mod StoreLaws

@@ -1,5 +1,5 @@
 // The stores of rounds and the marks of jobs, read and written.
-ghost use Rattle.std.specs.Prelude.{◌≡◌, ◌+◌, ◌*◌, ◌≤◌, ◌<◌};
+ghost use Rattle.std.specs.Prelude.{◌≡◌, ◌+◌, ◌*◌, ◌≤◌, ◌<◌, set};
 ghost use Rattle.plan_marks.specs.Code.Marks.{store_at, with_store, step_of, step_marked, step_count, with_mark, no_marks};
 ghost use Rattle.taskfile.specs.Chains.{most_instructions};
 ghost use Rattle.timing.specs.Accepted.{most_jobs};
@@ -33,6 +33,23 @@ fn step_index(x: ListedJob, n: u8) -> usize
     ensures { result ≡ 16 * x.number + n }
 {
     INSTRUCTIONS * usize::from(x.number) + usize::from(n)
+}
+
+// Makes this step, as step n, the last of job x, in arrays of any marks.
+pub fn put_mark(
+    counts: &mut [u8; JOBS],
+    steps: &mut [StepMark; STEPS],
+    x: ListedJob,
+    n: u8,
+    step: StepMark,
+)
+    requires { n < most_instructions }
+    ensures counts { counts.new ≡ set counts.old x.number (n + 1) }
+    ensures steps { steps.new ≡ set steps.old (16 * x.number + n) step }
+{
+    let at = step_index(x, n);
+    steps[at] = step;
+    counts[usize::from(x.number)] = n + 1;
 }
 
 impl Marks {
@@ -72,8 +89,6 @@ impl Marks {
         requires { n < most_instructions }
         ensures { self.new ≡ with_mark self.old x.number n (step_of step) }
     {
-        let at = step_index(x, n);
-        self.steps[at] = step;
-        self.counts[usize::from(x.number)] = n + 1;
+        put_mark(&mut self.counts, &mut self.steps, x, n, step);
     }
 }

@@ -2,16 +2,27 @@
 ghost use Rattle.std.specs.Prelude.{◌≡◌};
 ghost use Rattle.order_states.specs.Code.SnapshotSteps.{owner_in};
 ghost use Rattle.plan.specs.Runs.{earlier};
-ghost use Rattle.plan_marks.specs.Code.PairParts.{round_of_start, round_of_end, before_kept, rounds_apart, rounds_nested};
+ghost use Rattle.plan_marks.specs.Code.PairParts.{round_of_first, round_of_start, round_of_end, before_kept, rounds_apart, rounds_nested};
 ghost use Rattle.plan_marks.specs.Code.PairParts.{none_within};
 ghost use Rattle.plan_marks.specs.Code.PairParts.{preempt_kept, priority_reached, lock_kept, order_faulty, lock_faulty};
 
 use order_states::{OWNERS_AT, PROGRAM, TIMES};
 use order_turns::programs::{comes_before, may_preempt};
 use plan::Round;
-use plan_marks::Marks;
+use plan_marks::{Marks, STEPS, StepMark};
 use taskfile::Task;
+use taskfile::limits::{INSTRUCTIONS, JOBS};
 use timing::ListedJob;
+
+// The round of job x's first step, in arrays of any marks.
+pub fn start_round(counts: &[u8; JOBS], steps: &[StepMark; STEPS], x: ListedJob) -> Round
+    ensures { result ≡ round_of_first counts.now steps.now x.number }
+{
+    if counts[usize::from(x.number)] == 0 {
+        return Round(0);
+    }
+    steps[INSTRUCTIONS * usize::from(x.number)].round
+}
 
 // What the rules are judged over: what is lent of the table, and the marks of a run's steps.
 #[derive(Clone, Copy)]
@@ -33,10 +44,7 @@ impl Marked<'_> {
     pub fn start_round(&self, x: ListedJob) -> Round
         ensures { result ≡ round_of_start self.now.marks.now x.number }
     {
-        if self.marks.count(x) == 0 {
-            return Round(0);
-        }
-        self.marks.step(x, 0).round
+        start_round(&self.marks.counts, &self.marks.steps, x)
     }
 
     // The round of job x's last step.

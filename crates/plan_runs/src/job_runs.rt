@@ -62,7 +62,17 @@ pub fn run_job(
         let i = instruction_at(&lent.program, base, local.next);
         step_fault(plan, k, i, previous, offset)?;
         let effect = make_step(plan, offset, i, local, stores);
-        previous = mark_step(plan, offset, lent, base, effect.local, x, n, marks);
+        previous = mark_step(
+            plan,
+            offset,
+            lent,
+            base,
+            effect.local,
+            x,
+            n,
+            &mut marks.counts,
+            &mut marks.steps,
+        );
         failed |= effect.failed;
         offset += STEP_BYTES;
         if effect.ended {

@@ -1,11 +1,11 @@
 // One step of a plan's run: its two bytes checked, and what it does to its round's store.
-ghost use Rattle.std.specs.Prelude.{◌≡◌, ◌+◌, ◌≤◌, ◌<◌, length, get_or, take};
+ghost use Rattle.std.specs.Prelude.{◌≡◌, ◌+◌, ◌*◌, ◌≤◌, ◌<◌, length, get_or, take, set};
 ghost use Rattle.machine.specs.Code.Within.{LocksWithin};
 ghost use Rattle.machine.specs.Held.{priority};
 ghost use Rattle.machine.specs.Instructions.{perform};
 ghost use Rattle.plan.specs.Runs.{round_at};
 ghost use Rattle.taskfile.specs.Code.Refusals.{outcome};
-ghost use Rattle.plan_marks.specs.Code.Marks.{store_at, with_store, with_mark};
+ghost use Rattle.plan_marks.specs.Code.Marks.{store_at, with_store};
 ghost use Rattle.plan.specs.Runs.{step_bytes_for};
 ghost use Rattle.timing.specs.Accepted.{most_jobs};
 ghost use Rattle.taskfile.specs.Chains.{most_instructions};
@@ -17,8 +17,9 @@ use machine_locals::values::on_offer;
 use machine_performing::instructions::perform_instruction;
 use order_states::LentTimes;
 use plan::Round;
-use plan_marks::rounds::{put_store, store_of};
-use plan_marks::{Marks, STORES, StepMark};
+use plan_marks::rounds::{put_mark, put_store, store_of};
+use plan_marks::{STEPS, STORES, StepMark};
+use taskfile::limits::JOBS;
 use taskfile::refusals::{Refusal, Refused};
 use taskfile::{Instruction, Task};
 use timing::ListedJob;
@@ -69,8 +70,8 @@ pub fn make_step(
     effect
 }
 
-// Marks the step whose bytes are at an offset as step n of job x, which has this base and stands here after it. It
-// answers the step's round.
+// Marks the step whose bytes are at an offset as step n of job x, which has this base and stands here after it, in arrays
+// of any marks. It answers the step's round.
 pub fn mark_step(
     plan: &[u8],
     offset: usize,
@@ -79,28 +80,27 @@ pub fn mark_step(
     local: Local,
     x: ListedJob,
     n: u8,
-    marks: &mut Marks,
+    counts: &mut [u8; JOBS],
+    steps: &mut [StepMark; STEPS],
 ) -> Round
     requires bytes { offset + 1 < length plan.now }
     requires bounds { n < most_instructions }
     ensures round { result ≡ round_at plan.now offset }
-    ensures marks { marks.new ≡ with_mark marks.old x.number n (record {
+    ensures counts { counts.new ≡ set counts.old x.number (n + 1) }
+    ensures steps { steps.new ≡ set steps.old (16 * x.number + n) (record {
       round = round_at plan.now offset;
       value = get_or plan.now (offset + 1) 0;
-      priority_after = priority (take lent.now.locks.count lent.now.locks.ceilings) base.0 local.held;
+      priority = priority (take lent.now.locks.count lent.now.locks.ceilings) base.0 local.held;
     }) }
 {
     let r = Round(plan[offset]);
     let priority = priority_of(lent.locks.ceilings, lent.locks.count, base.0, local.held);
     let value = plan[offset + 1];
-    marks.put(
-        x,
-        n,
-        StepMark {
-            round: r,
-            value,
-            priority,
-        },
-    );
+    let step = StepMark {
+        round: r,
+        value,
+        priority,
+    };
+    put_mark(counts, steps, x, n, step);
     r
 }

@@ -5,6 +5,7 @@ ghost use Rattle.notation_buffers.specs.Code.Pages.{Puts};
 ghost use Rattle.sheets.specs.SheetWords.{tasks_word, task_word, jobs_word, response_word, verdict_word};
 ghost use Rattle.sheets.specs.Sheets.{refused_line};
 
+use notation::characters::SPACE;
 use notation_buffers::pages::Page;
 
 // Writes the line of a refusal: `refused 21 0`.
@@ -48,7 +49,8 @@ pub fn put_verdict(page: &mut Page, verdict: &[u8], count: u64)
     ensures { Puts page.old (line verdict_word (verdict.now ∷ decimal count ∷ [])) page.new }
 {
     page.put_word(b"verdict");
-    page.then_word(verdict);
+    page.put_byte(SPACE);
+    page.put_letters(verdict);
     page.then_number(count);
     page.end_line();
 }

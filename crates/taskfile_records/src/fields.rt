@@ -12,13 +12,18 @@ use taskfile::limits::{
 use taskfile::operations::PICK;
 use taskfile::{Field, Instruction, Kind, offsets};
 
-// Are the n bytes of record r from byte k on zero? Those past the file's end are.
+// Are the n bytes of record r from byte k on zero? Those past the file's end are. Whether it ends before them is
+// tested first, so that the number of bytes tested is n, which each caller knows.
 pub fn zero_from(file: &[u8], r: u8, k: u8, n: u8) -> bool
     ensures { result ≡ zero_from file.now r k n }
 {
-    let start = (RECORD * (r as usize) + (k as usize)).min(file.len());
-    let end = (start + (n as usize)).min(file.len());
-    file[start..end].iter().all(|&byte| byte == 0)
+    let start = RECORD * (r as usize) + (k as usize);
+    let end = start + (n as usize);
+    if end <= file.len() {
+        return file[start..end].iter().all(|&byte| byte == 0);
+    }
+    let start = start.min(file.len());
+    file[start..].iter().all(|&byte| byte == 0)
 }
 
 // The largest value of a field by what the operation uses it for, or 0 where it is unused. "lock numbers are left to

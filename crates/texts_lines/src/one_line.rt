@@ -16,7 +16,7 @@ use writer::Lock;
 pub fn put_name(page: &mut Page, operation: u8)
     ensures { Puts page.old (row_of (InstructionLine operation)).word page.new }
 {
-    page.put_word(operation_line(operation).name);
+    page.put_letters(operation_line(operation).name);
 }
 
 // Writes an instruction's line: `load 0 1`.

@@ -8,4 +8,5 @@ pub mod NumeralsLaws
 pub mod OperationNameLaws
 pub mod PartEndLaws
 pub mod RowOfLaws
+pub mod StageLaws
 pub mod WordLaws

@@ -5,6 +5,7 @@ ghost use Rattle.texts.specs.Reading.{form_named};
 ghost use Rattle.texts.specs.Code.LineParts.{named_of};
 ghost use Rattle.texts_reading.specs.Code.FormParts.{stage_number, operation_named};
 
+use crate::numerals::is_word;
 use taskfile::limits::OPERATIONS;
 use texts::{Form, NUMBERS};
 
@@ -129,13 +130,13 @@ fn operation_named(word: &[u8]) -> Option<Form>
 pub fn form_named(word: &[u8]) -> Option<Form>
     ensures { result ≡ named_of (form_named word.now) }
 {
-    if word == WINDOW {
+    if is_word(word, WINDOW) {
         Some(Form::WindowLine)
-    } else if word == START {
+    } else if is_word(word, START) {
         Some(Form::StartLine)
-    } else if word == TASK {
+    } else if is_word(word, TASK) {
         Some(Form::TaskLine)
-    } else if word == LOCK {
+    } else if is_word(word, LOCK) {
         Some(Form::LockLine)
     } else {
         operation_named(word)
@@ -170,11 +171,11 @@ fn stages_of(form: Form) -> (Stage, Stage)
 }
 
 // May a line of a form come at this stage?
-pub fn may_come(form: Form, stage: Stage) -> bool
-    ensures { result ≡ may_come (stage_number stage) (row_of form) }
+pub fn may_come(form: Form, stage: u8) -> bool
+    ensures { result ≡ may_come stage (row_of form) }
 {
     let (earliest, latest) = stages_of(form);
-    earliest <= stage && stage <= latest
+    earliest as u8 <= stage && stage <= latest as u8
 }
 
 // The stage after a line of a form.

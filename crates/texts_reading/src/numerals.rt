@@ -1,10 +1,10 @@
 // The parts of a text between separators, and the numerals among a line's words.
-ghost use Rattle.std.specs.Prelude.{◌≡◌, ◌+◌, ◌-◌, ◌^◌, ◌≤◌, ◌<◌, min, length};
-ghost use Rattle.notation.specs.Lists.{all};
+ghost use Rattle.std.specs.Prelude.{◌≡◌, ◌+◌, ◌-◌, ◌^◌, ◌≤◌, ◌<◌, min, length, set};
+ghost use Rattle.notation.specs.Lists.{all, same};
 ghost use Rattle.texts.specs.Grammar.{wide_field};
-ghost use Rattle.texts.specs.Reading.{is_digit, is_numeral};
-ghost use Rattle.texts.specs.Code.LineParts.{part_end, words_past, capped_value, numeral_of, numerals_of};
-ghost use Rattle.texts_reading.specs.Code.NumeralParts.{PartEnds, with_numeral};
+ghost use Rattle.texts.specs.Reading.{is_digit, is_numeral, value_of};
+ghost use Rattle.texts.specs.Code.LineParts.{part_end, words_past, numeral_of, numerals_of};
+ghost use Rattle.texts_reading.specs.Code.NumeralParts.{PartEnds};
 
 use notation::characters::{SPACE, ZERO};
 use texts::{NUMBERS, Numerals};
@@ -24,6 +24,13 @@ pub fn part_end(text: &[u8], from: usize, separator: u8) -> usize
         Some(size) => from + size,
         None => text.len(),
     }
+}
+
+// Are two words the same?
+pub fn is_word(word: &[u8], name: &[u8]) -> bool
+    ensures { result ≡ same name.now word.now }
+{
+    word == name
 }
 
 // Are all bytes of a word digits?
@@ -56,7 +63,7 @@ fn capped(value: u64) -> u64
 
 // The number that digits are, or the cap if that is less: whatever their number, no sum wraps.
 fn value_of(word: &[u8]) -> u64
-    ensures { result ≡ capped_value word.now }
+    ensures { result ≡ min wide_field (value_of word.now) }
 {
     let mut value: u64 = 0;
     for byte in word {
@@ -76,24 +83,25 @@ pub fn capped_value(word: &[u8]) -> Option<u64>
     }
 }
 
-// The numerals that were read and one more, if the word is one. Past the eighth its value is not kept.
-fn with_numeral(mut read: Numerals, word: &[u8]) -> Option<Numerals>
+// The numerals that were read and the value of one word more. Past the eighth it is not kept.
+fn with_numeral(mut read: Numerals, value: u64) -> Numerals
     requires { read.count + 1 < 2 ^ 64 }
-    ensures { result ≡ with_numeral read word.now }
+    ensures { result ≡ record { count = read.count + 1; values = set read.values read.count value } }
 {
-    let value = capped_value(word)?;
     if read.count < NUMBERS {
         read.values[read.count] = value;
     }
     read.count += 1;
-    Some(read)
+    read
 }
 
-// The numerals of a line after the word that ends at a byte, if all words there are numerals.
-pub fn numerals_past(line: &[u8], from: usize) -> Option<Numerals>
+// The numerals of a line after the word that ends at a byte. Where a word there is no numeral, the error is what was
+// read of all of them, with 0 for such a word.
+pub fn numerals_past(line: &[u8], from: usize) -> Result<Numerals, Numerals>
     requires { PartEnds 32 line.now from }
     ensures { result ≡ numerals_of (words_past line.now from) }
 {
+    let mut good = true;
     let mut read = Numerals {
         count: 0,
         values: [0; NUMBERS],
@@ -102,7 +110,9 @@ pub fn numerals_past(line: &[u8], from: usize) -> Option<Numerals>
     while at < line.len() {
         let start = at + 1;
         at = part_end(line, start, SPACE);
-        read = with_numeral(read, &line[start..at])?;
+        let value = capped_value(&line[start..at]);
+        good = good && value.is_some();
+        read = with_numeral(read, value.unwrap_or(0));
     }
-    Some(read)
+    if good { Ok(read) } else { Err(read) }
 }

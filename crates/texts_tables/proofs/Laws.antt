@@ -1,3 +1,4 @@
 pub mod LineAnswerLaws
+pub mod OverfullLaws
 pub mod PartFieldLaws
 pub mod TextReadLaws

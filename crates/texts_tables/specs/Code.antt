@@ -1,2 +1,3 @@
+pub mod Overfull
 pub mod PartFields
 pub mod TableReading

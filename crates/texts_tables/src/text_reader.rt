@@ -29,7 +29,7 @@ pub fn read_text(text: &[u8]) -> Result<Table, Refused<u32>>
         if to == text.len() {
             return Err(Refusal::Line.at(number));
         }
-        let line = read_line(&text[from..to], number, stage)?;
+        let line = read_line(&text[from..to], number, stage as u8)?;
         add_part(&mut t, &line);
         stage = stage_after(line.form);
         number += 1;

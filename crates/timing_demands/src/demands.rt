@@ -1,7 +1,9 @@
 // The demand of a task: the tasks' times in an array to be lent, interference, and demand.
 ghost use Rattle.std.specs.Prelude.{◌≡◌, ◌^◌, ◌<◌};
+ghost use Rattle.taskfile.specs.declared.Table.{Table};
 ghost use Rattle.timing.specs.Response.{tasks_above, interference, demand};
-ghost use Rattle.timing.specs.Code.ResponseParts.{Timeable, NeedOf};
+ghost use Rattle.timing.specs.Code.BoundedTimes.{BoundedTimes};
+ghost use Rattle.timing.specs.Code.ResponseParts.{Timeable, TimesOf, NeedOf};
 
 use taskfile::limits::TASKS;
 use taskfile::{Table, Task};
@@ -36,16 +38,15 @@ pub fn times_of<'a>(t: &'a Table) -> TaskTimes<'a>
     TaskTimes { table: t, timings }
 }
 
-// How long tasks above the equation's task keep the processor in an interval of length r.
-pub fn interference_of(equation: &Equation, r: u64) -> u64
-    requires { r < 2 ^ 32 }
-    ensures { (result < 2 ^ 36)
-        × (result ≡ interference (tasks_above equation.now.times.now.table.now equation.now.task) r) }
+// How long tasks above task i keep the processor in an interval of length r.
+pub fn interference_of(timings: &[Timing; TASKS], tasks: u8, i: Task, r: u64) -> u64
+    requires { BoundedTimes timings.now tasks × (i.0 < tasks) × (r < 2 ^ 32) }
+    ensures { (result < 2 ^ 36) × ((t : Table) → t.tasks ≡ tasks → TimesOf t timings.now
+        → result ≡ interference (tasks_above t i) r) }
 {
-    let times = equation.times;
     let mut total = 0;
-    for k in equation.task.0 as usize + 1..times.table.tasks as usize {
-        let Timing { execution, period } = times.timings[k];
+    for k in i.0 as usize + 1..tasks as usize {
+        let Timing { execution, period } = timings[k];
         total += rounded_up(r, period) * execution;
     }
     total
@@ -56,5 +57,6 @@ pub fn demand_of(equation: &Equation, r: u64) -> u64
     requires { r < 2 ^ 32 }
     ensures { result ≡ demand equation.now.times.now.table.now equation.now.task r }
 {
-    equation.own + interference_of(equation, r)
+    let times = equation.times;
+    equation.own + interference_of(&times.timings, times.table.tasks, equation.task, r)
 }

@@ -13,11 +13,19 @@ pub fn iterate(equation: &Equation, start: u64) -> Option<u64>
     requires { LowerBound equation.now.times.now.table.now equation.now.task start }
     ensures { result ≡ bound_of (response_of equation.now.times.now.table.now equation.now.task) }
 {
-    let period = equation.times.timings[equation.task.0 as usize].period;
+    let times = equation.times;
+    let period = times.timings[equation.task.0 as usize].period;
     let mut kept = [Quotient { end: 0, busy: 0 }; TASKS];
     let mut r = start;
     while r <= period {
-        let next = equation.own + kept_interference(equation, r, &mut kept);
+        let busy = kept_interference(
+            &times.timings,
+            times.table.tasks,
+            equation.task,
+            r,
+            &mut kept,
+        );
+        let next = equation.own + busy;
         if next == r {
             return Some(r);
         }

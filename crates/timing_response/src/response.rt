@@ -66,7 +66,7 @@ pub fn responses_of(t: &Table) -> Result<[u64; TASKS], Refused<Site>>
             Some(r) => responses[i as usize] = r,
             None => {
                 late = Some(Task(i));
-                fit = fits_alone(&times, Task(i), fit);
+                fit = fits_alone(&times.timings, t.tasks, Task(i), fit);
             }
         }
     }

@@ -26,12 +26,12 @@ pub fn walk_table(listed: &ListedTable, allowance: u64, path: &mut [u8; ORDER_RO
     let lent = lend(listed);
     let mut start = lent.start;
     let mut count: u64 = 0;
-    let r = if finished(&lent.program, &start) {
-        ended(&start, 0)
+    let r = if finished(&lent.program, &start.bytes) {
+        ended(&start.bytes, 0)
     } else {
         trial(&lent, &mut start, LAST_STEP, allowance, &mut count, path)
     };
-    outcome_of(r, count, &start)
+    outcome_of(r, count, &start.bytes).outcome
 }
 
 // What there is to walk: the file's refusal, then 20, or what was accepted.
@@ -61,7 +61,7 @@ pub fn walk_file(file: &[u8], allowance: u64, out: &mut [u8]) -> WalkAnswer
     ensures buffer { out.new ≡ walk_after file.now allowance out.old }
 {
     match admitted(file, out) {
-        Err(e) => refused_walk(e),
+        Err(e) => refused_walk(e.why.number(), e.place),
         Ok(accepted) => {
             let mut path = [0u8; ORDER_ROOM];
             let listed = ListedTable {

@@ -6,16 +6,15 @@ pub mod trials;
 
 ghost use Rattle.std.specs.Prelude.{◌≡◌};
 ghost use Rattle.order_states.specs.Code.StateBytes.{snapshot_in};
-ghost use Rattle.taskfile.specs.Code.Refusals.{number_of};
 ghost use Rattle.walk.specs.WalkEntry.{refusal};
-ghost use Rattle.walk_trials.specs.Code.Outcomes.{ended_at, outcome_of, Short, answer_of, shown_length};
+ghost use Rattle.walk_trials.specs.Code.Outcomes.{ended_at, reached, Short, answer_of, shown_length};
 
 use machine::End;
 use notation::bytes::bytes_at;
 use order_replay::ends::{failed_in, some_failed};
-use order_states::{STORE_AT, State};
+use order_states::{STATE_BYTES, STORE_AT};
 use taskfile::limits::{JOBS, VARIABLES};
-use taskfile::refusals::{Refusal, Refused};
+use taskfile::refusals::Refusal;
 use walk::{Verdict, WalkAnswer};
 
 // What the trial of a state's moves comes to, and the walk of a state.
@@ -38,9 +37,17 @@ pub enum Outcome {
     Found(u64, usize, End),
 }
 
+// What a walk comes to, and, whatever that is, the moves made and the end of the state that it left.
+#[derive(Clone, Copy)]
+pub struct Reached {
+    pub outcome: Outcome,
+    pub count: u64,
+    pub end: End,
+}
+
 // What a walk comes to at a complete order of so many steps, which fails if a job has.
-pub fn ended(s: &State, steps: usize) -> Trial
-    ensures { result ≡ ended_at (snapshot_in s.now.bytes) steps }
+pub fn ended(s: &[u8; STATE_BYTES], steps: usize) -> Trial
+    ensures { result ≡ ended_at (snapshot_in s.now) steps }
 {
     if some_failed(s) {
         Trial::Found(steps)
@@ -50,27 +57,31 @@ pub fn ended(s: &State, steps: usize) -> Trial
 }
 
 // What a walk comes to whose trial came to r after so many moves, and left this state: an order found ends in it.
-pub fn outcome_of(r: Trial, count: u64, s: &State) -> Outcome
-    ensures { result ≡ outcome_of r count (snapshot_in s.now.bytes) }
+pub fn outcome_of(r: Trial, count: u64, s: &[u8; STATE_BYTES]) -> Reached
+    ensures { result ≡ reached r count (snapshot_in s.now) }
 {
-    match r {
+    let store = bytes_at(s, STORE_AT);
+    let failed = failed_in(s);
+    let end = End { store, failed };
+    let outcome = match r {
         Trial::Held => Outcome::Held(count),
         Trial::Stopped => Outcome::Stopped,
-        Trial::Found(length) => {
-            let store = bytes_at(&s.bytes, STORE_AT);
-            let failed = failed_in(s);
-            Outcome::Found(count, length, End { store, failed })
-        }
+        Trial::Found(length) => Outcome::Found(count, length, end),
+    };
+    Reached {
+        outcome,
+        count,
+        end,
     }
 }
 
 // A refusal: number and place; every other field is zero.
-pub fn refused_walk(e: Refused<u32>) -> WalkAnswer
-    ensures { result ≡ refusal (number_of e.why) e.place }
+pub fn refused_walk(number: u8, place: u32) -> WalkAnswer
+    ensures { result ≡ refusal number place }
 {
     WalkAnswer {
-        number: e.why.number(),
-        place: e.place,
+        number,
+        place,
         verdict: Verdict::None,
         count: 0,
         length: 0,
@@ -85,7 +96,7 @@ pub fn outcome_answer(r: Outcome) -> WalkAnswer
     ensures { result ≡ answer_of r }
 {
     match r {
-        Outcome::Stopped => refused_walk(Refusal::Undecided.at(0)),
+        Outcome::Stopped => refused_walk(Refusal::Undecided.number(), 0),
         Outcome::Held(count) => WalkAnswer {
             number: 0,
             place: 0,

@@ -30,8 +30,8 @@ pub fn walk(
         left count.old allowance path.old path.new
         (outcome_of result count.new (snapshot_in s.new.bytes)) }
 {
-    if finished(&lent.program, s) {
-        return ended(s, ORDER_ROOM - left);
+    if finished(&lent.program, &s.bytes) {
+        return ended(&s.bytes, ORDER_ROOM - left);
     }
     if left == 0 {
         return Trial::Held;

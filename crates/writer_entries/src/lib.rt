@@ -14,6 +14,25 @@ use writer::{FILE_ROOM, LAYOUT_ROOM, TABLE_ROOM, WriteAnswer};
 use writer_layout::layouts::put_layout;
 use writer_memory::put_table;
 
+// The answer of a table or a file that is refused.
+pub fn refused_write(number: u8, place: u32) -> WriteAnswer
+    ensures { result ≡ record { number = number; place = place; length = 0 } }
+{
+    WriteAnswer {
+        number,
+        place,
+        length: 0,
+    }
+}
+
+// The answer of a table or a file that is refused at a record.
+pub fn refused_record(number: u8, place: u8) -> WriteAnswer
+    ensures answer { result ≡ record { number = number; place = place; length = 0 } }
+    ensures small { result.place < 256 }
+{
+    refused_write(number, u32::from(place))
+}
+
 // The answer where a call is refused: number and place, and nothing written.
 pub fn refused(e: Refused<u32>) -> WriteAnswer
     ensures { result ≡ record { number = number_of e.why; place = e.place; length = 0 } }

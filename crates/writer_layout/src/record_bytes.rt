@@ -1,9 +1,11 @@
 // The bytes of single records: a header, a task's, a lock's, an instruction's.
+ghost use Rattle.std.specs.Prelude.{[], ◌∷◌, replicate};
 ghost use Rattle.writer.specs.Layout.{instruction_record, task_record, lock_record, header_record};
 ghost use Rattle.notation_buffers.specs.Code.Pages.{Puts};
 
 use crate::wides::put_wide;
 use notation_buffers::pages::Page;
+use taskfile::limits::VARIABLES;
 use taskfile::{Instruction, Kind, Table, TaskEntry, offsets};
 use writer::Lock;
 
@@ -11,6 +13,28 @@ use writer::Lock;
 const INSTRUCTION_UNUSED: usize = offsets::INSTRUCTION_UNUSED_BYTES as usize;
 
 const LOCK_UNUSED: usize = offsets::LOCK_UNUSED_LAST_BYTES as usize;
+
+// Writes three bytes.
+pub fn put_three(page: &mut Page, first: u8, second: u8, third: u8)
+    ensures { Puts page.old (first ∷ second ∷ third ∷ []) page.new }
+{
+    page.put_word(&[first, second, third]);
+}
+
+// Writes n zeros.
+pub fn put_zeros(page: &mut Page, n: u8)
+    ensures { Puts page.old (replicate n 0) page.new }
+{
+    let zeros = [0u8; 255];
+    page.put_word(&zeros[..usize::from(n)]);
+}
+
+// Writes the initial values of the shared variables.
+pub fn put_store(page: &mut Page, store: [u8; VARIABLES])
+    ensures { Puts page.old store page.new }
+{
+    page.put_word(&store);
+}
 
 // Writes the record of an instruction whose next record is at index `next`.
 pub fn put_instruction(page: &mut Page, i: Instruction, next: u8)

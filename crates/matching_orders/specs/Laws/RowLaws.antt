@@ -1,15 +1,15 @@
 -- The loop that writes a plan's steps: the bytes of a job in a round.
 -- Assumes nothing.
-use Rattle.std.specs.Prelude.{◌≡◌, refl, ◌&&◌, ltb, if◌then◌else◌}
-use Rattle.std.proofs.Common.{sym, ◌∙◌}
+use Rattle.std.specs.Prelude.{◌≡◌, refl, ◌&&◌, length, ltb, if◌then◌else◌}
+use Rattle.std.proofs.Common.{sym, subst, ◌∙◌, add-one, arith}
 use Rattle.std.proofs.Math.Path.{ap}
 use Prim.Native.Nat.{ℕ, ◌+◌, ◌*◌, ◌≤◌, ◌<◌}
 use Rattle.std.proofs.Math.Bool.{Bool, true, false}
 use mathlib.Core.List.{List, [], ◌∷◌, ◌++◌, map}
 use Rattle.std.proofs.Math.Dec.{eqb}
 use borrow.Author.Tests.{lt-ltb, le-ltb, eq-eqb, ne_eqb}
-use Rattle.notation.specs.Lists.{from, up_to, only}
-use Rattle.notation.specs.Laws.ElementLaws.{only_in, only_append, only_drops}
+use Rattle.notation.specs.Lists.{from, up_to, only, each}
+use Rattle.notation.specs.Laws.ElementLaws.{each_snoc, only_in, only_append, only_drops}
 use Rattle.notation.specs.Laws.ListLaws.{map_snoc}
 use Rattle.plan.specs.Runs.{Step}
 use Rattle.order_states.specs.Code.SnapshotSteps.{Program, owner_in}
@@ -18,6 +18,8 @@ use Rattle.plan_marks.specs.Code.Marks.{step_marked, step_count, steps_marked}
 use Rattle.notation.specs.Laws.TabulateLaws.{values_snoc}
 use Rattle.notation_buffers.specs.declared.pages.Page.{Page}
 use Rattle.notation_buffers.specs.Code.Pages.{Puts}
+use Rattle.notation_buffers.specs.Code.Writing.{Appends}
+use Rattle.notation_buffers.specs.Laws.WritingLaws.{appends_none, appends_more, appends_length}
 use Rattle.notation_buffers.specs.Laws.PageLaws.{puts_same, puts_none, puts_more}
 use Rattle.matching_orders.specs.Code.Rows.{written_byte, job_row}
 
@@ -101,3 +103,36 @@ pub row_all : {program : Program} {marks : Marks} {r x n : ℕ} {before now : Pa
     → RowTo program marks r x n before now → n ≡ step_count marks x → Puts before (job_row program marks r x) now
 unfolding job_row row_to steps_marked
 row_all {program} {marks} {r} {x} row all = puts_same (ap (row_to program marks r x) all) row.puts
+
+-- ---- the jobs of a round, and the rounds, from a place of a buffer on
+
+-- the parts of the first n of k numbers were written
+pub record PartsTo (part : ℕ → List ℕ) (k at : ℕ) (before now : List ℕ) (next n : ℕ) : Type 0 where
+  pub is : Appends 512 before at (each (up_to n) part) now next
+  pub most : n ≤ k
+
+pub row_parts_none : (part : ℕ → List ℕ) (k at : ℕ) (before : List ℕ) → PartsTo part k at before before at 0
+unfolding each up_to from
+row_parts_none part k at before = record { is = appends_none 512 before at; most = omega arith }
+
+pub parts_more : {part : ℕ → List ℕ} {k at : ℕ} {before now : List ℕ} {next n : ℕ} {after : List ℕ} {m : ℕ}
+    → PartsTo part k at before now next n → 512 ≤ length before → n < k → Appends 512 now next (part n) after m
+    → PartsTo part k at before after m (n + 1)
+parts_more {part} {k} {at} {before} {now} {next} {n} {after} {m} parts room inside appends =
+    let bytes : each (up_to n) part ++ part n ≡ each (up_to (n + 1)) part =
+    sym (each_snoc n part) ∙ ap (λ (j : ℕ). each (up_to j) part) (sym (add-one n)) in
+    record {
+      is = subst (λ (l : List ℕ). Appends 512 before at l after m) bytes (appends_more room parts.is appends);
+      most = omega arith;
+    }
+
+pub row_parts_all : {part : ℕ → List ℕ} {k at : ℕ} {before now : List ℕ} {next n : ℕ} → PartsTo part k at before now next n
+    → k ≤ n → Appends 512 before at (each (up_to k) part) now next
+row_parts_all {part} {k} {at} {before} {now} {next} {n} parts enough =
+    let all : n ≡ k = omega (arith, parts.most) in
+    subst (λ (j : ℕ). Appends 512 before at (each (up_to j) part) now next) all parts.is
+
+-- a buffer keeps its length
+pub parts_length : {part : ℕ → List ℕ} {k at : ℕ} {before now : List ℕ} {next n : ℕ}
+    → PartsTo part k at before now next n → 512 ≤ length before → length now ≡ length before
+parts_length parts room = appends_length parts.is room

@@ -6,9 +6,11 @@ use Rattle.std.proofs.Math.Path.{refl, sym, ap}
 use Rattle.std.proofs.Common.{◌∙◌, arith, add-one, drop_of_length-le, drop-cons}
 use Rattle.std.proofs.Math.Decide.{dec_lt}
 use borrow.Author.Tests.{lt-ltb, le-ltb, eq-eqb, ne_eqb}
+use Rattle.notation.specs.Laws.TabulateLaws.{values_length}
 use Rattle.notation.specs.Lists.{bytes_at}
 use Rattle.taskfile.specs.declared.Ceilings.{Ceilings}
 use Rattle.machine.specs.Instructions.{Store}
+use Rattle.plan.specs.declared.Round.{Round}
 use Rattle.order_states.specs.declared.Due.{Due}
 use Rattle.order_states.specs.Code.Snapshots.{Snapshot}
 use Rattle.order_states.specs.Code.SnapshotSteps.{turn_in, made_in}
@@ -40,6 +42,32 @@ module _ (t : Trace) (x value : ℕ) {n : ℕ} (counted : n ≡ step_count t.mar
 
 -- ---- the next round
 
+-- of any state's bytes: the last round, and any other
+pub last_kept : (r : Round) → 31 ≤ r.0 → (guesses s : List ℕ)
+    → (r.0 ≡ round_in r.0) × (guesses ≡ guess_in guesses r.0 (bytes_at s 0 8))
+unfolding round_in guess_in
+last_kept r le guesses s = rw (le-ltb r.0 31 le) (refl, refl)
+
+pub next_noted : (r : Round) → r.0 < 31 → (guesses s : List ℕ) {store : Store} {after : List ℕ} → store ≡ bytes_at s 0 8
+    → after ≡ with_store guesses (r.0 + 1) store
+    → (r.0 + 1 ≡ round_in r.0) × (after ≡ guess_in guesses r.0 (bytes_at s 0 8))
+unfolding round_in guess_in
+next_noted r lt guesses s same put =
+    rw (lt-ltb r.0 31 lt) (refl, put ∙ ap (with_store guesses (r.0 + 1)) same)
+
+-- and of a trace
+pub round_on : (t : Trace) {after : List ℕ} {q : Round} → q.0 ≡ round_in t.round.0
+    → after ≡ guess_in t.guesses t.round.0 (bytes_at t.state.bytes 0 8)
+    → record { state = snapshot_in t.state.bytes; round = q.0; marks = t.marks; guesses = after }
+    ≡ in_next_round (noted_of t)
+unfolding snapshot_in
+round_on t is put = λ i. record {
+  state = snapshot_in t.state.bytes;
+  round = is i;
+  marks = t.marks;
+  guesses = put i;
+}
+
 module _ (t : Trace) where
   pub round_last : 31 ≤ t.round.0 → noted_of t ≡ in_next_round (noted_of t)
   unfolding round_in guess_in
@@ -64,6 +92,11 @@ guess_room guesses room r store eight =
       | yes lt ↦ rw (lt-ltb r 31 lt) (put_length guesses room (r + 1) (omega arith) store eight ∙ room)
       | no le ↦ rw (le-ltb r 31 (omega arith)) room
     ]
+
+-- a store is eight bytes
+pub eight_bytes : (s : List ℕ) → length (bytes_at s 0 8) ≡ 8
+unfolding bytes_at
+eight_bytes s = values_length (λ k. get_or s (0 + k) 0) 8
 
 -- ---- a step
 

@@ -2,10 +2,11 @@
 -- order come to.
 -- Assumes nothing.
 use Rattle.std.specs.Prelude.{◌≡◌, leb, length, replicate, take, drop, ◌++◌, Result, Ok, Err}
-use Rattle.std.proofs.Common.{sym, ◌∙◌, le-leb}
+use Rattle.std.proofs.Common.{sym, ◌∙◌, arith, le-leb}
 use Rattle.std.proofs.Math.Path.{ap, subst}
 use Prim.Native.Nat.{ℕ, ◌≤◌, ◌<◌}
 use mathlib.Core.List.{List}
+use Rattle.std.proofs.lemmas.List.{length-replicate}
 use Rattle.std.proofs.lemmas.Bool.{lt-leb}
 use Rattle.notation.specs.Checked.{Checked, refused, passed, mapped}
 use Rattle.notation.specs.Laws.CheckedLaws.{require_fails, require_holds, bind_refused, bind_goes}
@@ -23,6 +24,7 @@ use Rattle.timing.proofs.Laws.AcceptedLaws.{file_accepted}
 use Rattle.timing.proofs.Laws.AcceptLaws.{accepted_refused, accepted_passed}
 use Rattle.machine.specs.Buffers.{Written, buffer_after, plan_room, filled}
 use Rattle.machine.specs.declared.End.{End}
+use Rattle.machine.specs.Instructions.{Store}
 use Rattle.order.proofs.Laws.CompleteLaws.{replay_complete}
 use Rattle.order.specs.Replay.{replay}
 use Rattle.plan.specs.Runs.{job_total}
@@ -36,12 +38,20 @@ use Rattle.notation_buffers.specs.Code.Pages.{Fills}
 use Rattle.matching_plans.specs.declared.Trace.{Trace}
 use Rattle.notation_buffers.specs.Laws.FrontLaws.{front_within, front_whole, front_fills}
 use Rattle.plan_marks.specs.Code.Marks.{with_store, no_marks}
+use Rattle.plan_marks.specs.Laws.StoreLaws.{put_length}
 use Rattle.matching_plans.specs.Code.Columns.{plan_in}
 use Rattle.matching_plans.specs.Code.PlanWritten.{PlanWritten}
 use Rattle.matching_plans.specs.Code.Tracing.{TraceState, noted_of, order_noted}
 use Rattle.matching_plans.proofs.Laws.PlanAgreed.{first_guesses, plan_noted, plan_short}
 
 -- ---- the plan of a table's parts
+
+-- the guesses with the first store put are whole
+pub guesses_begin : (store : Store) → length store ≡ 8 → {first : List ℕ} → first ≡ with_store (replicate 256 0) 0 store
+    → length first ≡ 256
+guesses_begin store eight begins =
+    let zeros = length-replicate {A = ℕ} 256 0 in
+    ap length begins ∙ put_length (replicate 256 0) zeros 0 (omega arith) store eight ∙ zeros
 
 -- where the trace begins, with these guesses
 abbrev begun_at : List ℕ → List ℕ → TraceState

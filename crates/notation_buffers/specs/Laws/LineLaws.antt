@@ -74,7 +74,7 @@ pub numbers_are : (ns : List ℕ) → each (map decimal ns) (λ w. space ∷ w) 
 unfolding spaced_numbers
 numbers_are ns = each_map decimal ns (λ w. space ∷ w)
 
-numbers_line : (word : Text) (ns : List ℕ) → (word ++ spaced_numbers ns) ++ (newline ∷ []) ≡ line word (map decimal ns)
+pub numbers_line : (word : Text) (ns : List ℕ) → (word ++ spaced_numbers ns) ++ (newline ∷ []) ≡ line word (map decimal ns)
 unfolding line
 numbers_line word ns =
     ap (λ (l : Text). l ++ (newline ∷ [])) (sym (spaced_each word (map decimal ns) ∙ ap (λ (l : Text). word ++ l) (numbers_are ns)))

@@ -58,6 +58,11 @@ module _ (bytes : List ℕ) where
         → (top_of (snapshot_in bytes)).job.0 ≡ get_or bytes (64 + 16 * (get_or bytes 48 0 - 1)) 0
     top_job_is deep = ap (λ (f : Frame). f.job.0) (top_is deep) ∙ frame_job (get_or bytes 48 0 - 1)
 
+-- whether a task's first job not yet ended is one of the task
+pub unended_owned : (program bytes : List ℕ) (i : ℕ) → i < 8 → {b : Bool}
+    → b ≡ owned_by program i (get_or bytes (8 + i) 0) → b ≡ owned_by program i (get_or (snapshot_in bytes).unended i 0)
+unended_owned program bytes i lt e = e ∙ ap (owned_by program i) (sym (unended_at bytes i 0 lt))
+
 -- ---- what a job waits for
 
 -- the byte of a task, held to that of job y's row in the wait table

@@ -109,6 +109,10 @@ level_in program locks p =
     let bar = bar_in program locks p in
     if eqb p.depth 0 then 0 else if ltb (top_of p).job.0 32 && ltb bar 8 then bar + 1 else 8
 
+-- it is nobody's turn
+abbrev pub nobody : Option Due
+nobody = None
+
 -- may task i's first job not yet ended start, if its base is not below the level `low`?
 unfoldable pub starts_above : Program → WaitTable → ℕ → Snapshot → ℕ → Bool
 starts_above program waits low p i =

@@ -1,9 +1,9 @@
 -- Laws of the guesses: what a round must start from, and the search for the first that is wrong.
 -- Assumes nothing.
-use Rattle.std.specs.Prelude.{◌≡◌, Bool, not, List, ◌∷◌}
+use Rattle.std.specs.Prelude.{◌≡◌, Bool, not, List, [], ◌∷◌, length, get_or}
 use Rattle.std.proofs.Math.Path.{refl, sym, ap}
 use Rattle.std.proofs.Common.{◌∙◌}
-use Prim.Native.Nat.{ℕ, zero, suc, ◌+◌, ◌-◌, ◌≤◌, ◌<◌}
+use Prim.Native.Nat.{ℕ, zero, suc, ◌+◌, ◌-◌, ◌*◌, ◌≤◌, ◌<◌}
 use native.Mathlib.Omega.{arith}
 use Rattle.std.proofs.Math.Bool.{true, false}
 use Rattle.notation.specs.Checked.{refused, passed, none_of}
@@ -12,13 +12,27 @@ use Rattle.notation.specs.Laws.SearchLaws.{from_first, from_none}
 use Rattle.notation.specs.Laws.TestLaws.{test_decided}
 use Rattle.std.proofs.Math.Logic.{inl, inr}
 use Rattle.std.specs.Prelude.{if◌then◌else◌}
-use Rattle.notation.specs.Lists.{from, up_to, same, last_or}
+use Rattle.notation.specs.Laws.TabulateLaws.{eight_values}
+use Rattle.notation.specs.Lists.{from, up_to, same, last_or, bytes_at}
 use Rattle.machine.specs.Ends.{no_store}
 use Rattle.machine.specs.Instructions.{Store}
+use Rattle.plan.specs.declared.Round.{Round}
 use Rattle.plan.specs.Runs.{Plan, guess}
 use Rattle.plan_marks.specs.Code.Marks.{store_at, stores_in}
 use Rattle.plan_marks.specs.Code.PairParts.{due_store_in, guess_fault_from, guess_fault_in}
-use Rattle.plan_marks.specs.Laws.StoreLaws.{stores_at, stores_length}
+use Rattle.plan_marks.specs.Laws.StoreLaws.{bytes_at_part, stores_at, stores_length}
+
+-- eight bytes written out are the guess of a round
+pub guess_read : (plan : Plan) (r : Round) → 9 + 8 * r.0 ≤ length plan
+    → (let at = 1 + 8 * r.0 in
+    get_or plan at 0 ∷ get_or plan (at + 1) 0 ∷ get_or plan (at + 2) 0 ∷ get_or plan (at + 3) 0 ∷ get_or plan (at + 4) 0
+    ∷ get_or plan (at + 5) 0 ∷ get_or plan (at + 6) 0 ∷ get_or plan (at + 7) 0 ∷ [])
+    ≡ guess plan r
+unfolding guess bytes_at
+guess_read plan r fits =
+    eight_values (λ k. get_or plan (1 + 8 * r.0 + k) 0) (ap (λ (at : ℕ). get_or plan at 0) (omega arith))
+    refl refl refl refl refl refl refl
+    ∙ bytes_at_part plan (1 + 8 * r.0) 8 (omega arith)
 
 -- ---- the store that a round must start from
 

@@ -1,6 +1,6 @@
 -- The faults 43 to 45 over marks, stores and the lent table are those of the definition.
 -- Assumes nothing.
-use Rattle.std.specs.Prelude.{◌≡◌, ℕ, Bool, true, false, not, List, [], ◌∷◌, map, length, get_or, Result, Ok, Err}
+use Rattle.std.specs.Prelude.{◌≡◌, ℕ, Bool, true, false, not, List, [], ◌∷◌, map, length, get_or, Result, Ok, Err, IfOk, IfErr}
 use Rattle.std.proofs.Math.Path.{refl}
 use Rattle.std.proofs.Common.{sym, ◌∙◌}
 use Rattle.notation.specs.Checked.{Checked, refused, none_of, placed_by, ◌>>◌}
@@ -61,6 +61,25 @@ legality_agreed {a} {k = k} holds plan stores marks runs stepped left =
     let paired = pairs_agreed holds marks runs stepped in
     let guessed = guesses_agreed a plan runs stores k holds.total left in
     λ i. ◌>>◌ (paired.0 i) (◌>>◌ (paired.1 i) (guessed i))
+
+-- ---- after a plan's run
+
+module _ {ran : Result (Unit {0}) (Refused ℕ)} where
+  -- its refusal is the whole check's
+  pub run_refuses : {e : Refused ℕ} → ran ≡ Err e
+      → IfErr ran (λ f. ◌≡◌ {A = Result (Unit {0}) (Refused ℕ)} (Err e) (Err f))
+  run_refuses there = rw there refl
+
+  -- and asks nothing of the rules
+  pub rules_out_of_it : {e : Refused ℕ} → ran ≡ Err e → (P : Unit {0} → Type 0) → IfOk ran P
+  rules_out_of_it there P = rw there tt
+
+  -- without one the rules decide
+  pub run_passes : {made : Unit {0}} → ran ≡ Ok made → (P : Refused ℕ → Type 0) → IfErr ran P
+  run_passes there P = rw there tt
+
+  pub rules_left : {made : Unit {0}} → ran ≡ Ok made → (P : Unit {0} → Type 0) → P made → IfOk ran P
+  rules_left there P is = rw there is
 
 -- ---- the first refusal of the three
 

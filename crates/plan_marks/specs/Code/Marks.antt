@@ -61,6 +61,10 @@ steps_marked marks x = map (step_marked marks x) (up_to (step_count marks x))
 unfoldable pub rounds_in : Marks → ℕ → List Round
 rounds_in marks x = map (λ step. step.round) (steps_marked marks x)
 
+-- the steps of job x in arrays of any marks
+unfoldable pub steps_listed : List ℕ → List StepMark → ℕ → List Step
+steps_listed counts steps x = map (λ n. step_of (get_or steps (16 * x + n) no_mark)) (up_to (get_or counts x 0))
+
 -- the steps of the first k jobs
 unfoldable pub steps_in : Marks → ℕ → List (List Step)
 steps_in marks k = map (steps_marked marks) (up_to k)

@@ -11,12 +11,17 @@ use Rattle.plan.specs.Legality.{Pair}
 use Rattle.plan.specs.Runs.{Plan, first_round, earlier, not_later, guess}
 use Rattle.order_states.specs.Code.SnapshotSteps.{Program, LentTimes, owner_in, before_in, preempts_in}
 use Rattle.plan_marks.specs.declared.Marks.{Marks}
-use Rattle.plan_marks.specs.Code.Marks.{stores_in, steps_marked, rounds_in}
+use Rattle.plan_marks.specs.declared.StepMark.{StepMark}
+use Rattle.plan_marks.specs.Code.Marks.{stores_in, steps_marked, rounds_in, steps_listed}
 
 -- ---- two jobs
 
 unfoldable pub round_of_start : Marks → ℕ → Round
 round_of_start marks x = first_or first_round (rounds_in marks x)
+
+-- that of the first step in arrays of any marks
+unfoldable pub round_of_first : List ℕ → List StepMark → ℕ → Round
+round_of_first counts steps x = first_or first_round (map (λ step. step.round) (steps_listed counts steps x))
 
 unfoldable pub round_of_end : Marks → ℕ → Round
 round_of_end marks x = last_or first_round (rounds_in marks x)

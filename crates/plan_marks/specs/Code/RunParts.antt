@@ -1,7 +1,7 @@
 -- The run of a plan as its functions yield it, in arrays. Functions that loop promise this of every accepted table that
 -- their lent arrays hold.
 -- Assumes nothing.
-use Rattle.std.specs.Prelude.{◌≡◌, ℕ, ◌+◌, ◌*◌, ◌≤◌, ◌<◌, List, length, Result, IfOk}
+use Rattle.std.specs.Prelude.{◌≡◌, ℕ, ◌+◌, ◌*◌, ◌≤◌, ◌<◌, List, length, Result, IfOk, IfErr}
 use Rattle.notation.specs.Checked.{mapped}
 use Rattle.taskfile.specs.Code.Refusals.{outcome}
 use Rattle.taskfile.specs.declared.refusals.Refused.{Refused}
@@ -43,6 +43,8 @@ pub record JobRanOf (program : List ℕ) (locks : Ceilings) (plan : Plan) (k x s
   -- the marks of other jobs are kept
   pub others : (y : ℕ) → y < 32 → (y ≡ x → ⊥) → steps_marked marks' y ≡ steps_marked marks y
   pub near : IfOk r (λ ran. ran.offset ≤ start + 32)
+  -- a refusal is of one of those steps
+  pub stopped : IfErr r (λ e. e.place ≤ start + 32)
   pub ran : (a : Accepted) (times : List ℕ) → Holds a program times locks k → IsJob a (record { 0 = x })
       → (failed : Flags)
       → mapped (job_run_in k x failed stores' marks') (outcome r)
@@ -60,6 +62,7 @@ pub record JobsRanOf (program : List ℕ) (locks : Ceilings) (plan : Plan) (k : 
     (stores' : List ℕ) (marks' : Marks) (r : Result JobsRan (Refused ℕ)) : Type 0 where
   pub room : length stores' ≡ length stores
   pub near : IfOk r (λ ran. ran.offset ≤ 1281)
+  pub stopped : IfErr r (λ e. e.place ≤ 1281)
   pub ran : (a : Accepted) (times : List ℕ) → Holds a program times locks k
       → mapped (job_runs_in k stores' marks') (outcome r)
       ≡ run_jobs a plan (job_numbers a) (run_state_in k stores no_flags (1 + 8 * k))

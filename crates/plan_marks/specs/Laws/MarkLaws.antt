@@ -2,7 +2,7 @@
 -- Assumes nothing.
 use Rattle.std.specs.Prelude.{◌≡◌, ℕ, ◌+◌, ◌*◌, ◌<◌, [], ◌∷◌, ◌++◌, map, set}
 use Rattle.std.proofs.Math.Path.{refl}
-use Rattle.std.proofs.Common.{◌∙◌, ap, arith}
+use Rattle.std.proofs.Common.{sym, ◌∙◌, ap, arith}
 use Rattle.std.proofs.Math.Decide.{dec_lt}
 use Rattle.std.proofs.lemmas.List.{get_or-replicate}
 use Rattle.std.proofs.Math.Seq.{get_or-set_same, get_or-set_other}
@@ -41,6 +41,12 @@ module _ (marks : Marks) (x n : ℕ) (room : n < 16) (step : Step) where
   pub mark_steps : (with_mark marks x n step).steps ≡ set marks.steps (16 * x + n) (mark_for step)
   unfolding with_mark
   mark_steps = steps_if (dec_lt n 16)
+
+  -- so both arrays written are the marks with one step more
+  pub mark_written : (marks' : Marks) → marks'.counts ≡ set marks.counts x (n + 1)
+      → marks'.steps ≡ set marks.steps (16 * x + n) (mark_for step) → marks' ≡ with_mark marks x n step
+  mark_written marks' counts steps =
+      marks_same marks' _ (counts ∙ sym mark_counts) (steps ∙ sym mark_steps)
 
 module _ (marks : Marks) (x n : ℕ) (is_x : x < 32) (is_n : n < 16) (step : Step) where
   -- the job has n + 1 steps

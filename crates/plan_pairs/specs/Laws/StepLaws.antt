@@ -1,10 +1,10 @@
 -- Laws of the rounds and priorities of one job's steps, as its functions read them: the first and the last, and, for
 -- the loops, what the steps from k on decide.
 -- Assumes nothing.
-use Rattle.std.specs.Prelude.{◌≡◌, Bool, true, false, ◌&&◌}
+use Rattle.std.specs.Prelude.{◌≡◌, Bool, true, false, ◌&&◌, get_or}
 use Rattle.std.proofs.Math.Path.{sym, ap}
-use Rattle.std.proofs.Common.{◌∙◌, add-one, le-leb, refl}
-use Prim.Native.Nat.{ℕ, zero, suc, ◌+◌, ◌-◌, ◌≤◌, ◌<◌}
+use Rattle.std.proofs.Common.{◌∙◌, add-one, lt-ltb, le-ltb, le-leb, refl}
+use Prim.Native.Nat.{ℕ, zero, suc, ◌+◌, ◌-◌, ◌*◌, ◌≤◌, ◌<◌}
 use native.Mathlib.Omega.{arith}
 use Rattle.std.proofs.Math.Bool.{not}
 use mathlib.Core.List.{List, [], ◌∷◌, map, map-map}
@@ -17,8 +17,9 @@ use Rattle.notation.specs.Laws.TestLaws.{and_first, and_second, and_last, and_ho
 use Rattle.plan.specs.declared.Round.{Round}
 use Rattle.plan.specs.Runs.{Step, first_round, earlier, not_later}
 use Rattle.plan_marks.specs.declared.Marks.{Marks}
-use Rattle.plan_marks.specs.Code.Marks.{step_marked, step_count, steps_marked, rounds_in}
-use Rattle.plan_marks.specs.Code.PairParts.{round_of_start, round_of_end, none_within, priority_reached}
+use Rattle.plan_marks.specs.declared.StepMark.{StepMark}
+use Rattle.plan_marks.specs.Code.Marks.{step_of, no_mark, step_marked, step_count, steps_marked, rounds_in, steps_listed}
+use Rattle.plan_marks.specs.Code.PairParts.{round_of_first, round_of_start, round_of_end, none_within, priority_reached}
 
 -- ---- the steps from k on, of n
 
@@ -46,6 +47,29 @@ module _ (marks : Marks) (x n : ℕ) where
 -- the round of a step that was read
 pub round_of_step : {read meant : Step} → read ≡ meant → read.round ≡ meant.round
 round_of_step same = ap (λ (step : Step). step.round) same
+
+-- ---- the first round in arrays of any marks
+
+module _ (counts : List ℕ) (steps : List StepMark) (x : ℕ) where
+  pub first_none : get_or counts x 0 ≡ 0 → first_round ≡ round_of_first counts steps x
+  unfolding round_of_first steps_listed up_to from first_or
+  first_none none = rw none refl
+
+  pub first_some : (get_or counts x 0 ≡ 0 → ⊥) → {i : ℕ} → i ≡ 16 * x
+      → (get_or steps i no_mark).round ≡ round_of_first counts steps x
+  unfolding round_of_first steps_listed up_to first_or
+  first_some some {i} is =
+      let place : i ≡ 16 * x + 0 = omega (arith, is) in
+      let whole : get_or counts x 0 ≡ get_or counts x 0 - 0 = omega arith in
+      ap (λ (j : ℕ). (get_or steps j no_mark).round) place
+      ∙ sym (ap (λ (l : List ℕ).
+      first_or first_round (map (λ step. step.round) (map (λ k. step_of (get_or steps (16 * x + k) no_mark)) l)))
+      (ap (from 0) whole ∙ from_first 0 (get_or counts x 0) (omega arith)))
+
+-- of whole marks it is the round of the start
+pub first_started : (marks : Marks) (x : ℕ) → round_of_first marks.counts marks.steps x ≡ round_of_start marks x
+unfolding round_of_first steps_listed round_of_start rounds_in steps_marked step_marked step_count
+first_started marks x = refl
 
 -- ---- the first and the last round
 
@@ -106,6 +130,58 @@ none_listed marks x r q {n} size =
     ∙ ap (λ (m : ℕ). all (λ p. not (earlier r p && not_later p q)) (map (λ k. (step_marked marks x k).round) (from 0 m))) size
     ∙ sym (ap (all (λ p. not (earlier r p && not_later p q)))
     (map-map (λ (step : Step). step.round) (step_marked marks x) (from 0 (step_count marks x))))
+
+-- the search for a step in rounds r + 1 to q has come to step k, of n
+pub record NoneFrom (marks : Marks) (x : ℕ) (r q : Round) (n k : ℕ) : Type 0 where
+  pub within : k ≤ n
+  pub same : none_within marks x r q ≡ all (λ p. not (earlier r p && not_later p q)) (rounds_left marks x n k)
+
+module _ (marks : Marks) (x : ℕ) (r q : Round) (n : ℕ) where
+  abbrev outside : List Round → Bool
+  outside = all (λ p. not (earlier r p && not_later p q))
+
+  abbrev rounds_then : List Step → Bool
+  rounds_then l = outside (map (λ step. step.round) l)
+
+  pub none_starts : n ≡ step_count marks x → NoneFrom marks x r q n 0
+  unfolding none_within rounds_in
+  none_starts size = record { within = omega arith; same = ap rounds_then (marks_all marks x n size) }
+
+  module _ (k : ℕ) (so_far : NoneFrom marks x r q n k) where
+    -- step k decides, or those behind it
+    none_step : k < n → {p : Round} → p ≡ (step_marked marks x k).round
+        → none_within marks x r q ≡ (not (earlier r p && not_later p q) && outside (rounds_left marks x n (k + 1)))
+    unfolding all
+    none_step lt {p} read =
+        so_far.same ∙ ap rounds_then (marks_next marks x n k lt)
+        ∙ ap (λ (s : Round). not (earlier r s && not_later s q) && outside (rounds_left marks x n (k + 1))) (sym read)
+
+    pub none_found : k < n → {p : Round} → p ≡ (step_marked marks x k).round → r.0 < p.0 → not_later p q ≡ true
+        → false ≡ none_within marks x r q
+    none_found lt {p} read later up =
+        sym (none_step lt read
+        ∙ and_first (not (earlier r p && not_later p q)) _
+        (ap not (and_holds (earlier r p) _ (lt-ltb r.0 p.0 later) up)))
+
+    none_later : k < n → {p : Round} → p ≡ (step_marked marks x k).round → (earlier r p && not_later p q) ≡ false
+        → NoneFrom marks x r q n (k + 1)
+    none_later lt {p} read out =
+        record {
+          within = omega arith;
+          same = none_step lt read ∙ and_second (not (earlier r p && not_later p q)) _ (ap not out);
+        }
+
+    -- a step up to r, or behind q
+    pub none_early : k < n → {p : Round} → p ≡ (step_marked marks x k).round → p.0 ≤ r.0 → NoneFrom marks x r q n (k + 1)
+    none_early lt {p} read up = none_later lt read (and_first (earlier r p) _ (le-ltb r.0 p.0 up))
+
+    pub none_late : k < n → {p : Round} → p ≡ (step_marked marks x k).round → not_later p q ≡ false
+        → NoneFrom marks x r q n (k + 1)
+    none_late lt {p} read past = none_later lt read (and_last (earlier r p) _ past)
+
+    pub none_ends : n ≤ k → true ≡ none_within marks x r q
+    unfolding all
+    none_ends le = sym (so_far.same ∙ ap rounds_then (marks_none marks x n k le))
 
 -- ---- the priority up to a round
 

@@ -1,7 +1,7 @@
 -- The run of one job over lent arrays: what holds before each step, and what a step makes of it. The step's bytes are
 -- refused, it ends the job, it goes on, or all sixteen steps are made.
 -- Assumes nothing.
-use Rattle.std.specs.Prelude.{◌≡◌, ℕ, suc, ◌+◌, ◌-◌, ◌*◌, ◌≤◌, ◌<◌, Bool, true, ◌||◌, ltb, get_or, Result, Ok, Err, IfOk}
+use Rattle.std.specs.Prelude.{◌≡◌, ℕ, suc, ◌+◌, ◌-◌, ◌*◌, ◌≤◌, ◌<◌, Bool, true, ◌||◌, ltb, get_or, Result, Ok, Err, IfOk, IfErr}
 use Rattle.std.proofs.Math.Path.{refl, sym, ap, ap₂}
 use Rattle.std.proofs.Common.{◌∙◌, lt-ltb}
 use native.Mathlib.Omega.{arith}
@@ -33,7 +33,7 @@ use Rattle.plan_marks.specs.Code.RunParts.{Holds, job_run_in, JobRanOf}
 use Rattle.plan.specs.Runs.{step_bytes_for}
 use Rattle.plan_marks.specs.Laws.MarkLaws.{count_here, mark_added, mark_others}
 use Rattle.plan_marks.specs.Laws.StoreLaws.{put_length}
-use Rattle.plan_runs.specs.Laws.ByteLaws.{bytes_refused, bytes_passed, bytes_round}
+use Rattle.plan_runs.specs.Laws.ByteLaws.{bytes_refused, bytes_near, bytes_passed, bytes_round}
 use Rattle.plan_runs.specs.Laws.FlagLaws.{flag_kept}
 use Rattle.plan_runs.specs.Laws.LentSteps.{lent_step, body_size, fresh_inside, inside_short, owner_small}
 use Rattle.plan_runs.specs.Laws.LentSteps.{bytes_lent, effect_lent, inside_on, made_lent, after_lent}
@@ -100,15 +100,16 @@ module _ {program : List ℕ} {locks : Ceilings} {plan : Plan} {k x start : ℕ}
   ended_here = Ok (record { offset = offset; failed = failed })
 
   -- only the run itself is left to show
-  ran_as : (r : Result JobRan (Refused ℕ)) → IfOk r (λ ran. ran.offset ≤ start + 32)
+  ran_as : (r : Result JobRan (Refused ℕ)) → IfOk r (λ ran. ran.offset ≤ start + 32) → IfErr r (λ e. e.place ≤ start + 32)
       → ((a : Accepted) (times : List ℕ) → Holds a program times locks k → IsJob a (record { 0 = x }) → (flags : Flags)
       → mapped (job_run_in k x flags stores marks) (outcome r)
       ≡ whole_job a plan x (run_state_in k stores₀ flags start))
       → Ran r
-  ran_as r near ran = record {
+  ran_as r near stopped ran = record {
     room = omega (arith, run.room);
     others = run.others;
     near = near;
+    stopped = stopped;
     ran = ran;
   }
 
@@ -117,14 +118,14 @@ module _ {program : List ℕ} {locks : Ceilings} {plan : Plan} {k x start : ℕ}
 
   -- no accepted table has a base or a position out of bounds
   run_outside : (owner < 8 → local.next < 16 → ⊥) → Ran ended_here
-  run_outside out = ran_as ended_here reached (λ a times held isJob flags.
+  run_outside out = ran_as ended_here reached tt (λ a times held isJob flags.
       absurd (out (owner_small held x isJob run.owned)
       (omega (arith, run.inside a times held isJob, inside_short held x isJob))))
 
   -- all sixteen steps are made
   pub run_used : 16 ≤ n → Ran ended_here
   unfolding run_job after_steps first_steps steps_marked mapped
-  run_used used = ran_as ended_here reached (λ a times held isJob flags.
+  run_used used = ran_as ended_here reached tt (λ a times held isJob flags.
       (let none : 16 - n ≡ 0 = omega arith in
       let made : first_steps marks x n ++ [] ≡ steps_marked marks x =
       append-nil _ ∙ ap (λ (c : ℕ). map (step_marked marks x) (up_to c)) (sym (run.counted (omega arith))) in
@@ -145,10 +146,13 @@ module _ {program : List ℕ} {locks : Ceilings} {plan : Plan} {k x start : ℕ}
     left : 16 - n ≡ suc (16 - (n + 1))
     left = omega arith
 
+    refused_near : (e : Refused ℕ) → outcome (Err e) ≡ step_bytes_for k i plan previous offset → e.place ≤ start + 32
+    refused_near e is = omega (arith, run.near, bytes_near k i plan previous offset e is)
+
     -- the step's bytes are refused
     pub run_refused_lem : {e : Refused ℕ} → outcome (Err e) ≡ step_bytes_for k i plan previous offset → Ran (Err e)
     unfolding after_steps run_state_in mapped
-    run_refused_lem {e} is = ran_as (Err e) tt (λ a times held isJob flags.
+    run_refused_lem {e} is = ran_as (Err e) tt (refused_near e is) (λ a times held isJob flags.
         (let inside = run.inside a times held isJob in
         let bytes =
         bytes_lent held x isJob run.owned local inside reads plan previous offset
@@ -260,6 +264,7 @@ module _ {program : List ℕ} {locks : Ceilings} {plan : Plan} {k x start : ℕ}
         room = omega (arith, room');
         others = others';
         near = omega (arith, run.near);
+        stopped = tt;
         ran = λ a times held isJob flags.
             sym (ended_is held isJob flags ends);
       }

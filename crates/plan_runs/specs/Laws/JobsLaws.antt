@@ -126,6 +126,7 @@ module _ {program : List ℕ} {locks : Ceilings} {plan : Plan} {k : ℕ} {stores
   jobs_ended all = record {
     room = omega (arith, run.room);
     near = omega (arith, run.near, run.few);
+    stopped = tt;
     ran = λ a times held.
         (let none : drop x (job_numbers a) ≡ [] =
         drop_of_length-le (job_numbers a) {i = x} (omega (arith, jobs_length a, held.total)) in
@@ -161,6 +162,7 @@ module _ {program : List ℕ} {locks : Ceilings} {plan : Plan} {k : ℕ} {stores
     jobs_refused {e} there = record {
       room = omega (arith, one.room, run.room);
       near = tt;
+      stopped = let there_near = rw there at one.stopped in omega (arith, there_near, run.near);
       ran = λ a times held.
           (let isJob : IsJob a (record { 0 = x }) = omega (arith, held.total) in
           let met =

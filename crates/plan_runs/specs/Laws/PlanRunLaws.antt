@@ -1,12 +1,13 @@
 -- Laws of a plan's run: the guesses copied, the first byte and the length judged, and what the jobs' run comes to.
 -- Assumes nothing.
-use Rattle.std.specs.Prelude.{◌≡◌, ℕ, ◌+◌, ◌*◌, ◌≤◌, ◌<◌, ◌&&◌, List, map, ltb, leb, length, get_or, drop, replicate, Result, Ok, Err}
+use Rattle.std.specs.Prelude.{◌≡◌, ℕ, ◌+◌, ◌*◌, ◌≤◌, ◌<◌, ◌&&◌, List, map, ltb, leb, length, get_or, set, drop, replicate, Result, Ok, Err}
 use Rattle.std.proofs.Math.Path.{refl, sym, ap}
-use Rattle.std.proofs.Common.{◌∙◌, arith, lt-ltb, le-ltb, le-leb, eq-eqb, ne_eqb}
+use Rattle.std.proofs.Common.{◌∙◌, zero-add, add-one, arith, length-drop, get_or-drop, lt-ltb, le-ltb, le-leb, eq-eqb, ne_eqb}
 use Rattle.std.proofs.Math.Bool.{true, false}
 use Rattle.std.proofs.Math.Dec.{eqb}
 use Rattle.std.proofs.lemmas.List.{length-replicate}
-use Rattle.std.proofs.Math.Seq.{paste}
+use Rattle.std.proofs.Math.Seq.{paste, paste-zero, paste-suc}
+use Rattle.std.proofs.lemmas.List.Edits.{length-paste}
 use Rattle.std.proofs.lemmas.Bool.{lt-leb}
 use Rattle.notation.specs.Checked.{Checked, refused, passed, require, mapped, ◌>>=◌, ◌>>◌}
 use Rattle.notation.specs.Laws.CheckedLaws.{require_holds, require_fails}
@@ -27,6 +28,34 @@ use Rattle.plan_marks.specs.declared.Marks.{Marks}
 use Rattle.plan_marks.specs.Code.Marks.{stores_in, steps_in, run_state_in}
 use Rattle.plan_marks.specs.Code.RunParts.{Holds, job_runs_in, JobsRanOf, PlanRanOf}
 use Rattle.plan_marks.specs.Laws.StoreLaws.{guesses_copied}
+
+-- ---- the guesses copied: the first v bytes of them
+
+pub record Copying (plan before : List ℕ) (most v : ℕ) (now : List ℕ) : Type 0 where
+  pub is : now ≡ paste before 0 (drop 1 plan) v
+  pub below : v ≤ most
+
+pub copying_none : (plan before : List ℕ) (most : ℕ) → Copying plan before most 0 before
+copying_none plan before most = record { is = paste-zero before 0 (drop 1 plan); below = omega arith }
+
+pub copying_more : (plan before : List ℕ) (most v : ℕ) (now : List ℕ) → Copying plan before most v now
+    → most ≤ length before → 1 + most ≤ length plan → v < most
+    → Copying plan before most (v + 1) (set now v (get_or plan (1 + v) 0))
+copying_more plan before most v now done room long lt = record {
+  is =
+      ap (λ (l : List ℕ). set l v (get_or plan (1 + v) 0)) done.is
+      ∙ ap (λ (b : ℕ). set (paste before 0 (drop 1 plan) v) v b) (sym (get_or-drop 1 plan v 0))
+      ∙ ap (λ (i : ℕ). set (paste before 0 (drop 1 plan) v) i (get_or (drop 1 plan) v 0)) (sym (zero-add v))
+      ∙ paste-suc before 0 (drop 1 plan) v 0 (omega arith) (omega (arith, length-drop 1 plan))
+      ∙ ap (paste before 0 (drop 1 plan)) (sym (add-one v));
+  below = omega arith;
+}
+
+pub copying_all : (plan before : List ℕ) (most v : ℕ) (now : List ℕ) → Copying plan before most v now → most ≤ v
+    → now ≡ paste before 0 (drop 1 plan) most
+copying_all plan before most v now done all =
+    let whole : v ≡ most = omega arith in
+    done.is ∙ ap (paste before 0 (drop 1 plan)) whole
 
 -- ---- a plan's run
 
@@ -108,6 +137,14 @@ run_is a plan k total some first long =
 -- the guesses copied into an array of zeros
 abbrev pub Copied : Plan → ℕ → List ℕ → Type 0
 Copied plan k stores = stores ≡ paste (replicate 256 0) 0 (drop 1 plan) (8 * k)
+
+pub copied_length : (plan : Plan) (k : ℕ) (stores : List ℕ) → Copied plan k stores → k ≤ 32 → 1 + 8 * k ≤ length plan
+    → length stores ≡ 256
+copied_length plan k stores copied few long =
+    let whole = length-replicate {A = ℕ} 256 0 in
+    ap length copied
+    ∙ length-paste (replicate 256 0) 0 (drop 1 plan) (8 * k) (omega (arith, whole)) (omega (arith, length-drop 1 plan))
+    ∙ whole
 
 -- the jobs' run over the copied guesses, and what follows it, is the plan's
 module _ (program : List ℕ) (locks : Ceilings) (plan : Plan) (k : ℕ) {stores stores' : List ℕ} {marks' : Marks}

@@ -1,24 +1,34 @@
 -- Laws of one step of a plan's run: how its two bytes are judged, and what it leaves.
 -- Assumes nothing.
-use Rattle.std.specs.Prelude.{◌≡◌, ℕ, ◌+◌, ◌≤◌, ◌<◌, Bool, not, ◌&&◌, leb, ltb, length, get_or}
+use Rattle.std.specs.Prelude.{◌≡◌, ℕ, ◌+◌, ◌≤◌, ◌<◌, Bool, not, ◌&&◌, leb, ltb, length, get_or, set, List}
 use Rattle.std.proofs.Math.Path.{sym, ap}
 use Rattle.std.proofs.Common.{◌∙◌}
 use Rattle.std.proofs.Math.Bool.{true, false}
 use borrow.Author.Tests.{lt-ltb, le-ltb, le-leb, lt-leb, ltb-true, not-true, not-false}
 use Rattle.notation.specs.Checked.{Checked, refused, passed, require, ◌>>◌}
 use Rattle.notation.specs.Laws.CheckedLaws.{require_holds, require_fails}
-use Rattle.notation.specs.Laws.TestLaws.{and_both, and_first, and_last, and_holds}
+use Rattle.notation.specs.Laws.TestLaws.{and_both, and_first, and_second, and_last, and_holds}
 use Rattle.notation.specs.Lists.{member}
 use Rattle.taskfile.specs.declared.Instruction.{Instruction}
 use Rattle.machine.specs.Instructions.{values}
 use Rattle.plan.specs.declared.Round.{Round}
 use Rattle.plan.specs.Runs.{Plan}
 use Rattle.plan_marks.specs.declared.Marks.{Marks}
+use Rattle.plan_marks.specs.declared.StepMark.{StepMark}
 use Rattle.plan_marks.specs.Code.Marks.{with_mark}
 use Rattle.plan.specs.Runs.{step_bytes_for}
 use Rattle.plan_runs.specs.Code.StepBounds.{may_step}
 
 -- ---- whether a step may be made
+
+module _ (base next : ℕ) where
+  pub may_high : 8 ≤ base → false ≡ may_step base next
+  unfolding may_step
+  may_high high = sym (and_first (ltb base 8) _ (le-ltb _ _ high))
+
+  pub may_next : base < 8 → ltb next 16 ≡ may_step base next
+  unfolding may_step
+  may_next low = sym (and_second (ltb base 8) _ (lt-ltb _ _ low))
 
 -- what a step that may be made is known by
 pub may_bounds : (base next : ℕ) {b : Bool} → b ≡ may_step base next → b ≡ true → (base < 8) × (next < 16)
@@ -88,6 +98,12 @@ module _ (k : ℕ) (i : Instruction) (plan : Plan) (previous : Round) (offset : 
           sym (within ∙ ap (λ (t : Bool). require t 41 (offset + 1)) good)
 
 -- ---- what the step leaves
+
+-- in arrays of any marks
+pub mark_listed : (steps : List StepMark) (at : ℕ) (r : Round) (v : ℕ) {p q : ℕ} → p ≡ q
+    → set steps at (record { round = r; value = v; priority = p })
+    ≡ set steps at (record { round = r; value = v; priority = q })
+mark_listed steps at r v own = ap (λ (p : ℕ). set steps at (record { round = r; value = v; priority = p })) own
 
 -- a priority that is the same makes the same mark
 pub mark_noted : (marks : Marks) (x n : ℕ) (r : Round) (v : ℕ) {p q : ℕ} → p ≡ q

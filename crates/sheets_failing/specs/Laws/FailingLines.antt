@@ -3,12 +3,12 @@
 use Rattle.std.specs.Prelude.{◌≡◌, refl}
 use Rattle.std.proofs.Math.Path.{sym, ap}
 use Rattle.std.proofs.Common.{subst, ◌∙◌, add-one}
-use Prim.Native.Nat.{ℕ, ◌+◌}
+use Prim.Native.Nat.{ℕ, ◌+◌, ◌≤◌}
 use native.Mathlib.Omega.{arith}
 use Rattle.std.proofs.Math.Bool.{Bool, true, false}
 use mathlib.Core.List.{List, [], ◌∷◌, ◌++◌, map, map-map, append_assoc, append-nil}
-use Rattle.std.proofs.Math.ListN.{get_or}
-use Rattle.notation.specs.Laws.ElementLaws.{only_append, only_in, only_drops}
+use Rattle.std.proofs.Math.ListN.{length, get_or}
+use Rattle.notation.specs.Laws.ElementLaws.{each_snoc, only_append, only_in, only_drops}
 use Rattle.notation.specs.Laws.ListLaws.{from_snoc}
 use Rattle.notation.specs.Laws.TabulateLaws.{values_snoc}
 use Rattle.notation.specs.Lists.{from, up_to, only, each}
@@ -22,9 +22,11 @@ use Rattle.sheets.specs.Sheets.{order_line}
 use Rattle.sheets.specs.SheetWords.{job_word, order_word, failed_word, rounds_word}
 use Rattle.notation_buffers.specs.declared.pages.Page.{Page}
 use Rattle.notation_buffers.specs.Code.Pages.{Puts}
+use Rattle.notation_buffers.specs.Code.Writing.{Appends}
 use Rattle.notation_buffers.specs.Code.Spaced.{spaced_numbers}
 use Rattle.notation_buffers.specs.Laws.PageLaws.{puts_same, puts_none, puts_more}
 use Rattle.notation_buffers.specs.Laws.LineLaws.{spaced_each, spaced_none, numbers_are, numbers_snoc, numbers_more, numbers_put}
+use Rattle.notation_buffers.specs.Laws.WritingLaws.{appends_none, appends_more, appends_length}
 use Rattle.sheets_failing.specs.Code.LineParts.{failed_part, job_line}
 
 -- ---- the order
@@ -142,3 +144,27 @@ module _ (marks : Marks) (x : ℕ) where
       (puts_more
       (puts_more (puts_more (puts_more first second) third)
       (puts_same (ap (λ (j : ℕ). spaced_numbers (rounds_to marks x j)) same) fourth)) fifth)
+
+-- ---- part after part, from any place of a text on
+
+module _ (part : ℕ → Text) where
+  pub texts_none : (before : List ℕ) (at : ℕ) → Appends (length before) before at (each (up_to 0) part) before at
+  unfolding up_to from each
+  texts_none before at = appends_none (length before) before at
+
+  pub texts_more : {before : List ℕ} {at : ℕ} (x : ℕ) {mid : List ℕ} {m : ℕ} {after : List ℕ} {n : ℕ}
+      → Appends (length before) before at (each (up_to x) part) mid m → Appends (length mid) mid m (part x) after n
+      → Appends (length before) before at (each (up_to (x + 1)) part) after n
+  texts_more {before} {at} x {mid} {m} {after} {n} first second =
+      let one : each (up_to x) part ++ part x ≡ each (up_to (x + 1)) part =
+      sym (each_snoc x part) ∙ ap (λ (k : ℕ). each (up_to k) part) (sym (add-one x)) in
+      let rest : Appends (length before) mid m (part x) after n =
+      subst (λ (room : ℕ). Appends room mid m (part x) after n) (appends_length first (omega arith)) second in
+      subst (λ (l : Text). Appends (length before) before at l after n) one (appends_more (omega arith) first rest)
+
+  pub texts_put : {before : List ℕ} {at : ℕ} (k x : ℕ) {after : List ℕ} {n : ℕ} → x ≤ k → k ≤ x
+      → Appends (length before) before at (each (up_to x) part) after n
+      → Appends (length before) before at (each (up_to k) part) after n
+  texts_put {before} {at} k x {after} {n} le ge puts =
+      let same : x ≡ k = omega arith in
+      subst (λ (j : ℕ). Appends (length before) before at (each (up_to j) part) after n) same puts

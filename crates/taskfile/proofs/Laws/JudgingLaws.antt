@@ -11,7 +11,7 @@ use Rattle.std.specs.List.{find, range_with_len}
 use Rattle.std.specs.Prelude.{Option, Some, None, cond}
 use Rattle.std.proofs.Math.Seq.{length-take-le, get_or-take}
 use Rattle.std.proofs.Math.Dec.{eqb, eqb-suc-suc}
-use borrow.Author.Tests.{eq-eqb, ne_eqb, le-leb, lt-ltb, le-ltb}
+use borrow.Author.Tests.{eq-eqb, ne_eqb, le-leb, lt-leb, lt-ltb, le-ltb, not-true, not-false}
 use Rattle.taskfile.specs.declared.Instruction.{Instruction}
 use Rattle.taskfile.specs.declared.Site.{Site}
 use Rattle.taskfile.specs.declared.Site.TheVariants.{AtTask, AtInstruction}
@@ -20,7 +20,7 @@ use Rattle.taskfile.specs.declared.Task.{Task}
 use Rattle.taskfile.specs.declared.TaskEntry.{TaskEntry}
 use Rattle.notation.specs.Checked.{refused, passed, none_of}
 use Rattle.taskfile.specs.Judgement.{numbered, task_numbers, instruction_sites, instruction_of, is_end, is_skip}
-use Rattle.taskfile.specs.Judgement.{of_instruction, of_task, body_fault, rate_fault}
+use Rattle.taskfile.specs.Judgement.{is_acquire, is_release, of_instruction, of_task, body_fault, rate_fault}
 use Rattle.taskfile.specs.Judgement.{ceiling_fault}
 use Rattle.taskfile.specs.Code.JudgingParts.{Shaped, ShapedEntry, body_fault_in, ceiling_fault_in}
 use Rattle.notation.specs.Laws.ListLaws.{get_or_any, each_map, each_one}
@@ -28,7 +28,7 @@ use Rattle.std.specs.Prelude.{if◌then◌else◌}
 use Rattle.notation.specs.Lists.{from, up_to, first_with, each}
 use Rattle.notation.specs.Laws.SearchLaws.{refused_at, none_of_map}
 use Rattle.taskfile.specs.Tables.{tasks_of, task_of, body_of, ceilings_of, end_instruction, no_task}
-use Rattle.notation.specs.Laws.TestLaws.{and_first, or_left, or_right}
+use Rattle.notation.specs.Laws.TestLaws.{and_first, and_last, or_first, or_left, or_right}
 
 -- the instruction at position p of a body's array
 abbrev pub here_in : TaskEntry → ℕ → Instruction
@@ -61,6 +61,10 @@ pub not_last_lem : (e : TaskEntry) (p : ℕ) → (p + 1 ≡ e.length → ⊥) �
 unfolding ends_badly
 not_last_lem e p other = and_first _ (not (is_end (here_in e p))) (ne_eqb (p + 1) e.length other)
 
+pub ends_well : (e : TaskEntry) (p : ℕ) → not (eqb (here_in e p).operation 0) ≡ false → ends_badly e p ≡ false
+unfolding ends_badly is_end
+ends_well e p end = and_last (eqb (p + 1) e.length) _ end
+
 -- skips by number
 pub skip_between : (here : Instruction) → 6 ≤ here.operation → here.operation ≤ 7 → is_skip here ≡ true
 unfolding is_skip
@@ -69,6 +73,14 @@ skip_between here least most =
       | yes same ↦ or_left (eqb here.operation 6) (eqb here.operation 7) (eq-eqb _ _ same)
       | no other ↦ or_right (eqb here.operation 6) (eqb here.operation 7) (eq-eqb _ _ (omega (arith, other)))
     ]
+
+pub skip_6 : (here : Instruction) → here.operation ≡ 6 → is_skip here ≡ true
+unfolding is_skip
+skip_6 here same = or_left (eqb here.operation 6) (eqb here.operation 7) (eq-eqb _ _ same)
+
+pub skip_7 : (here : Instruction) → not (eqb here.operation 7) ≡ false → is_skip here ≡ true
+unfolding is_skip
+skip_7 here same = or_right (eqb here.operation 6) (eqb here.operation 7) (not-false (eqb here.operation 7) same)
 
 -- a fault of 7 by the body's array
 body_fault_in_is : (e : TaskEntry) (p : ℕ) → ShapedEntry e → p < e.length
@@ -102,6 +114,70 @@ module _ (e : TaskEntry) (p : ℕ) (known : ShapedEntry e × (p < e.length)) whe
       let operation = (here_in e p).operation in
       sym (rw (body_fault_in_is e p known.0 known.1, ne_eqb operation 0 not0, ne_eqb operation 6 not6, ne_eqb operation 7 not7)
       (rw (and-true, or-false) refl))
+
+  -- the last instruction is not End
+  pub last_not_end : p + 1 ≡ e.length → not (eqb (here_in e p).operation 0) ≡ true → true ≡ body_fault_in e p
+  unfolding ends_badly is_end
+  last_not_end same other = sym (rw (body_fault_in_is e p known.0 known.1, eq-eqb (p + 1) e.length same, other))
+
+  -- no skip
+  pub no_skip : ends_badly e p ≡ false → ((here_in e p).operation ≡ 6 → ⊥) → not (eqb (here_in e p).operation 7) ≡ true
+      → false ≡ body_fault_in e p
+  unfolding is_skip
+  no_skip well not6 not7 =
+      let operation = (here_in e p).operation in
+      sym (rw (body_fault_in_is e p known.0 known.1, well, ne_eqb operation 6 not6, not-true (eqb operation 7) not7))
+
+  -- a skip, within the body or beyond
+  pub a_skip : ends_badly e p ≡ false → is_skip (here_in e p) ≡ true
+      → leb e.length (p + 1 + (here_in e p).c) ≡ body_fault_in e p
+  a_skip well skip = sym (rw (body_fault_in_is e p known.0 known.1, well, skip))
+
+-- does the instruction name a lock?
+unfoldable pub names_lock : Instruction → Bool
+names_lock here = is_acquire here || is_release here
+
+pub acquire_9 : (here : Instruction) → here.operation ≡ 9 → names_lock here ≡ true
+unfolding names_lock is_acquire
+acquire_9 here same = or_left (eqb here.operation 9) (is_release here) (eq-eqb _ _ same)
+
+pub release_10 : (here : Instruction) → not (eqb here.operation 10) ≡ false → names_lock here ≡ true
+unfolding names_lock is_release
+release_10 here same = or_right (is_acquire here) (eqb here.operation 10) (not-false (eqb here.operation 10) same)
+
+-- a fault of 9 by the array of ceilings
+module _ (locks : ℕ) (ceilings : List ℕ) (i : ℕ) (here : Instruction) (known : (locks ≤ 8) × (length ceilings ≡ 8)) where
+  ceiling_fault_in_is : ceiling_fault_in (take locks ceilings) i here
+      ≡ (names_lock here && leb locks here.a || is_acquire here && ltb (get_or (take locks ceilings) here.a 0) i)
+  unfolding ceiling_fault_in names_lock
+  ceiling_fault_in_is = rw (length-take-le locks ceilings (omega (arith, known)))
+
+  -- neither Acquire nor Release
+  pub no_lock_lem : (here.operation ≡ 9 → ⊥) → not (eqb here.operation 10) ≡ true
+      → false ≡ ceiling_fault_in (take locks ceilings) i here
+  unfolding names_lock is_acquire is_release
+  no_lock_lem not9 not10 =
+      sym (rw (ceiling_fault_in_is, ne_eqb here.operation 9 not9, not-true (eqb here.operation 10) not10))
+
+  module _ (named : names_lock here ≡ true) where
+    -- the lock is not there
+    pub lock_unknown : locks ≤ here.a → true ≡ ceiling_fault_in (take locks ceilings) i here
+    lock_unknown above = sym (rw (ceiling_fault_in_is, named, le-leb locks here.a above))
+
+    -- Release of a lock that is there
+    pub release_known : here.a < locks → here.operation ≡ 10 → false ≡ ceiling_fault_in (take locks ceilings) i here
+    unfolding is_acquire
+    release_known below release =
+        let other : eqb here.operation 9 ≡ false = ne_eqb here.operation 9 (λ same. omega arith) in
+        sym (rw (ceiling_fault_in_is, named, lt-leb locks here.a below, other))
+
+    -- Acquire of a lock that is there
+    pub acquire_known : here.a < locks → (here.operation ≡ 10 → ⊥)
+        → ltb (get_or ceilings here.a 0) i ≡ ceiling_fault_in (take locks ceilings) i here
+    unfolding names_lock is_release
+    acquire_known below not10 =
+        let acquire = or_first (is_acquire here) (is_release here) named (ne_eqb here.operation 10 not10) in
+        sym (rw (ceiling_fault_in_is, get_or-take locks ceilings here.a 0 below, acquire, lt-leb locks here.a below))
 
 -- the sites of task k's instructions, and its own
 unfoldable pub body_sites : Table → ℕ → List Site

@@ -1,8 +1,9 @@
 -- Laws of the records of a task file: bytes past the file's end, zero bytes one by one, the largest values of all
 -- fields as one list, and what its largest value says of a field.
 -- Assumes nothing.
-use Rattle.std.specs.Prelude.{ℕ, zero, suc, ◌+◌, ◌*◌, ◌≤◌, ◌<◌, ◌≡◌, refl, Bool, true, ◌&&◌, List, ◌++◌, map, length, get_or, take, drop, min, leb, ltb, eqb}
-use Rattle.std.proofs.Common.{arith, sym, subst, eqb-true, le-leb, ltb-true}
+use Rattle.std.specs.Prelude.{ℕ, zero, suc, ◌+◌, ◌*◌, ◌-◌, ◌≤◌, ◌<◌, ◌≡◌, refl, Bool, true, false, ◌&&◌, leb, ltb, eqb}
+use Rattle.std.specs.Prelude.{List, ◌++◌, map, length, get_or, take, drop, min}
+use Rattle.std.proofs.Common.{add-one, arith, sym, subst, eqb-true, eq-eqb, ne_eqb, le-leb, ltb-true}
 use Rattle.std.proofs.Math.ListN.{get_or-eq_default}
 use Rattle.std.proofs.Math.Decide.{dec_lt}
 use Rattle.std.proofs.Math.Seq.{drop-cons, take-nil}
@@ -34,6 +35,24 @@ wide_at_read f r k =
     let two : 16 * r + (k + 2) ≡ 16 * r + k + 2 = omega arith in
     let three : 16 * r + (k + 3) ≡ 16 * r + k + 3 = omega arith in
     rw (one, two, three) refl
+
+-- the test of no bytes holds; it fails where the first byte is not 0, and where it is, it is the test of the others
+pub zero_from_none : (f : File) (r k n : ℕ) → n ≤ 0 → zero_from f r k n ≡ true
+unfolding zero_from from all
+zero_from_none f r k zero h = refl
+zero_from_none f r k (suc n) h = absurd (omega arith)
+
+pub zero_from_other : (f : File) (r k n : ℕ) → 0 < n → (byte_at f r k ≡ 0 → ⊥) → zero_from f r k n ≡ false
+unfolding zero_from from all
+zero_from_other f r k zero h other = absurd (omega arith)
+zero_from_other f r k (suc n) h other = rw (ne_eqb (byte_at f r k) 0 other)
+
+pub zero_from_more : (f : File) (r k n : ℕ) → 0 < n → byte_at f r k ≡ 0 → zero_from f r k n ≡ zero_from f r (k + 1) (n - 1)
+unfolding zero_from from all
+zero_from_more f r k zero h same = absurd (omega arith)
+zero_from_more f r k (suc n) h same =
+    let fewer : suc n - 1 ≡ n = omega arith in
+    rw (eq-eqb (byte_at f r k) 0 same, fewer, add-one k)
 
 -- the test of n bytes is that of those that the file has, since past its end every byte is 0
 zero_bytes : (f : File) (r k n : ℕ) → list_all (λ b. eqb b 0) (take n (drop (16 * r + k) f)) ≡ zero_from f r k n

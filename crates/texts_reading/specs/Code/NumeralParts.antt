@@ -1,10 +1,8 @@
 -- What the functions that read the words of a line ask and come to: a byte where a part ends, and one numeral more.
 -- Assumes nothing.
-use Rattle.std.specs.Prelude.{◌≡◌, ℕ, ◌+◌, ◌≤◌, ◌<◌, length, get_or, set, Option, Some, None}
-use Rattle.std.specs.Prelude.{if◌then◌else◌}
+use Rattle.std.specs.Prelude.{◌≡◌, ℕ, ◌+◌, ◌≤◌, ◌<◌, length, get_or, set}
 use Rattle.notation.specs.Texts.{Text}
 use Rattle.texts.specs.declared.Numerals.{Numerals}
-use Rattle.texts.specs.Reading.{is_numeral}
 use Rattle.texts.specs.Code.LineParts.{capped_value}
 
 -- a part of a text ends at a byte: a separator stands there, or the text ends
@@ -12,9 +10,7 @@ pub record PartEnds (separator : ℕ) (text : Text) (at : ℕ) : Type 0 where
   pub within : at ≤ length text
   pub stands : at < length text → get_or text at 0 ≡ separator
 
--- one word more after those that were read, which has to be a numeral; past the eighth its value is not kept
-unfoldable pub with_numeral : Numerals → Text → Option Numerals
+-- one word more after those that were read; past the eighth its value is not kept
+unfoldable pub with_numeral : Numerals → Text → Numerals
 with_numeral read word =
-    if is_numeral word
-    then Some (record { count = read.count + 1; values = set read.values read.count (capped_value word) })
-    else None
+    record { count = read.count + 1; values = set read.values read.count (capped_value word) }

@@ -2,27 +2,95 @@
 -- cut off where it fits no field.
 -- Assumes nothing.
 use Rattle.std.specs.List.{list_all}
-use Rattle.std.specs.Prelude.{◌≡◌, refl, Bool, not, ◌&&◌, ◌||◌, [], ◌∷◌, eqb, length, get_or, drop}
+use Rattle.std.specs.Prelude.{◌≡◌, refl, Bool, true, false, not, ◌&&◌, ◌||◌, [], ◌∷◌, leb, eqb, length, get_or, drop}
 use Rattle.std.proofs.Math.Path.{sym, ap}
-use Rattle.std.proofs.Common.{◌∙◌, add-one, arith, drop-cons, ne_eqb}
+use Rattle.std.proofs.Common.{◌∙◌, add-one, arith, drop-cons, le-leb, eq-eqb, ne_eqb}
 use Prim.Native.Nat.{ℕ, suc, ◌+◌, ◌*◌, ◌-◌, ◌≤◌, ◌<◌, min}
 use Rattle.std.proofs.Math.Decide.{dec_le}
 use Rattle.std.proofs.Math.ListN.{drop_of_length-le}
+use Rattle.std.proofs.lemmas.Bool.{lt-leb}
 use Rattle.notation.specs.Lists.{all}
+use Rattle.notation.specs.Laws.TestLaws.{and_first, and_second}
 use Rattle.notation.specs.Texts.{Text}
 use Rattle.texts.specs.Grammar.{wide_field}
 use Rattle.texts.specs.Reading.{is_digit, is_empty, is_numeral, value_after, value_of}
 use Rattle.texts.specs.Code.LineParts.{capped_value}
 use Rattle.texts.proofs.Laws.NumeralLaws.{value_grows}
 
+-- ---- a digit
+
+pub digit_below : (b : ℕ) → b < 48 → false ≡ is_digit b
+unfolding is_digit
+digit_below b lt = sym (and_first (leb 48 b) (leb b 57) (lt-leb 48 b lt))
+
+pub digit_above : (b : ℕ) → 48 ≤ b → leb b 57 ≡ is_digit b
+unfolding is_digit
+digit_above b le = sym (and_second (leb 48 b) (leb b 57) (le-leb 48 b le))
+
 -- ---- digits all through
 
+-- the first k bytes of a word are digits
+pub record DigitsTo (word : Text) (k : ℕ) : Type 0 where
+  pub rest : all is_digit word ≡ all is_digit (drop k word)
+  pub most : k ≤ length word
+
+pub digits_none : (word : Text) → DigitsTo word 0
+digits_none word = record { rest = refl; most = omega arith }
+
+module _ (word : Text) (k : ℕ) (done : DigitsTo word k) where
+  digits_next : k < length word → all is_digit word ≡ (is_digit (get_or word k 0) && all is_digit (drop (k + 1) word))
+  unfolding all
+  digits_next lt = done.rest ∙ rw (add-one k) (rw (drop-cons word k 0 lt) refl)
+
+  pub digits_onward : k < length word → true ≡ is_digit (get_or word k 0) → DigitsTo word (k + 1)
+  digits_onward lt digit =
+      record { rest = digits_next lt ∙ and_second (is_digit (get_or word k 0)) _ (sym digit); most = omega arith }
+
+  pub digits_other : k < length word → false ≡ is_digit (get_or word k 0) → false ≡ all is_digit word
+  digits_other lt other = sym (digits_next lt ∙ and_first (is_digit (get_or word k 0)) _ (sym other))
+
+  pub digits_all : length word ≤ k → true ≡ all is_digit word
+  unfolding all
+  digits_all enough = sym (done.rest ∙ rw (drop_of_length-le word {i = k} enough) refl)
+
+-- as a call of the library's `all` finds it
 pub digits_listed : (word : Text) → list_all is_digit word ≡ all is_digit word
 unfolding all
 digits_listed [] = refl
 digits_listed (b ∷ word) = ap (λ (rest : Bool). is_digit b && rest) (digits_listed word)
 
 -- ---- a numeral
+
+pub numeral_none : (word : Text) → length word ≡ 0 → false ≡ is_numeral word
+unfolding is_numeral
+numeral_none [] e = refl
+numeral_none (b ∷ word) e = absurd (omega arith)
+
+pub numeral_other : (word : Text) → false ≡ all is_digit word → false ≡ is_numeral word
+unfolding is_numeral
+numeral_other [] e = refl
+numeral_other (b ∷ word) e = sym (and_first (all is_digit (b ∷ word)) _ (sym e))
+
+-- a first digit that is no zero
+pub numeral_led : (word : Text) → (length word ≡ 0 → ⊥) → true ≡ all is_digit word → (get_or word 0 0 ≡ 48 → ⊥)
+    → true ≡ is_numeral word
+unfolding is_numeral
+numeral_led [] some digits other = absurd (some refl)
+numeral_led (b ∷ word) some digits other =
+    sym (and_second (all is_digit (b ∷ word)) _ (sym digits)
+    ∙ ap (λ (t : Bool). not t || is_empty word) (ne_eqb b 48 other))
+
+-- a zero stands alone
+pub numeral_zero : (word : Text) → (length word ≡ 0 → ⊥) → true ≡ all is_digit word → get_or word 0 0 ≡ 48
+    → eqb (length word) 1 ≡ is_numeral word
+unfolding is_numeral is_empty
+numeral_zero [] some digits zero = absurd (some refl)
+numeral_zero (b ∷ []) some digits zero =
+    sym (and_second (all is_digit (b ∷ [])) _ (sym digits) ∙ ap (λ (t : Bool). not t || true) (eq-eqb b 48 zero))
+numeral_zero (b ∷ d ∷ word) some digits zero =
+    ne_eqb (length (b ∷ d ∷ word)) 1 (λ e. omega arith)
+    ∙ sym (and_second (all is_digit (b ∷ d ∷ word)) _ (sym digits)
+    ∙ ap (λ (t : Bool). not t || false) (eq-eqb b 48 zero))
 
 -- as the code tests it
 pub numeral_tested : (word : Text)
@@ -74,8 +142,8 @@ module _ (word : Text) (value k : ℕ) (done : ValuedTo word value k) where
     most = omega arith;
   }
 
-  pub valued_all : length word ≤ k → value ≡ capped_value word
-  unfolding value_after capped_value
+  pub valued_all : length word ≤ k → value ≡ min wide_field (value_of word)
+  unfolding value_after
   valued_all enough =
       let whole : min wide_field value ≡ value = omega (arith, done.small) in
       let none = drop_of_length-le word {i = k} enough in
@@ -83,6 +151,10 @@ module _ (word : Text) (value k : ℕ) (done : ValuedTo word value k) where
 
 -- ---- a numeral's value
 
-pub capped_numeral : (word : Text) → min wide_field (value_of word) ≡ capped_value word
+pub capped_other : (word : Text) → false ≡ is_numeral word → 0 ≡ capped_value word
 unfolding capped_value
-capped_numeral word = refl
+capped_other word e = rw (sym e) refl
+
+pub capped_numeral : (word : Text) → true ≡ is_numeral word → min wide_field (value_of word) ≡ capped_value word
+unfolding capped_value
+capped_numeral word e = rw (sym e) refl

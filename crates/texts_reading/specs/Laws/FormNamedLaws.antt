@@ -1,6 +1,6 @@
 -- Laws of the search for the form that a word names.
 -- Assumes nothing.
-use Rattle.std.specs.Prelude.{◌≡◌, ℕ, suc, ◌+◌, ◌<◌, Bool, cond, eqb, length, get_or, position, option_map}
+use Rattle.std.specs.Prelude.{◌≡◌, ℕ, suc, ◌+◌, ◌≤◌, ◌<◌, Bool, cond, eqb, length, get_or, position, option_map}
 use Rattle.std.specs.List.{position_from}
 use Rattle.std.specs.Cmp.Lexicographic.{pointwise}
 use Rattle.std.proofs.lemmas.Iterator.Adapters.{position_from-zero}
@@ -9,10 +9,11 @@ use Rattle.std.proofs.Math.Path.{refl, sym}
 use Rattle.std.proofs.Common.{ap, ◌∙◌, arith, add-one, add-zero, zero-add}
 use Rattle.std.proofs.Math.Bool.{true, false}
 use mathlib.Core.List.{List, [], ◌∷◌, map}
-use Rattle.std.proofs.Math.Option.{some}
+use Rattle.std.proofs.Math.Option.{Option, none, some}
 use Rattle.std.specs.Prelude.{if◌then◌else◌, Some, None}
 use Rattle.std.specs.Prelude as answers
 use Rattle.notation.specs.Lists.{from, up_to, first_with, same}
+use Rattle.notation.specs.Laws.SearchLaws.{Searched, search_starts, search_goes_on, search_finds, search_ends}
 use Rattle.notation.specs.Texts.{Text}
 use Rattle.texts.specs.declared.Form.{Form}
 use Rattle.texts.specs.declared.Form.TheVariants.{WindowLine, StartLine, TaskLine, InstructionLine, LockLine}
@@ -37,6 +38,11 @@ module _ {A : Type 0} (test : A → Bool) (x : A) (xs : List A) where
   first_passed_over e = rw (sym e) refl
 
 -- ---- an instruction by its name
+
+-- the form of an operation that was looked for
+unfoldable operation_form : Option ℕ → answers.Option Form
+operation_form none = None
+operation_form (some o) = Some (InstructionLine o)
 
 module _ (word : Text) where
   -- does the word name this form, and this operation?
@@ -76,11 +82,11 @@ module _ (word : Text) where
   lines_searched (line ∷ lines) i =
       ap (cond (pointwise eqb line.name.now word) (Some i)) (lines_searched lines (i + 1))
 
-  pub operation_found : (lines : List OperationLine) → names_of lines ≡ row_names
+  pub operation_placed : (lines : List OperationLine) → names_of lines ≡ row_names
       → option_map (λ o. InstructionLine o) (position (λ line. pointwise eqb line.name.now word) lines)
       ≡ named_of (operation_named word)
   unfolding operation_named operation_rows up_to row_of
-  operation_found lines is =
+  operation_placed lines is =
       ap (option_map (λ o. InstructionLine o))
       (position_from-zero (λ line. pointwise eqb line.name.now word) lines ∙ lines_searched lines 0
       ∙ ap (position_from (λ name. pointwise eqb name word) 0) is)
@@ -89,6 +95,44 @@ module _ (word : Text) where
       ∙ ap (λ (n : Text). same n word)
       (get_or-map (λ (r : Row). r.word) operation_rows k (operation_row end_word 0) [] lt)
       ∙ ap NamesOperation (sym (zero-add k)))
+
+  -- one operation after the other
+  operation_first : (os : List ℕ)
+      → operation_form (first_with NamesOperation os) ≡ named_of (first_with Names (map (λ o. InstructionLine o) os))
+  unfolding operation_form named_of first_with
+  operation_first [] = refl
+  operation_first (o ∷ os) = go (NamesOperation o) (operation_first os)
+    where
+      go : (b : Bool)
+          → operation_form (first_with NamesOperation os) ≡ named_of (first_with Names (map (λ o. InstructionLine o) os))
+          → operation_form (if b then some o else first_with NamesOperation os)
+          ≡ named_of (if b then some (InstructionLine o) else first_with Names (map (λ o. InstructionLine o) os))
+      go true later = refl
+      go false later = later
+
+  operation_searched : operation_form (first_with NamesOperation (up_to 12)) ≡ named_of (operation_named word)
+  unfolding operation_named operation_rows
+  operation_searched = operation_first (up_to 12)
+
+  -- the operations below o are not named so
+  abbrev pub OperationsTo : ℕ → Type 0
+  OperationsTo o = Searched NamesOperation 12 o
+
+  pub operations_none : OperationsTo 0
+  operations_none = search_starts NamesOperation 12
+
+  module _ (o : ℕ) (so_far : OperationsTo o) where
+    pub operations_more : o < 12 → false ≡ NamesOperation o → OperationsTo (o + 1)
+    operations_more lt fails = search_goes_on NamesOperation 12 o so_far lt (sym fails)
+
+    pub operation_found : o < 12 → true ≡ NamesOperation o → Some (InstructionLine o) ≡ named_of (operation_named word)
+    unfolding operation_form
+    operation_found lt holds =
+        sym (ap operation_form (search_finds NamesOperation 12 o so_far lt (sym holds))) ∙ operation_searched
+
+    pub operation_missing : 12 ≤ o → None ≡ named_of (operation_named word)
+    unfolding operation_form
+    operation_missing all = sym (ap operation_form (search_ends NamesOperation 12 o so_far all)) ∙ operation_searched
 
   -- ---- a form by its word
 

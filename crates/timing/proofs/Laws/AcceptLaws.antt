@@ -238,6 +238,17 @@ accepted_jobs f e =
     let held = (file_accepted f e).is_timed in
     ap job_list_of (same_jobs (accepted_timeable f e) held.found refl ∙ sym held.listed)
 
+-- a table whose response times were found and whose jobs are at most 32, with both, is what every entry has of the file
+pub answers_accepted : (f : File) {t : Table} → passed t ≡ table_of f → {times : List ℕ} → passed times ≡ times_of t
+    → (x : AcceptedFile) {total : ℕ} → total ≡ job_count t → total ≤ 32 → x.table ≡ t → x.responses ≡ times
+    → x.list ≡ job_list_of (jobs_of t times) → passed x ≡ mapped accepted_file (accept f)
+unfolding mapped accepted_file
+answers_accepted f loading timing x counted few table responses list =
+    let found = answers_passed f accepted_file loading timing counted few in
+    let jobs = list ∙ (λ i. job_list_of (jobs_of (found.2 i) (found.3 i))) ∙ accepted_jobs f found.1 in
+    (λ i. passed (record { table = (table ∙ found.2) i; responses = (responses ∙ found.3) i; list = jobs i }))
+    ∙ sym (ap (mapped accepted_file) found.1)
+
 -- what a caller of `accept_file` has of a refusal and of an accepted file
 pub accepted_refused : (c : Checked ℕ Accepted) {n p : ℕ} → refused n p ≡ mapped accepted_file c → c ≡ refused n p
 accepted_refused c e = mapped_refused accepted_file c e

@@ -102,11 +102,11 @@ module _ {t : Table} {xs : List Timing} (times : TimesOf t xs) where
   pub lent_end : (k r : ℕ) → t.tasks ≤ k → interference (drop k (tasks_of t)) r ≡ 0
   lent_end k r le = interference_end times.timeable k r le
 
-  -- what a task adds to the interference fits
-  pub lent_fits : (k r : ℕ) {u : ℕ} → k < t.tasks → r < 2 ^ 32 → u ≡ rounded_up r (get_or xs k no_timing).period
-      → u * (get_or xs k no_timing).execution < 2 ^ 33
-  lent_fits k r {u} lt small e =
-      let within = lent_times.within k lt in
-      let positive = lent_times.positive k lt in
-      let tight = rw (← e) at (rounded_up_tight r (get_or xs k no_timing).period (omega arith)) in
-      omega (arith, lent_times.narrow k lt, mul-le-mul_left u within, tight)
+-- what a task adds to the interference fits
+pub lent_fits : {xs : List Timing} {n : ℕ} → BoundedTimes xs n → (k r : ℕ) {u : ℕ} → k < n → r < 2 ^ 32
+    → u ≡ rounded_up r (get_or xs k no_timing).period → u * (get_or xs k no_timing).execution < 2 ^ 33
+lent_fits {xs} times k r {u} lt small e =
+    let within = times.within k lt in
+    let positive = times.positive k lt in
+    let tight = rw (← e) at (rounded_up_tight r (get_or xs k no_timing).period (omega arith)) in
+    omega (arith, times.narrow k lt, mul-le-mul_left u within, tight)

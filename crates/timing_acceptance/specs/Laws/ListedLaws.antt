@@ -17,7 +17,7 @@ use Rattle.timing.proofs.Laws.AcceptLaws.{mapped_refused, mapped_passed, accepte
 use Rattle.timing.proofs.Laws.AcceptedLaws.{file_accepted}
 use Rattle.timing.proofs.Laws.JobFacts.{jobs_few}
 use Rattle.timing.specs.ReadEntries.{listed, list_answer, list_answer_of, list_after, list_after_of}
-use Rattle.timing_acceptance.specs.Laws.FilledLaws.{filled_whole}
+use Rattle.timing_acceptance.specs.Laws.FilledLaws.{copied_whole}
 
 module _ (f : File) (list : List JobRecord) where
   -- the file is refused
@@ -89,5 +89,5 @@ module _ (f : File) (list : List JobRecord) where
     unfolding list_after list_after_of
     passed_after =
         ap (λ (y : JobList). take y.count y.jobs ++ drop y.count list) found.2
-        ∙ filled_whole found.0 list (jobs_fit found.1).0
+        ∙ copied_whole found.0 list (jobs_fit found.1).0
         ∙ sym (ap (λ (c : Checked ℕ (List JobRecord)). list_after_of c list) found.1)

@@ -6,7 +6,7 @@ use Rattle.walk_trials.specs.Laws.OutcomeLaws.{answer_stopped, answer_found, ans
 use Rattle.walk_trials.proofs.outcome_answer.Goals as goal
 
 pub returns-in-Stopped : goal.returns-in-Stopped
-returns-in-Stopped c = rw c.at.ensures at c.refused_walk.ensures ∙ answer_stopped _ c.in-Stopped.is
+returns-in-Stopped c = rw c.number.ensures at c.refused_walk.ensures ∙ answer_stopped _ c.in-Stopped.is
 
 pub returns-in-Held : goal.returns-in-Held
 returns-in-Held c = answer_held _ c.in-Held.is

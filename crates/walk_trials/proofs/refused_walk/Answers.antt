@@ -7,4 +7,4 @@ use Rattle.walk_trials.proofs.refused_walk.Goals as goal
 
 pub returns : goal.returns
 unfolding refusal no_store no_flags
-returns c = rw c.number.ensures refl
+returns c = refl

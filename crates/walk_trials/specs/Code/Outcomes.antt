@@ -11,6 +11,7 @@ use Rattle.walk.specs.declared.WalkAnswer.{WalkAnswer}
 use Rattle.walk.specs.WalkEntry.{refusal}
 use Rattle.walk_trials.specs.declared.Outcome as whole
 use Rattle.walk_trials.specs.declared.Outcome.{Outcome}
+use Rattle.walk_trials.specs.declared.Reached.{Reached}
 use Rattle.walk_trials.specs.declared.Trial as trying
 use Rattle.walk_trials.specs.declared.Trial.{Trial}
 
@@ -28,6 +29,10 @@ abbrev pub outcome_of : Trial → ℕ → Snapshot → Outcome
 outcome_of trying.TheVariants.Held count p = whole.TheVariants.Held count
 outcome_of trying.TheVariants.Stopped count p = whole.TheVariants.Stopped
 outcome_of (trying.TheVariants.Found length) count p = whole.TheVariants.Found count length (end_in p)
+
+-- the same, with the moves made and the end of the snapshot left, whatever the walk comes to
+abbrev pub reached : Trial → ℕ → Snapshot → Reached
+reached r count p = record { outcome = outcome_of r count p; count = count; end = end_in p }
 
 -- the length of an order found fits an answer
 abbrev pub Short : Outcome → Type 0

@@ -10,7 +10,7 @@ use Rattle.walk.specs.declared.Verdict.TheVariants.{Holds, Fails}
 use Rattle.walk.specs.WalkEntry.{refusal}
 use Rattle.notation.specs.Lists.{any, bytes_at}
 use Rattle.order_states.specs.Code.StateBytes.{snapshot_in}
-use Rattle.walk_trials.specs.Code.Outcomes.{ended_at, outcome_of, Short, answer_of, shown_length}
+use Rattle.walk_trials.specs.Code.Outcomes.{end_in, ended_at, outcome_of, Short, answer_of, shown_length}
 use Rattle.order_states.specs.Code.Snapshots.{Snapshot}
 use Rattle.walk_trials.specs.declared.Outcome.{Outcome}
 use Rattle.walk_trials.specs.declared.Outcome.TheVariants.{Stopped, Held, Found}
@@ -37,6 +37,12 @@ pub outcome_read : (bytes : List ℕ) (length count : ℕ) {store : List ℕ} {f
 unfolding snapshot_in
 outcome_read bytes length count stored flags =
     λ t. Found count length (record { store = stored t; failed = flags t })
+
+-- the end that is read from the bytes of a state is its snapshot's
+pub end_read : (bytes : List ℕ) {store : List ℕ} {failed : List Bool} → store ≡ bytes_at bytes 0 8
+    → failed ≡ (snapshot_in bytes).failed → record { store = store; failed = failed } ≡ end_in (snapshot_in bytes)
+unfolding snapshot_in
+end_read bytes stored flags = λ t. record { store = stored t; failed = flags t }
 
 -- ---- the three answers
 

@@ -80,6 +80,21 @@ module _ (t : Table) (fit : Fits t) {before after : List ℕ} {n : ℕ} (does : 
   pub laid_fits : {a : Accepted} → accept_table t ≡ passed a → n ≤ file_room
   laid_fits e = omega (arith, laid_count, layout_fits t fit (fields_sound t e))
 
+  -- copied into a buffer with room for it, the layout of an accepted table stands at the front whole
+  module _ {a : Accepted} (e : accept_table t ≡ passed a) {buffer out : List ℕ} {m : ℕ}
+      (copies : Appends file_room buffer 0 (take n after) out m) where
+    fits_file : length (take n after) ≤ file_room
+    fits_file = omega (arith, ap length laid_file, layout_fits t fit (fields_sound t e))
+
+    pub copied_count : m ≡ length (layout t)
+    copied_count = appends_count copies fits_file ∙ ap length laid_file
+
+    pub copied_whole : out ≡ layout t ++ drop (length (layout t)) buffer
+    copied_whole = appends_front copies fits_file ∙ ap (λ (l : List ℕ). l ++ drop (length l) buffer) laid_file
+
+    pub copied_within : m ≤ layout_room
+    copied_within = omega (arith, copied_count, layout_length t fit)
+
 -- ---- the writer
 
 -- a table is accepted where its layout is

@@ -10,7 +10,7 @@ use Rattle.writer.specs.Layout.{link_to, instruction_record, body_records, task_
 use Rattle.writer.specs.Layout.{lock_record, lock_records, header_record, layout}
 use Rattle.notation_buffers.specs.declared.pages.Page.{Page}
 use Rattle.notation_buffers.specs.Code.Pages.{Puts}
-use Rattle.notation_buffers.specs.Laws.PageLaws.{puts_same, puts_none, puts_more}
+use Rattle.notation_buffers.specs.Laws.PageLaws.{puts_same, puts_length, puts_none, puts_more}
 use Rattle.writer_layout.specs.Code.ClaimedParts.{link_at}
 use Rattle.writer_layout.specs.Laws.CountedLaws.{link_from}
 use Rattle.writer_layout.specs.Code.Layouts.{task_part}
@@ -45,6 +45,11 @@ laying_all none laying =
     (sym (append-nil laying.done) ∙ ap (λ (l : List ℕ). laying.done ++ l) (sym none) ∙ laying.joins)
     laying.is
 
+-- the page keeps its length
+pub laying_length : {before now : Page} {whole rest : List ℕ} → Laying before whole now rest
+    → length now.bytes.now ≡ length before.bytes.now
+laying_length laying = puts_length laying.is
+
 -- the link to what comes after part p
 pub link_after_lem : {A : Type 0} (r p : ℕ) (xs : List A) {count link : ℕ} → count ≡ length xs → link ≡ link_at r (p + 1) count
     → link ≡ link_to r (drop (suc p) xs)
@@ -66,6 +71,45 @@ body_linked = record { one = λ r i others. refl; none = λ r. refl }
 pub locks_linked : Linked lock_record lock_records
 unfolding lock_records
 locks_linked = record { one = λ r lock others. refl; none = λ r. refl }
+
+-- the records from part p on, where the first part is at index r
+unfoldable pub parts_left : {A : Type 0} → (ℕ → List A → List ℕ) → ℕ → List A → ℕ → List ℕ
+parts_left recordsFrom r parts p = recordsFrom (r + p) (drop p parts)
+
+-- none is written yet
+pub parts_whole : {A : Type 0} (recordsFrom : ℕ → List A → List ℕ) (r : ℕ) (parts : List A) (page : Page)
+    → Laying page (recordsFrom r parts) page (parts_left recordsFrom r parts 0)
+unfolding parts_left
+parts_whole recordsFrom r parts page =
+    let same : r + 0 ≡ r = omega arith in
+    laying_whole page (ap (λ (k : ℕ). recordsFrom k parts) same)
+
+-- part p is written next
+pub parts_more : {A : Type 0} {record_of : A → ℕ → List ℕ} {recordsFrom : ℕ → List A → List ℕ}
+    → Linked record_of recordsFrom → (r : ℕ) (parts : List A) (p : ℕ) {x : A} {count link : ℕ}
+    {before now after : Page} {whole : List ℕ} → drop p parts ≡ x ∷ drop (suc p) parts → count ≡ length parts
+    → link ≡ link_at (r + p + 1) (p + 1) count → Laying before whole now (parts_left recordsFrom r parts p)
+    → Puts now (record_of x link) after → Laying before whole after (parts_left recordsFrom r parts (p + 1))
+unfolding parts_left
+parts_more {record_of = record_of} {recordsFrom} linked r parts p {x} {link = link} here counted is laying puts =
+    let same : link ≡ link_to (suc (r + p)) (drop (suc p) parts) =
+    link_after_lem (r + p + 1) p parts counted is ∙ ap (λ (k : ℕ). link_to k (drop (suc p) parts)) (add-one (r + p)) in
+    let later : suc (r + p) ≡ r + (p + 1) = omega arith in
+    let split : recordsFrom (r + p) (drop p parts)
+    ≡ record_of x link ++ recordsFrom (r + (p + 1)) (drop (p + 1) parts) =
+    ap (recordsFrom (r + p)) here
+    ∙ linked.one (r + p) x (drop (suc p) parts)
+    ∙ (λ j. record_of x (sym same j) ++ recordsFrom (later j) (drop (sym (add-one p) j) parts)) in
+    laying_more split laying puts
+
+-- all are written
+pub parts_all : {A : Type 0} {record_of : A → ℕ → List ℕ} {recordsFrom : ℕ → List A → List ℕ}
+    → Linked record_of recordsFrom → (r : ℕ) (parts : List A) (p : ℕ) → length parts ≤ p
+    → {before now : Page} {whole : List ℕ} → Laying before whole now (parts_left recordsFrom r parts p)
+    → Puts before whole now
+unfolding parts_left
+parts_all {recordsFrom = recordsFrom} linked r parts p all laying =
+    laying_all (ap (recordsFrom (r + p)) (drop_of_length-le parts all) ∙ linked.none (r + p)) laying
 
 -- ---- the tasks
 

@@ -1,12 +1,13 @@
--- An array that is made of a function's values at its indices.
+-- An array of a function's values: filled place by place, or made of calls at its indices.
 -- Assumes nothing.
-use Rattle.std.specs.Prelude.{◌≡◌, ℕ, zero, suc, ◌+◌, ◌≤◌, ◌<◌, List, map}
+use Rattle.std.specs.Prelude.{◌≡◌, refl, ℕ, zero, suc, ◌+◌, ◌≤◌, ◌<◌, List, [], ◌∷◌, ◌++◌, map, length, take, set, replicate}
 use Rattle.std.specs.Array.{IsFromFnResult, IsFromFnResultFrom}
 use Rattle.std.specs.Fn.{Mut, Called}
-use Rattle.std.proofs.Common.{sym, ap, subst, ◌∙◌, arith, get_or}
+use Rattle.std.proofs.Common.{sym, ap, subst, ◌∙◌, add-one, arith, get_or, length-set, take_all, take-suc-set}
+use Rattle.std.proofs.lemmas.List.{length-replicate}
 use Rattle.std.proofs.Math.Decide.{ℕ_discrete}
-use Rattle.notation.specs.Laws.TabulateLaws.{values_are}
-use Rattle.notation.specs.Lists.{up_to}
+use Rattle.notation.specs.Laws.TabulateLaws.{values_are, values_snoc}
+use Rattle.notation.specs.Lists.{from, up_to}
 
 module _ {F B : Type 0} (g : Mut F (ℕ × Unit {0}) B) (f : F) (h : ℕ → B)
     (value : (i : ℕ) (y : B) (f' : F) → Called g f (i, tt) y f' → (y ≡ h i) × (f' ≡ f)) where
@@ -27,3 +28,39 @@ module _ {F B : Type 0} (g : Mut F (ℕ × Unit {0}) B) (f : F) (h : ℕ → B)
   pub made_of_values : (n : ℕ) {ys : List B} → B → IsFromFnResult g f ys n → ys ≡ map h (up_to n)
   made_of_values n {ys} d made =
       values_are h n ys d made.long (λ k lt. values_from ys 0 n k d made.each (omega arith) (omega arith))
+
+-- ---- filled place by place
+
+-- the first n of the array's m places hold the function's values there
+pub record Tabulated {A : Type 0} (f : ℕ → A) (m : ℕ) (array : List A) (n : ℕ) : Type 0 where
+  pub within : n ≤ m
+  pub full : length array ≡ m
+  pub holds : take n array ≡ map f (up_to n)
+
+-- before the first turn, after each, and after the last
+pub tabulated_none : {A : Type 0} (f : ℕ → A) (m : ℕ) (d : A) → Tabulated f m (replicate m d) 0
+unfolding up_to from
+tabulated_none f m d = record { within = omega arith; full = length-replicate m d; holds = refl }
+
+pub tabulated_more : {A : Type 0} (f : ℕ → A) (m : ℕ) {array : List A} {n : ℕ} {x : A} → Tabulated f m array n → n < m
+    → x ≡ f n → Tabulated f m (set array n x) (n + 1)
+tabulated_more {A} f m {array} {n} {x} h below is =
+    record {
+      within = omega arith;
+      full = length-set array n x ∙ h.full;
+      holds =
+          ap (λ (k : ℕ). take k (set array n x)) (add-one n)
+          ∙ take-suc-set array n x (omega (arith, h.full))
+          ∙ ap (λ (l : List A). l ++ (x ∷ [])) h.holds
+          ∙ ap (λ (y : A). map f (up_to n) ++ (y ∷ [])) is
+          ∙ sym (values_snoc f n);
+    }
+
+pub tabulated_all : {A : Type 0} (f : ℕ → A) (m : ℕ) {array : List A} {n : ℕ} → Tabulated f m array n → m ≤ n
+    → array ≡ map f (up_to m)
+tabulated_all {A} f m {array} {n} h end =
+    let same : n ≡ m = omega (arith, h.within) in
+    sym (take_all m array (omega (arith, h.full)))
+    ∙ ap (λ (k : ℕ). take k array) (sym same)
+    ∙ h.holds
+    ∙ ap (λ (k : ℕ). map f (up_to k)) same

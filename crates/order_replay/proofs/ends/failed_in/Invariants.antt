@@ -3,4 +3,4 @@ use Rattle.order_replay.specs.Laws.FlagsRead.{FlagsTo}
 use Rattle.order_replay.proofs.ends.failed_in.Given as goal
 
 abbrev pub invariant-loop-x : goal.invariant-loop-x
-invariant-loop-x l = FlagsTo l.s.bytes l.x l.failed
+invariant-loop-x l = FlagsTo l.s l.x l.failed

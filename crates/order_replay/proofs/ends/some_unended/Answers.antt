@@ -9,7 +9,7 @@ use Rattle.order_replay.proofs.ends.some_unended.Goals as goal
 
 pub returns : goal.returns
 returns c =
-    let owns : ℕ → Bool = λ k. owned_by c.args.program.now k (get_or c.args.s.now.bytes (8 + k) 0) in
+    let owns : ℕ → Bool = λ k. owned_by c.args.program.now k (get_or c.args.s.now (8 + k) 0) in
     any_from_yields_List owns _ _ _ c.any.ensures.ran (YieldsList-from_range 0 8 8 (cc) refl)
     (λ x b q k. search (rules, tests))
     ∙ unended_read _ _

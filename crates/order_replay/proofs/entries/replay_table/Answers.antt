@@ -5,4 +5,4 @@ use Rattle.order_replay.specs.Laws.ReplayTableLaws.{replay_lent}
 use Rattle.order_replay.proofs.entries.replay_table.Goals as goal
 
 pub returns : goal.returns
-returns c = replay_lent _ _ c.lend-lent.ensures c.replay_from.ensures
+returns c = replay_lent _ _ c.lend-lent.ensures c.replay_from.ensures.came

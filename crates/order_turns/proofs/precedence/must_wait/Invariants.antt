@@ -9,4 +9,4 @@ use Rattle.order_turns.proofs.precedence.must_wait.Given as goal
 
 abbrev pub invariant-loop-k : goal.invariant-loop-k
 invariant-loop-k l =
-    (y : ℕ) → l.row ≡ 8 * y → WaitKept l.waits (snapshot_in l.s.bytes).unended y l.k l.waiting
+    (y : ℕ) → l.row ≡ 8 * y → WaitKept l.waits (snapshot_in l.s).unended y l.k l.waiting

@@ -16,4 +16,4 @@ returns-then-may_start c =
 
 pub returns-else-may_start : goal.returns-else-may_start
 returns-else-may_start c =
-    sym (start_none_read _ _ _ _ _ c.level-low.ensures c.may_start.ensures (ap not c.if-may_start.false))
+    c.no_turn.ensures ∙ sym (start_none_read _ _ _ _ _ c.level-low.ensures c.may_start.ensures (ap not c.if-may_start.false))

@@ -3,6 +3,7 @@ use native.Mathlib.Omega.{arith}
 use mathlib.Core.Path.{refl}
 use Rattle.std.proofs.lemmas.Result.{err_from_is_err_and}
 use Rattle.order_states.specs.Code.SnapshotSteps.{owner_in}
+use Rattle.plan_marks.specs.Laws.MarkLaws.{mark_written}
 use Rattle.plan_runs.specs.Laws.ByteLaws.{bytes_there, bytes_round}
 use Rattle.plan_runs.specs.Laws.JobLaws.{run_starts, run_over, run_used, run_refused_lem, run_ended, run_goes}
 use Rattle.plan_runs.specs.Laws.StepLaws.{may_bounds}
@@ -50,14 +51,16 @@ pub returns-then-effect : goal.returns-then-effect
 returns-then-effect c =
     run_ended c.loop-n.invariant (omega arith) c.instruction_at-i.ensures c.loop-n-test.true
     c.in_ok-step_fault.ensures c.args.x.below c.requires.0
-    c.make_step-effect.ensures.effect c.make_step-effect.ensures.stores c.mark_step-previous.ensures.marks
+    c.make_step-effect.ensures.effect c.make_step-effect.ensures.stores
+    (mark_written _ _ _ c.loop-n-test.true _ _ c.mark_step-previous.ensures.counts c.mark_step-previous.ensures.steps)
     refl c.if-effect.true
 
 pub loop-n-preserved : goal.loop-n-preserved
 loop-n-preserved c =
     run_goes c.loop-n.invariant (omega arith) c.instruction_at-i.ensures c.loop-n-test.true
     c.in_ok-step_fault.ensures c.args.x.below c.requires.0
-    c.make_step-effect.ensures.effect c.make_step-effect.ensures.stores c.mark_step-previous.ensures.marks
+    c.make_step-effect.ensures.effect c.make_step-effect.ensures.stores
+    (mark_written _ _ _ c.loop-n-test.true _ _ c.mark_step-previous.ensures.counts c.mark_step-previous.ensures.steps)
     refl c.mark_step-previous.ensures.round c.if-effect.false
 
 pub returns-after-loop-n : goal.returns-after-loop-n

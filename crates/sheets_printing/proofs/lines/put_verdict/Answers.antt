@@ -2,6 +2,7 @@
 -- Assumes nothing.
 use Rattle.sheets.specs.SheetWords.{verdict_word}
 use Rattle.notation_buffers.specs.Laws.LineLaws.{line_begun, line_more, line_ended}
+use Rattle.notation_buffers.specs.Laws.PageLaws.{puts_more}
 use Rattle.sheets_printing.proofs.lines.put_verdict.Goals as goal
 
 pub returns : goal.returns
@@ -11,6 +12,6 @@ returns c =
     (line_more
     (line_more
     (line_begun c.put_word.ensures)
-    c.then_word.ensures)
+    (puts_more c.put_byte.ensures c.put_letters.ensures))
     c.then_number.ensures)
     c.end_line.ensures

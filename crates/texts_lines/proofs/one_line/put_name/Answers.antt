@@ -4,4 +4,4 @@ use Rattle.notation_buffers.specs.Laws.PageLaws.{puts_same}
 use Rattle.texts_lines.proofs.one_line.put_name.Goals as goal
 
 pub returns : goal.returns
-returns c = puts_same c.operation_line.ensures.name c.put_word.ensures
+returns c = puts_same c.operation_line.ensures.name c.put_letters.ensures

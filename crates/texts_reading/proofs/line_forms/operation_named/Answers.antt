@@ -7,7 +7,7 @@ use Rattle.std.proofs.lemmas.Iterator.{YieldsList-from_slice}
 use Rattle.std.proofs.lemmas.Iterator.Search.{position_from_yields_List}
 use Rattle.texts.specs.declared.Form.TheVariants.{InstructionLine}
 use Rattle.texts_reading.specs.declared.line_forms.OperationLine.{OperationLine}
-use Rattle.texts_reading.specs.Laws.FormNamedLaws.{operation_found}
+use Rattle.texts_reading.specs.Laws.FormNamedLaws.{operation_placed}
 use Rattle.texts_reading.specs.Laws.OperationNameLaws.{names_opened, names_of, row_names}
 use Rattle.texts_reading.proofs.line_forms.operation_named.Goals as goal
 
@@ -21,7 +21,7 @@ returns-in-Some c =
     (sym c.in-Some.is
     ∙ position_from_yields_List named _ _ _ c.position.ensures.ran
     (YieldsList-from_slice lines refl) (λ x b q k. search (rules, tests)))
-    ∙ operation_found c.args.word.now lines is
+    ∙ operation_placed c.args.word.now lines is
 
 pub returns-in-None : goal.returns-in-None
 unfolding names_opened
@@ -33,4 +33,4 @@ returns-in-None c =
     (sym c.in-None.is
     ∙ position_from_yields_List named _ _ _ c.position.ensures.ran
     (YieldsList-from_slice lines refl) (λ x b q k. search (rules, tests)))
-    ∙ operation_found c.args.word.now lines is
+    ∙ operation_placed c.args.word.now lines is

@@ -38,24 +38,24 @@ pub returns-in_default-numerals_past : goal.returns-in_default-numerals_past
 returns-in_default-numerals_past c =
     refusal_told _ c.at-in_default-numerals_past.ensures _
     (line_named _ _ _ _ c.part_end-end.ensures.end _ (sym c.in-Some.is ∙ c.form_named.ensures)
-    ∙ form_unspelt _ _ _ _ (let h : None ≡ c.numerals_past.result = search rules in h ∙ c.numerals_past.ensures))
+    ∙ form_unspelt _ _ _ _ _ (sym c.in_default-numerals_past.is ∙ c.numerals_past.ensures))
 
 pub returns-then-not-is_shaped : goal.returns-then-not-is_shaped
 returns-then-not-is_shaped c =
     refusal_told _ c.at-then-not-is_shaped.ensures _
     (line_named _ _ _ _ c.part_end-end.ensures.end _ (sym c.in-Some.is ∙ c.form_named.ensures)
-    ∙ form_misshapen _ _ _ _ _ (sym c.in-Some-numerals_past.is ∙ c.numerals_past.ensures) c.is_shaped.ensures
+    ∙ form_misshapen _ _ _ _ _ (sym c.in-Ok.is ∙ c.numerals_past.ensures) c.is_shaped.ensures
     c.if-not-is_shaped.true)
 
 pub returns-then-not-numbers_fit : goal.returns-then-not-numbers_fit
 returns-then-not-numbers_fit c =
     refusal_told _ c.at-then-not-numbers_fit.ensures _
     (line_named _ _ _ _ c.part_end-end.ensures.end _ (sym c.in-Some.is ∙ c.form_named.ensures)
-    ∙ form_overfull _ _ _ _ _ (sym c.in-Some-numerals_past.is ∙ c.numerals_past.ensures) c.is_shaped.ensures
+    ∙ form_overfull _ _ _ _ _ (sym c.in-Ok.is ∙ c.numerals_past.ensures) c.is_shaped.ensures
     c.if-not-is_shaped.false c.numbers_fit.ensures c.if-not-numbers_fit.true)
 
 pub returns : goal.returns
 returns c =
-    form_passes _ _ _ _ _ (sym c.in-Some-numerals_past.is ∙ c.numerals_past.ensures) c.is_shaped.ensures
+    form_passes _ _ _ _ _ (sym c.in-Ok.is ∙ c.numerals_past.ensures) c.is_shaped.ensures
     c.if-not-is_shaped.false c.numbers_fit.ensures c.if-not-numbers_fit.false
     ∙ sym (ap (mapped held) (line_named _ _ _ _ c.part_end-end.ensures.end _ (sym c.in-Some.is ∙ c.form_named.ensures)))

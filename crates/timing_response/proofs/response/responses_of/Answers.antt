@@ -8,6 +8,7 @@ use Rattle.std.proofs.Common.{Option}
 use Rattle.notation.specs.Checked.{mapped}
 use Rattle.taskfile.specs.declared.Table.{Table}
 use Rattle.taskfile.specs.declared.Task.{Task}
+use Rattle.timing.proofs.Laws.LentTimesLaws.{lent_times}
 use Rattle.timing.proofs.Laws.TableResponseLaws.{AllFound, FoundFrom, found_none, found_fit, found_more, found_refused}
 use Rattle.timing_response.proofs.response.responses_of.Goals as goal
 
@@ -28,10 +29,15 @@ loop-i-preserved-in-Some c =
     let found = rw c.times_of-times.ensures at c.response_of.ensures in
     found_more c.requires (omega arith) (above c.loop-i-test.true c.loop-i.invariant) (sym found ∙ c.in-Some.is)
 
+pub fits_alone-fit-requires : goal.fits_alone-fit-requires
+fits_alone-fit-requires c =
+    let times = c.times_of-times.result in
+    (rw c.times_of-times.ensures at (lent_times times.times_of), omega arith)
+
 pub loop-i-preserved : goal.loop-i-preserved
 loop-i-preserved c =
     let found = rw c.times_of-times.ensures at c.response_of.ensures in
-    let alone = rw c.times_of-times.ensures at c.fits_alone-fit.ensures in
+    let alone = c.fits_alone-fit.ensures _ refl (rw c.times_of-times.ensures at c.times_of-times.result.times_of) in
     found_refused c.requires (omega arith) (above c.loop-i-test.true c.loop-i.invariant) (sym found ∙ c.in-None.is) alone
 
 pub returns-in-Some-late : goal.returns-in-Some-late

@@ -3,4 +3,4 @@ use Prim.Native.Nat.{◌-◌}
 use Rattle.timing_response.proofs.scheduling_points.+fits_from.Given as goal
 
 abbrev pub decreases-fits_from : goal.decreases-fits_from
-decreases-fits_from l = l.times.now.table.now.tasks - l.j
+decreases-fits_from l = l.tasks - l.j

@@ -1,5 +1,5 @@
 -- What `timing_response::scheduling_points::search` owes and the search does not find.
-use mathlib.Core.Path.{◌≡◌, sym, ap, ◌∙◌}
+use mathlib.Core.Path.{◌≡◌, refl, sym, ap, ◌∙◌}
 use mathlib.Core.Bool.{false≢true}
 use Prim.Native.Nat.{ℕ, ◌^◌, ◌≤◌, ◌<◌}
 use native.Mathlib.Omega.{arith}
@@ -38,34 +38,45 @@ returns-then-demand_of-start c =
     let solves = sym c.demand_of.ensures ∙ c.if-demand_of-start.true in
     sym (ap bound_of (iteration_found c.requires.0 solves (omega (arith, period c.args.equation.now))))
 
+pub fits_from-requires : goal.fits_from-requires
+fits_from-requires c =
+    let e = c.args.equation.now in
+    let bounded = lent_times e.times.now.times_of in
+    (bounded, omega (arith, e.inside), omega (arith, e.need.narrow), bounded.narrow _ e.inside)
+
 pub returns-then-not-fits_from : goal.returns-then-not-fits_from
 unfolding bound_of
 returns-then-not-fits_from c =
     let e = c.args.equation.now in
     sym (ap bound_of (search_none _ _ (positive e) (period e) (λ done.
-    false≢true (sym c.if-not-fits_from.true ∙ (done_read e.need c.requires.1 c.fits_from.ensures).1 done))))
+    false≢true (sym c.if-not-fits_from.true ∙ (done_read e.need c.requires.1 (c.fits_from.ensures _ refl e.times.now.times_of)).1 done))))
 
 pub loop-lo-init : goal.loop-lo-init
 loop-lo-init c =
     let e = c.args.equation.now in
-    search_start c.requires.0 (period e) (omega arith) ((done_read e.need c.requires.1 c.fits_from.ensures).0 c.if-not-fits_from.false)
+    let fits = done_read e.need c.requires.1 (c.fits_from.ensures _ refl e.times.now.times_of) in
+    search_start c.requires.0 (period e) (omega arith) (fits.0 c.if-not-fits_from.false)
 
 pub fits_from-requires-in-loop-lo : goal.fits_from-requires-in-loop-lo
 fits_from-requires-in-loop-lo c =
-    let e = c.args.equation.now in
-    (omega (arith, e.inside), omega (arith, e.need.narrow), omega (arith, narrow e c.loop-lo.invariant))
+    let e = c.args.equation.now in (
+      lent_times e.times.now.times_of,
+      omega (arith, e.inside),
+      omega (arith, e.need.narrow),
+      omega (arith, narrow e c.loop-lo.invariant),
+    )
 
 pub loop-lo-preserved-then-fits_from : goal.loop-lo-preserved-then-fits_from
 loop-lo-preserved-then-fits_from c =
     let e = c.args.equation.now in
-    let done = (done_read e.need c.requires.1 c.fits_from-in-loop-lo.ensures).0 c.if-fits_from.true in
+    let done = (done_read e.need c.requires.1 (c.fits_from-in-loop-lo.ensures _ refl e.times.now.times_of)).0 c.if-fits_from.true in
     search_down (positive e) c.loop-lo.invariant (omega arith) (omega arith) done
 
 pub loop-lo-preserved : goal.loop-lo-preserved
 loop-lo-preserved c =
     let e = c.args.equation.now in
     search_up (positive e) c.loop-lo.invariant (omega arith) (λ done.
-    false≢true (sym c.if-fits_from.false ∙ (done_read e.need c.requires.1 c.fits_from-in-loop-lo.ensures).1 done))
+    false≢true (sym c.if-fits_from.false ∙ (done_read e.need c.requires.1 (c.fits_from-in-loop-lo.ensures _ refl e.times.now.times_of)).1 done))
 
 pub returns : goal.returns
 unfolding bound_of

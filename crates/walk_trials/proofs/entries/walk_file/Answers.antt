@@ -50,7 +50,7 @@ outcome_answer-requires c =
 pub returns-in-Err-clause-answer : goal.returns-in-Err-clause-answer
 returns-in-Err-clause-answer c =
     let refuses = rw c.in-Err.is at c.admitted.ensures in
-    c.refused_walk.ensures ∙ (entry_refused _ c.args.allowance c.args.out.now refuses).0
+    rw c.number.ensures at c.refused_walk.ensures ∙ (entry_refused _ c.args.allowance c.args.out.now refuses).0
 
 pub returns-in-Err-clause-buffer : goal.returns-in-Err-clause-buffer
 returns-in-Err-clause-buffer c =
