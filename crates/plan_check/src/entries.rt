@@ -4,7 +4,7 @@ ghost use Rattle.taskfile.specs.Code.Refusals.{outcome};
 ghost use Rattle.plan.specs.Plans.{checked, plan_answer};
 ghost use Rattle.plan_marks.specs.Code.TableParts.{PlanCheckedOf};
 
-use crate::legality::{end_store, legality_fault};
+use crate::legality::{end_store, refuse_illegal};
 use machine::{End, RunAnswer};
 use machine_locals::run_answers::ended_answer;
 use order_lending::lend_times;
@@ -27,7 +27,7 @@ pub fn check_table(listed: &ListedTable, plan: &[u8]) -> Result<PlanChecked, Ref
         times: &l.times,
         marks: &ran.marks,
     };
-    legality_fault(Ok(()), &marked, plan, listed.table.store, &ran.stores, k)?;
+    refuse_illegal(&marked, plan, listed.table.store, &ran.stores, k)?;
     let store = end_store(listed.table.store, &ran.stores, k);
     Ok(PlanChecked {
         end: End {

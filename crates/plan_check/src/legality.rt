@@ -1,7 +1,8 @@
 // Numbers 43 to 45, and how a legal plan ends.
-ghost use Rattle.std.specs.Prelude.{◌≡◌, ◌+◌, ◌*◌, ◌≤◌, ◌<◌, length, Err, IfOk, IfErr};
+ghost use Rattle.std.specs.Prelude.{◌≡◌, ◌+◌, ◌*◌, ◌≤◌, ◌<◌, length, IfOk};
 ghost use Rattle.notation.specs.Lists.{last_or};
 ghost use Rattle.plan.specs.Runs.{guess};
+ghost use Rattle.plan_check.specs.Code.Faults.{fault_then};
 ghost use Rattle.plan_marks.specs.Code.Marks.{stores_in};
 ghost use Rattle.plan_marks.specs.Code.PairParts.{due_store_in, guess_fault_in, legality_in};
 ghost use Rattle.taskfile.specs.Code.Refusals.{outcome};
@@ -53,26 +54,44 @@ pub fn guess_fault(
     Ok(())
 }
 
-// Refuses where a plan's run does; else at the first of 43, 44 and 45, where the run left these marks and stores.
-pub fn legality_fault(
-    ran: Result<(), Refused<u32>>,
+// Refuses a plan that ran, and left these marks and stores, at the first of 43, 44 and 45.
+pub fn refuse_illegal(
     marked: &Marked<'_>,
     plan: &[u8],
     store: [u8; VARIABLES],
     stores: &[u8; STORES],
     k: u8,
 ) -> Result<(), Refused<u32>>
-    requires { (k ≤ most_jobs) × IfOk ran (λ _. 1 + 8 * k ≤ length plan.now) }
-    ensures refused { IfErr ran (λ e. result ≡ Err e) }
-    ensures judged { IfOk ran (λ _. outcome result ≡ legality_in marked.now.program.now marked.now.times.now
-        plan.now store stores.now marked.now.marks.now k) }
+    requires { (k ≤ most_jobs) × (1 + 8 * k ≤ length plan.now) }
+    ensures { outcome result ≡ legality_in marked.now.program.now marked.now.times.now plan.now store stores.now
+        marked.now.marks.now k }
 {
-    if let Err(e) = ran {
-        return Err(e);
-    }
     pair_fault(k, Refusal::Order, |x, y| marked.order_faulty(x, y))?;
     pair_fault(k, Refusal::Lock, |x, y| marked.lock_faulty(x, y))?;
     guess_fault(plan, store, stores, k)
+}
+
+// The fault of a plan whose run came to this, by whatever number at whatever place: that, or the first of 43, 44 and
+// 45.
+pub fn legality_fault(
+    ran: Result<(), (u8, u32)>,
+    marked: &Marked<'_>,
+    plan: &[u8],
+    store: [u8; VARIABLES],
+    stores: &[u8; STORES],
+    k: u8,
+) -> Result<(), (u8, u32)>
+    requires { (k ≤ most_jobs) × IfOk ran (λ _. 1 + 8 * k ≤ length plan.now) }
+    ensures { result ≡ fault_then ran (legality_in marked.now.program.now marked.now.times.now plan.now store
+        stores.now marked.now.marks.now k) }
+{
+    if let Err(fault) = ran {
+        return Err(fault);
+    }
+    match refuse_illegal(marked, plan, store, stores, k) {
+        Ok(()) => Ok(()),
+        Err(e) => Err((e.why.number(), e.place)),
+    }
 }
 
 // The end store: that of the last round, or the initial store if there are none.

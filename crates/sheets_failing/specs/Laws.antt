@@ -1,1 +1,2 @@
 pub mod FailingLines
+pub mod PlacedLaws

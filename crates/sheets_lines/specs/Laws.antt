@@ -1,4 +1,5 @@
 pub mod FindingLaws
+pub mod PlacedLaws
 pub mod PlanMarks
 pub mod SheetLaws
 pub mod TaskLines

@@ -1,2 +1,3 @@
 pub mod LineTextLaws
+pub mod PlacedLaws
 pub mod TextLineLaws

@@ -3,7 +3,7 @@ ghost use Rattle.std.specs.Prelude.{◌≡◌, ◌+◌, ◌-◌, ◌^◌, ◌≤
 ghost use Rattle.notation.specs.Lists.{all, same};
 ghost use Rattle.texts.specs.Grammar.{wide_field};
 ghost use Rattle.texts.specs.Reading.{is_digit, is_numeral, value_of};
-ghost use Rattle.texts.specs.Code.LineParts.{part_end, words_past, numeral_of, numerals_of};
+ghost use Rattle.texts.specs.Code.LineParts.{part_end, words_past, capped_value, numeral_of, numerals_of};
 ghost use Rattle.texts_reading.specs.Code.NumeralParts.{PartEnds};
 
 use notation::characters::{SPACE, ZERO};
@@ -73,7 +73,7 @@ fn value_of(word: &[u8]) -> u64
 }
 
 // A numeral's value, or the cap if that is less.
-pub fn capped_value(word: &[u8]) -> Option<u64>
+pub fn numeral_of(word: &[u8]) -> Option<u64>
     ensures { result ≡ numeral_of word.now }
 {
     if is_numeral(word) {
@@ -81,6 +81,13 @@ pub fn capped_value(word: &[u8]) -> Option<u64>
     } else {
         None
     }
+}
+
+// A numeral's value, or the cap if that is less, and 0 for a word that is no numeral.
+pub fn capped_value(word: &[u8]) -> u64
+    ensures { result ≡ capped_value word.now }
+{
+    numeral_of(word).unwrap_or(0)
 }
 
 // The numerals that were read and the value of one word more. Past the eighth it is not kept.
@@ -110,7 +117,7 @@ pub fn numerals_past(line: &[u8], from: usize) -> Result<Numerals, Numerals>
     while at < line.len() {
         let start = at + 1;
         at = part_end(line, start, SPACE);
-        let value = capped_value(&line[start..at]);
+        let value = numeral_of(&line[start..at]);
         good = good && value.is_some();
         read = with_numeral(read, value.unwrap_or(0));
     }

@@ -5,6 +5,7 @@ ghost use Rattle.taskfile.specs.Code.Refusals.{outcome};
 ghost use Rattle.timing.specs.Accepted.{accept};
 ghost use Rattle.timing.specs.Code.AcceptParts.{accepted_file};
 ghost use Rattle.timing.specs.ReadEntries.{read_answer};
+ghost use Rattle.timing_acceptance.specs.Code.ReadParts.{refused_read};
 ghost use Rattle.timing_acceptance.specs.Code.TimedParts.{timed_file};
 
 use taskfile::Table;
@@ -59,6 +60,18 @@ pub fn accept_file(file: &[u8]) -> Result<AcceptedFile, Refused<u8>>
     Ok(accepted)
 }
 
+// The reader's answer to a file that is refused: number and place, and every other field zero.
+pub fn refused_read(number: u8, place: u8) -> ReadAnswer
+    ensures { result ≡ refused_read number place }
+{
+    ReadAnswer {
+        number,
+        place: u32::from(place),
+        responses: [0; TASKS],
+        jobs: 0,
+    }
+}
+
 // The reader's entry: number and place, the response times and the number of jobs. It lists no job.
 pub fn read(file: &[u8]) -> ReadAnswer
     ensures { result ≡ read_answer file.now }
@@ -73,11 +86,6 @@ pub fn read(file: &[u8]) -> ReadAnswer
                 jobs: timed.jobs,
             }
         }
-        Err(refused) => ReadAnswer {
-            number: refused.why.number(),
-            place: u32::from(refused.place),
-            responses: [0; TASKS],
-            jobs: 0,
-        },
+        Err(refused) => refused_read(refused.why.number(), refused.place),
     }
 }

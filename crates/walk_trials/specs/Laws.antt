@@ -1,5 +1,6 @@
 pub mod AnswerLaws
 pub mod OutcomeLaws
+pub mod StartLaws
 pub mod TrialLaws
 pub mod TryingLaws
 pub mod WalkEntryLaws

@@ -41,7 +41,7 @@ pub fn put_instruction(page: &mut Page, i: Instruction, next: u8)
     ensures { Puts page.old (instruction_record i next) page.new }
 {
     let kind = Kind::InstructionRecord as u8;
-    page.put_word(&[kind, next, i.operation, i.a, i.b, i.c]);
+    page.put_letters(&[kind, next, i.operation, i.a, i.b, i.c]);
     page.put_word(&[0; INSTRUCTION_UNUSED]);
 }
 

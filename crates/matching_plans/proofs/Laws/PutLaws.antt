@@ -12,6 +12,10 @@ use Rattle.notation_buffers.specs.Code.Pages.{Puts}
 use Rattle.notation_buffers.specs.Laws.PageLaws.{PartsTo, puts_same, puts_more}
 use Rattle.matching_plans.specs.Code.Columns.{job_column, columns_in, plan_in}
 
+-- the first v bytes of the guesses
+unfoldable pub guesses_to : List ℕ → ℕ → List ℕ
+guesses_to guesses v = take v guesses
+
 -- a step's two bytes
 abbrev two : Step → List ℕ
 two step = step.round.0 ∷ step.value ∷ []

@@ -1,6 +1,6 @@
 -- The faults 43 to 45 over marks, stores and the lent table are those of the definition.
 -- Assumes nothing.
-use Rattle.std.specs.Prelude.{◌≡◌, ℕ, Bool, true, false, not, List, [], ◌∷◌, map, length, get_or, Result, Ok, Err, IfOk, IfErr}
+use Rattle.std.specs.Prelude.{◌≡◌, ℕ, Bool, true, false, not, List, [], ◌∷◌, map, length, get_or, Result, Ok, Err, IfOk}
 use Rattle.std.proofs.Math.Path.{refl}
 use Rattle.std.proofs.Common.{sym, ◌∙◌}
 use Rattle.notation.specs.Checked.{Checked, refused, none_of, placed_by, ◌>>◌}
@@ -13,7 +13,8 @@ use Rattle.machine.specs.Instructions.{Store}
 use Rattle.plan.specs.declared.Round.{Round}
 use Rattle.plan.specs.Legality.{due_store, guess_fault, legality}
 use Rattle.plan.specs.Runs.{Plan, JobRuns, job_total, round_numbers, guess}
-use Rattle.taskfile.specs.Code.Refusals.{outcome}
+use Rattle.plan_check.specs.Code.Faults.{fault_of, fault_then}
+use Rattle.taskfile.specs.Code.Refusals.{number_of, outcome}
 use Rattle.taskfile.specs.declared.refusals.Refused.{Refused}
 use Rattle.plan_marks.specs.declared.Marks.{Marks}
 use Rattle.plan_marks.specs.Code.Marks.{stores_in, steps_in}
@@ -64,22 +65,31 @@ legality_agreed {a} {k = k} holds plan stores marks runs stepped left =
 
 -- ---- after a plan's run
 
-module _ {ran : Result (Unit {0}) (Refused ℕ)} where
-  -- its refusal is the whole check's
-  pub run_refuses : {e : Refused ℕ} → ran ≡ Err e
-      → IfErr ran (λ f. ◌≡◌ {A = Result (Unit {0}) (Refused ℕ)} (Err e) (Err f))
-  run_refuses there = rw there refl
+-- what a rule's answer tells is the fault that it finds
+module _ {rules : Checked ℕ (Unit {0})} where
+  pub fault_none : {passed : Unit {0}} → outcome {P = ℕ} (Ok passed) ≡ rules → Ok tt ≡ fault_of rules
+  unfolding fault_of
+  fault_none is = rw (← is) refl
 
-  -- and asks nothing of the rules
-  pub rules_out_of_it : {e : Refused ℕ} → ran ≡ Err e → (P : Unit {0} → Type 0) → IfOk ran P
-  rules_out_of_it there P = rw there tt
+  pub fault_told : (e : Refused ℕ) → outcome (Err e) ≡ rules → Err (number_of e.why, e.place) ≡ fault_of rules
+  unfolding fault_of
+  fault_told e is = rw (← is) refl
 
-  -- without one the rules decide
-  pub run_passes : {made : Unit {0}} → ran ≡ Ok made → (P : Refused ℕ → Type 0) → IfErr ran P
-  run_passes there P = rw there tt
+module _ {ran : Result (Unit {0}) (ℕ × ℕ)} where
+  -- the run's fault is the whole check's
+  pub ran_first : {fault : ℕ × ℕ} → ran ≡ Err fault → (rules : Checked ℕ (Unit {0})) → Err fault ≡ fault_then ran rules
+  unfolding fault_then
+  ran_first there rules = rw there refl
 
-  pub rules_left : {made : Unit {0}} → ran ≡ Ok made → (P : Unit {0} → Type 0) → P made → IfOk ran P
-  rules_left there P is = rw there is
+  -- without one what is asked of the plan holds, and the rules decide
+  module _ {made : Unit {0}} (there : ran ≡ Ok made) where
+    pub run_asks : (P : Unit {0} → Type 0) → IfOk ran P → P made
+    run_asks P asked = rw there at asked
+
+    pub rules_left : (rules : Checked ℕ (Unit {0})) {fault : Result (Unit {0}) (ℕ × ℕ)} → fault ≡ fault_of rules
+        → fault ≡ fault_then ran rules
+    unfolding fault_then
+    rules_left rules is = rw there is
 
 -- ---- the first refusal of the three
 

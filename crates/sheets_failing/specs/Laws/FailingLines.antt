@@ -62,7 +62,7 @@ failed_to failed x = only (λ j. get_or failed j false) (up_to x)
 
 module _ (failed : List Bool) where
   -- the next job's part, where its flag is set and where it is not
-  failed_next : (x : ℕ) (flag : Bool) → get_or failed x false ≡ flag
+  pub failed_next : (x : ℕ) (flag : Bool) → get_or failed x false ≡ flag
       → spaced_numbers (failed_to failed x) ++ failed_part flag x ≡ spaced_numbers (failed_to failed (x + 1))
   unfolding failed_to failed_part only
   failed_next x true e =

@@ -115,6 +115,10 @@ module _ {a : Accepted} {t : Table} {list : JobList} (p : PartsOf a t list) {bef
         → Puts before (refused_line w.number w.place) after → Puts before (findings_of a) after
     findings_refused Some-number puts = puts_same (sym (refused_case shows Some-number)) puts
 
+    -- what it found is that line
+    pub refused_found : (w.number ≡ 0 → ⊥) → findings_of a ≡ refused_line w.number w.place
+    refused_found Some-number = refused_case shows Some-number
+
     holds_case : Shows a w path → w.number ≡ 0 → (w.verdict ≡ Fails → ⊥)
         → findings_of a ≡ line verdict_word (holds_word ∷ decimal w.count ∷ [])
     unfolding refusal verdict_of verdict_lines
@@ -128,6 +132,11 @@ module _ {a : Accepted} {t : Table} {list : JobList} (p : PartsOf a t list) {bef
     pub findings_holds : w.number ≡ 0 → (w.verdict ≡ Fails → ⊥) → {before after : Page}
         → Puts before (line verdict_word (holds_word ∷ decimal w.count ∷ [])) after → Puts before (findings_of a) after
     findings_holds clean no-failure puts = puts_same (sym (holds_case shows clean no-failure)) puts
+
+    -- what it found is that verdict
+    pub holds_found : w.number ≡ 0 → (w.verdict ≡ Fails → ⊥)
+        → findings_of a ≡ line verdict_word (holds_word ∷ decimal w.count ∷ [])
+    holds_found clean no-failure = holds_case shows clean no-failure
 
     fails_case : Shows a w path → w.verdict ≡ Fails
         → (w.length ≤ length path) × FailingParts a t list w (take w.length path)

@@ -28,7 +28,7 @@ use Rattle.sheets_lines.specs.Code.SheetParts.{task_text}
 -- ---- one line
 
 -- a line with a task's response time and its number of jobs
-abbrev line_with : ℕ → ℕ → ℕ → Text
+abbrev pub line_with : ℕ → ℕ → ℕ → Text
 line_with i response jobs =
     line task_word (decimal i ∷ response_word ∷ decimal response ∷ jobs_word ∷ decimal jobs ∷ [])
 

@@ -19,7 +19,7 @@ use Rattle.notation_buffers.specs.Laws.PageLaws.{puts_same, puts_more, ListedTo,
 -- ---- the lines of a list
 
 -- the lines of lists one by one are the lines of the joined list
-lines_each : {A : Type 0} (lines : A → List Line) (xs : List A)
+pub lines_each : {A : Type 0} (lines : A → List Line) (xs : List A)
     → joined (each xs lines) ≡ each xs (λ x. joined (lines x))
 unfolding each joined
 lines_each lines [] = refl

@@ -12,17 +12,17 @@ returns-in_err-ran c =
     let p = err_from_is_err_and c.from_residual.result c.from_residual.ensures.1 in
     rw (p.1, p.2) (run_out _ c.lend_times-l.ensures c.in_err-ran.ensures refl)
 
-pub legality_fault-requires : goal.legality_fault-requires
-legality_fault-requires c = (search rules, c.in_ok-ran.ensures.long)
+pub refuse_illegal-requires : goal.refuse_illegal-requires
+refuse_illegal-requires c = (search rules, c.in_ok-ran.ensures.long)
 
-pub returns-in_err-legality_fault : goal.returns-in_err-legality_fault
-returns-in_err-legality_fault c =
+pub returns-in_err-refuse_illegal : goal.returns-in_err-refuse_illegal
+returns-in_err-refuse_illegal c =
     let p =
-    err_from_is_err_and c.from_residual-in_err-legality_fault.result c.from_residual-in_err-legality_fault.ensures.1 in
+    err_from_is_err_and c.from_residual-in_err-refuse_illegal.result c.from_residual-in_err-refuse_illegal.ensures.1 in
     rw (p.1, p.2)
-    (rules_out _ c.lend_times-l.ensures c.in_ok-ran.ensures refl _ c.in_err-legality_fault.ensures.judged)
+    (rules_out _ c.lend_times-l.ensures c.in_ok-ran.ensures refl _ c.in_err-refuse_illegal.ensures)
 
 pub returns : goal.returns
 returns c =
-    table_checked _ c.lend_times-l.ensures c.in_ok-ran.ensures refl c.in_ok-legality_fault.ensures.judged
+    table_checked _ c.lend_times-l.ensures c.in_ok-ran.ensures refl c.in_ok-refuse_illegal.ensures
     c.end_store-store.ensures

@@ -1,45 +1,17 @@
--- `plan_check::legality::legality_fault` meets its contract: the run, or the first of the three rules that refuses decides.
+-- `plan_check::legality::legality_fault` meets its contract: the run's fault stands, and without one the rules decide.
 -- Assumes nothing.
-use Rattle.std.proofs.Common.{rules}
-use Rattle.std.proofs.lemmas.Result.{err_from_is_err_and}
-use Rattle.plan_marks.specs.Code.PairParts.{order_faulty, lock_faulty}
-use Rattle.plan_check.specs.Laws.LegalityLaws.{run_refuses, rules_out_of_it, run_passes, rules_left}
-use Rattle.plan_check.specs.Laws.LegalityLaws.{order_first_lem, lock_next, guess_last_lem}
+use Rattle.plan_check.specs.Laws.LegalityLaws.{fault_none, fault_told, ran_first, run_asks, rules_left}
 use Rattle.plan_check.proofs.legality.legality_fault.Goals as goal
 
 pub returns-in-Err : goal.returns-in-Err
-returns-in-Err c = record { refused = run_refuses c.in-Err.is; judged = rules_out_of_it c.in-Err.is _ }
+returns-in-Err c = ran_first c.in-Err.is _
 
-pub guess_fault-requires : goal.guess_fault-requires
-guess_fault-requires c = (c.requires.0, rw c.in_default.is at c.requires.1)
+pub refuse_illegal-requires : goal.refuse_illegal-requires
+refuse_illegal-requires c = (c.requires.0, run_asks c.in_default.is _ c.requires.1)
 
-pub returns-in_err-pair_fault : goal.returns-in_err-pair_fault
-returns-in_err-pair_fault c =
-    let p = err_from_is_err_and c.from_residual.result c.from_residual.ensures.1 in
-    rw (p.1, p.2) (record {
-      refused = run_passes c.in_default.is _;
-      judged = rules_left c.in_default.is _
-          (order_first_lem _ _ _ _ _ _ _ _ (c.in_err-pair_fault.ensures (order_faulty _ _ _)
-          (record { judges = λ x y lt isY b is. search rules })));
-    })
+pub returns-in-Ok : goal.returns-in-Ok
+returns-in-Ok c = rules_left c.in_default.is _ (fault_none c.in-Ok.ensures)
 
-pub returns-in_err-pair_fault-2 : goal.returns-in_err-pair_fault-2
-returns-in_err-pair_fault-2 c =
-    let p = err_from_is_err_and c.from_residual-in_err-pair_fault-2.result c.from_residual-in_err-pair_fault-2.ensures.1 in
-    rw (p.1, p.2) (record {
-      refused = run_passes c.in_default.is _;
-      judged = rules_left c.in_default.is _
-          (lock_next _ _ _ _ _ _ _ (c.in_ok-pair_fault.ensures (order_faulty _ _ _)
-          (record { judges = λ x y lt isY b is. search rules })) _
-          (c.in_err-pair_fault-2.ensures (lock_faulty _ _ _) (record { judges = λ x y lt isY b is. search rules })));
-    })
-
-pub returns : goal.returns
-returns c = record {
-  refused = run_passes c.in_default.is _;
-  judged = rules_left c.in_default.is _
-      (guess_last_lem _ _ _ _ _ _ _ (c.in_ok-pair_fault.ensures (order_faulty _ _ _)
-      (record { judges = λ x y lt isY b is. search rules }))
-      (c.in_ok-pair_fault-2.ensures (lock_faulty _ _ _) (record { judges = λ x y lt isY b is. search rules }))
-      _ c.guess_fault.ensures);
-}
+pub returns-in-Err-refuse_illegal : goal.returns-in-Err-refuse_illegal
+returns-in-Err-refuse_illegal c =
+    rules_left c.in_default.is _ (rw c.number.ensures (fault_told _ c.in-Err-refuse_illegal.ensures))

@@ -1,14 +1,9 @@
 -- `texts_reading::numerals::capped_value` meets its contract.
 -- Assumes nothing.
-use Rattle.std.proofs.Common.{arith}
-use Rattle.std.proofs.lemmas.Grind.{common_steps}
-use Rattle.texts.specs.Code.LineParts.{capped_value, numeral_of}
+use Rattle.std.specs.Prelude.{unwrap_or}
+use Rattle.std.proofs.Common.{ap, ◌∙◌}
+use Rattle.texts_reading.specs.Laws.NumeralsLaws.{numeral_valued}
 use Rattle.texts_reading.proofs.numerals.capped_value.Goals as goal
 
-pub returns-then-is_numeral : goal.returns-then-is_numeral
-unfolding numeral_of capped_value
-returns-then-is_numeral c = grind (arith, common_steps)
-
-pub returns-else-is_numeral : goal.returns-else-is_numeral
-unfolding numeral_of capped_value
-returns-else-is_numeral c = grind (arith, common_steps)
+pub returns : goal.returns
+returns c = c.unwrap_or.ensures ∙ ap (λ v. unwrap_or v 0) c.numeral_of.ensures ∙ numeral_valued _

@@ -15,7 +15,7 @@ pub loop-at-preserved : goal.loop-at-preserved
 loop-at-preserved c =
     let end = c.part_end-at.result in
     let word = take (end - (c.loop-at.at + 1)) (drop (c.loop-at.at + 1) c.args.line.now) in
-    let found = c.capped_value-value.ensures in
+    let found = c.numeral_of-value.ensures in
     let both : c.if-good.good ≡ (c.loop-at.good && is_numeral word) =
     elim c.if-good.branch [
       | then-good w ↦

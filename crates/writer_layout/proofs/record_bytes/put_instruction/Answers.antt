@@ -6,4 +6,4 @@ use Rattle.writer_layout.proofs.record_bytes.put_instruction.Goals as goal
 
 pub returns : goal.returns
 unfolding instruction_record
-returns c = puts_more c.put_word.ensures c.put_word-2.ensures
+returns c = puts_more c.put_letters.ensures c.put_word.ensures
